@@ -1,3 +1,4 @@
 pub mod KeyLemmas
 pub mod MapLemmas
+pub mod NumberLemmas
 pub mod SortedLemmas

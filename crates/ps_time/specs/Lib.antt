@@ -1,3 +1,6 @@
+pub mod Class
 pub mod Key
+pub mod Name
+pub mod Number
 pub mod Sorted
 pub mod Span
