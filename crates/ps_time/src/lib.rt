@@ -4,6 +4,7 @@
 pub mod asker;
 pub mod class;
 pub mod duplicate;
+pub mod id;
 pub mod interval;
 pub mod items;
 pub mod key;
