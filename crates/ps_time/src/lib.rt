@@ -13,5 +13,7 @@ pub mod moment;
 pub mod name;
 pub mod number;
 pub mod same;
+#[cfg(test)]
+mod tests;
 pub mod text;
 pub mod tiers;
