@@ -1,4 +1,5 @@
 pub mod KeyLemmas
 pub mod MapLemmas
 pub mod NumberLemmas
+pub mod PictureLemmas
 pub mod SortedLemmas

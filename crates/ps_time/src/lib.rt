@@ -11,6 +11,7 @@ pub mod memory;
 pub mod moment;
 pub mod name;
 pub mod number;
+pub mod picture;
 pub mod same;
 pub mod text;
 pub mod tiers;
