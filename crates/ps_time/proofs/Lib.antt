@@ -1,5 +1,6 @@
 pub mod KeyLemmas
 pub mod MapLemmas
+pub mod MomentLemmas
 pub mod NumberLemmas
 pub mod PictureLemmas
 pub mod SortedLemmas

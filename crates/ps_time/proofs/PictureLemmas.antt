@@ -1,5 +1,5 @@
 -- What a picture tells of a text that begins as it shows.
-use Rattle.std.proofs.Common.{◌≡◌, ℕ, zero, suc, ◌+◌, ◌-◌, ◌<◌, ◌≤◌, Bool, true, false, cond, ◌&&◌, List, [], ◌∷◌, ◌++◌, length, get_or, take, drop, replicate, refl, ap, sym, ◌∙◌, arith, drop-cons, add-one, lit≤, ◌*◌, ◌^◌}
+use Rattle.std.proofs.Common.{◌≡◌, ℕ, zero, suc, ◌+◌, ◌-◌, ◌<◌, ◌≤◌, Bool, true, false, cond, ◌&&◌, List, [], ◌∷◌, ◌++◌, length, get_or, take, drop, replicate, refl, ap, sym, ◌∙◌, arith, drop-cons, add-one, lit≤, ◌*◌, ◌^◌, ◌==◌}
 use Rattle.std.specs.Char.{is_ascii_digit, digit_value}
 use Rattle.std.specs.Int.{IsInRange}
 use Rattle.std.specs.Str.{all_ascii_digits}
@@ -8,7 +8,11 @@ use Rattle.std.proofs.lemmas.List.{drop_all}
 use Rattle.std.proofs.lemmas.Bool.Decides.{nat_tests}
 use Rattle.std.proofs.lemmas.Int.Digits.{digits_value_more}
 use Rattle.std.proofs.lemmas.Str.Parse.{IsNumeralModel, numerals_by_value, tells_all_ascii_digits, digits_value_short, digits_value-take-le, digit_at}
-use Rattle.ps_time.specs.Picture.{shows, begins_as}
+use Rattle.ps_time.specs.Picture.{shows, begins_as, is_as}
+
+and_true : (a b : Bool) → a && b ≡ true → (a ≡ true) × (b ≡ true)
+and_true true b both = (refl, both)
+and_true false b both = cc
 
 -- a text is at least as long as the picture that it begins as
 pub begins_as-long : (picture bs : List ℕ) → begins_as picture bs ≡ true → length picture ≤ length bs
@@ -46,6 +50,31 @@ begins_as-not_shown picture bs i inside here other = begins_as-next picture bs i
 pub begins_as-end : (picture bs : List ℕ) (i : ℕ) → length picture ≤ i → begins_as (drop i picture) bs ≡ true
 unfolding begins_as
 begins_as-end picture bs i past = rw (drop_all i picture past) refl
+
+-- digits stand where the picture has zeros
+digits_in_front : (picture bs : List ℕ) (n : ℕ) → begins_as picture bs ≡ true → take n picture ≡ replicate n 48 → all_ascii_digits (take n bs) ≡ true
+unfolding begins_as
+digits_in_front picture bs zero is zeros = refl
+digits_in_front [] bs (suc n) is zeros = cc
+digits_in_front (mark ∷ marks) [] (suc n) is zeros = cc
+digits_in_front (mark ∷ marks) (b ∷ bs) (suc n) is zeros =
+    let zero_mark : mark ≡ 48 = cc in
+    let more : take n marks ≡ replicate n 48 = cc in
+    let both = and_true (shows mark b) (begins_as marks bs) is in
+    let digit : is_ascii_digit b ≡ true = rw zero_mark at both.0 in
+    rw digit (digits_in_front marks bs n both.1 more)
+
+pub digits_shown : (picture bs : List ℕ) (i n : ℕ) → begins_as picture bs ≡ true → take n (drop i picture) ≡ replicate n 48 → all_ascii_digits (take n (drop i bs)) ≡ true
+unfolding begins_as
+digits_shown picture bs zero n is zeros = digits_in_front picture bs n is zeros
+digits_shown [] bs (suc i) zero is zeros = refl
+digits_shown [] bs (suc i) (suc n) is zeros = cc
+digits_shown (mark ∷ marks) [] (suc i) n is zeros = cc
+digits_shown (mark ∷ marks) (b ∷ bs) (suc i) n is zeros = digits_shown marks bs i n (and_true (shows mark b) (begins_as marks bs) is).1 zeros
+
+-- the same where the whole text is as the picture shows
+pub digits_shown_whole : (picture bs : List ℕ) (i n : ℕ) → is_as picture bs ≡ true → take n (drop i picture) ≡ replicate n 48 → all_ascii_digits (take n (drop i bs)) ≡ true
+digits_shown_whole picture bs i n is zeros = digits_shown picture bs i n (and_true (length bs == length picture) (begins_as picture bs) is).1 zeros
 
 own : IsNumeralModel (λ ds. all_ascii_digits ds ≡ true) (digits_value 10)
 own = numerals_by_value _ tells_all_ascii_digits

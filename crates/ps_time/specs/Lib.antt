@@ -1,5 +1,7 @@
+pub mod Calendar
 pub mod Class
 pub mod Key
+pub mod Moment
 pub mod Name
 pub mod Number
 pub mod Picture

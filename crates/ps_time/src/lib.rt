@@ -2,6 +2,7 @@
 #![tactic(auto)]
 
 pub mod asker;
+pub mod calendar;
 pub mod class;
 pub mod duplicate;
 pub mod interval;
@@ -12,6 +13,7 @@ pub mod moment;
 pub mod name;
 pub mod number;
 pub mod picture;
+pub mod read_moment;
 pub mod same;
 pub mod text;
 pub mod tiers;
