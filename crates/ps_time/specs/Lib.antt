@@ -1,6 +1,7 @@
 pub mod Calendar
 pub mod Class
 pub mod Key
+pub mod Length
 pub mod Moment
 pub mod Name
 pub mod Number

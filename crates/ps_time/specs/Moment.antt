@@ -1,7 +1,7 @@
 -- The value of a text of a moment: a date and a time of day in the extended format of ISO 8601, with the difference
 -- from UTC.
 use Rattle.std.specs.Prelude.{ℕ, ◌+◌, ◌*◌, Bool, true, false, ◌&&◌, ◌||◌, ◌==◌, nat_le, List, [], drop, slice_index, Option, Some, None, Result, Ok, Err, ℤ, pos, negsuc, neg_ℤ, ◌+ℤ◌, ◌-ℤ◌, ◌*ℤ◌, if◌then◌else◌, codes}
-use Rattle.std.specs.Option.{option_map, unwrap_or}
+use Rattle.std.specs.Option.{option_map}
 use Rattle.jiff_core.specs.Calendar.{days_from_civil}
 use Rattle.ps_time.specs.declared.moment.TheConstants.{MAX_MOMENT}
 use Rattle.ps_time.specs.declared.moment.Round.{Round}
@@ -11,13 +11,7 @@ use Rattle.ps_time.specs.declared.moment.TimeFault.TheVariants.{Syntax, Range}
 use Rattle.ps_time.specs.declared.read_moment.Offset.{Offset}
 use Rattle.ps_time.specs.declared.read_moment.Stamp.{Stamp}
 use Rattle.ps_time.specs.Calendar.{is_date}
-use Rattle.ps_time.specs.Picture.{begins_as, is_as, number_at, leading_number}
-
--- the digits of a decimal fraction that the text begins with, as a number, and what follows them; 0 without one
-unfoldable pub fraction_at : List ℕ → ℕ × List ℕ
-fraction_at bs =
-    if begins_as (codes ".") bs || begins_as (codes ",") bs then unwrap_or (leading_number (drop 1 bs)) (0, bs)
-    else (0, bs)
+use Rattle.ps_time.specs.Picture.{begins_as, is_as, number_at, fraction_at}
 
 -- the seconds and their fraction that the text begins with, and what follows them; 0 without them
 unfoldable pub seconds_at : List ℕ → ℕ × ℕ × List ℕ

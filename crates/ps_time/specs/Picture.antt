@@ -1,7 +1,8 @@
 -- Pictures of texts, as ISO 8601 shows its formats, and numbers in them.
-use Rattle.std.specs.Prelude.{ℕ, ◌+◌, Bool, true, false, ◌&&◌, ◌||◌, ◌==◌, List, [], ◌∷◌, length, take, drop, Option, Some, None, if◌then◌else◌}
+use Rattle.std.specs.Prelude.{ℕ, ◌+◌, Bool, true, false, ◌&&◌, ◌||◌, ◌==◌, List, [], ◌∷◌, length, take, drop, Option, Some, None, if◌then◌else◌, codes}
 use Rattle.std.specs.Char.{is_ascii_digit}
 use Rattle.std.specs.List.{prefix_len}
+use Rattle.std.specs.Option.{unwrap_or}
 use Rattle.std.specs.Str.Parse.{digits_value}
 
 -- whether a mark of a picture shows the byte: 0 shows any digit, T and Z also the small letter, + also -, and any
@@ -36,3 +37,9 @@ unfoldable pub leading_number : List ℕ → Option (ℕ × List ℕ)
 leading_number bs =
     if leading_digits bs == 0 then None
     else Some (digits_value 10 (take (leading_digits bs) bs), drop (leading_digits bs) bs)
+
+-- the digits of a decimal fraction that the text begins with, as a number, and what follows them; 0 without one
+unfoldable pub fraction_at : List ℕ → ℕ × List ℕ
+fraction_at bs =
+    if begins_as (codes ".") bs || begins_as (codes ",") bs then unwrap_or (leading_number (drop 1 bs)) (0, bs)
+    else (0, bs)

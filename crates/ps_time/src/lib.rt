@@ -13,6 +13,7 @@ pub mod moment;
 pub mod name;
 pub mod number;
 pub mod picture;
+pub mod read_length;
 pub mod read_moment;
 pub mod same;
 pub mod text;

@@ -1,8 +1,8 @@
 //! Pictures of texts, as ISO 8601 shows its formats, and numbers in them.
-ghost use Rattle.std.specs.Prelude.{◌≡◌, ◌≤◌, ◌<◌, true, length, IsTrue, option_map};
+ghost use Rattle.std.specs.Prelude.{◌≡◌, ◌≤◌, ◌<◌, true, length, IfSome, IsTrue, option_map};
 ghost use Rattle.std.specs.Str.{all_ascii_digits};
 ghost use Rattle.std.specs.Str.Parse.{digits_value};
-ghost use Rattle.ps_time.specs.Picture.{shows, begins_as, is_as, leading_digits, leading_number};
+ghost use Rattle.ps_time.specs.Picture.{shows, begins_as, is_as, leading_digits, leading_number, fraction_at};
 
 /// Whether a mark of a picture shows the byte: `0` shows any digit, `T` and `Z` also the small letter,
 /// `+` also `-`, and any other mark itself.
@@ -62,7 +62,8 @@ fn count_leading(text: &[u8]) -> usize
 
 /// The number that the text begins with, of one to nine digits, and what follows it.
 pub fn split_number(text: &[u8]) -> Option<(u64, &[u8])>
-    ensures { option_map (λ found. (found.0, found.1.now)) result ≡ leading_number text.now }
+    ensures value { option_map (λ found. (found.0, found.1.now)) result ≡ leading_number text.now }
+    ensures bound { IfSome result (λ found. found.0 < 1_000_000_000) }
 {
     let count = count_leading(text);
     if count == 0 {
@@ -70,4 +71,17 @@ pub fn split_number(text: &[u8]) -> Option<(u64, &[u8])>
     }
     let (digits, rest) = text.split_at(count);
     Some((number(digits), rest))
+}
+
+#[tactic(auto, unfolding(crate::specs::Picture::fraction_at))]
+/// The digits of a decimal fraction that the text begins with, as a number, and what follows them; 0
+/// without one.
+pub fn split_fraction(text: &[u8]) -> (u64, &[u8])
+    ensures { (result.0, result.1.now) ≡ fraction_at text.now }
+{
+    if starts_as(b".", text) || starts_as(b",", text) {
+        split_number(&text[1..]).unwrap_or((0, text))
+    } else {
+        (0, text)
+    }
 }

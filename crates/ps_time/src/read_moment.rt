@@ -1,11 +1,11 @@
 //! The reader of texts of moments.
 ghost use Rattle.std.specs.Prelude.{◌≡◌, ◌≤◌, ◌<◌, pos, ◌+ℤ◌, ◌*ℤ◌, Some, true};
 ghost use Rattle.jiff_core.specs.Calendar.{IsWithin, IsEpochDay};
-ghost use Rattle.ps_time.specs.Moment.{fraction_at, seconds_at, offset_of, stamp_of, on_clock, utc_of, carried, seconds_ahead, moment_at, moment_shown, moment_of};
+ghost use Rattle.ps_time.specs.Moment.{seconds_at, offset_of, stamp_of, on_clock, utc_of, carried, seconds_ahead, moment_at, moment_shown, moment_of};
 
 use crate::calendar::day_number;
 use crate::moment::{MAX_MOMENT, Moment, Round, TimeFault};
-use crate::picture::{matches, number, split_number, starts_as};
+use crate::picture::{matches, number, split_fraction, starts_as};
 
 /// The difference from UTC that a text shows.
 #[derive(Clone, Copy)]
@@ -28,19 +28,6 @@ pub struct Stamp {
     /// The digits of the second's fraction, as a number.
     pub fraction: u64,
     pub offset: Offset,
-}
-
-#[tactic(auto, unfolding(crate::specs::Moment::fraction_at))]
-/// The digits of a decimal fraction that the text begins with, as a number, and what follows them; 0
-/// without one.
-pub fn split_fraction(text: &[u8]) -> (u64, &[u8])
-    ensures { (result.0, result.1.now) ≡ fraction_at text.now }
-{
-    if starts_as(b".", text) || starts_as(b",", text) {
-        split_number(&text[1..]).unwrap_or((0, text))
-    } else {
-        (0, text)
-    }
 }
 
 #[tactic(auto, unfolding(crate::specs::Moment::seconds_at))]
