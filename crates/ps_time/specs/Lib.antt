@@ -8,3 +8,4 @@ pub mod Number
 pub mod Picture
 pub mod Sorted
 pub mod Span
+pub mod Start

@@ -15,6 +15,7 @@ pub mod number;
 pub mod picture;
 pub mod read_length;
 pub mod read_moment;
+pub mod read_start;
 pub mod same;
 pub mod text;
 pub mod tiers;

@@ -1,5 +1,5 @@
 //! The reader of texts of lengths.
-ghost use Rattle.std.specs.Prelude.{◌≡◌, ◌<◌, ◌*◌, IfSome, Some};
+ghost use Rattle.std.specs.Prelude.{◌≡◌, ◌<◌, ◌≤◌, ◌*◌, IfOk, IfSome, Some};
 ghost use Rattle.ps_time.specs.Length.{count_at, seconds_at, days_at, clock_at, amount_of, length_at, length_shown, length_of};
 
 use crate::moment::{Length, MAX_LENGTH, TimeFault};
@@ -117,7 +117,8 @@ fn read_amount(text: &[u8]) -> Option<Amount>
 }
 
 fn length_within(seconds: u64) -> Result<Length, TimeFault>
-    ensures { result ≡ length_at seconds }
+    ensures value { result ≡ length_at seconds }
+    ensures bound { IfOk result (λ length. length ≤ MAX_LENGTH) }
 {
     if seconds > MAX_LENGTH {
         return Err(TimeFault::Range);
@@ -127,7 +128,8 @@ fn length_within(seconds: u64) -> Result<Length, TimeFault>
 
 fn length_of_amount(amount: &Amount) -> Result<Length, TimeFault>
     requires { amount.now.seconds < 1_000_000_000 * 704_000 }
-    ensures { result ≡ length_shown (Some amount.now) }
+    ensures value { result ≡ length_shown (Some amount.now) }
+    ensures bound { IfOk result (λ length. length ≤ MAX_LENGTH) }
 {
     if amount.calendar {
         return Err(TimeFault::CalendarUnit);
@@ -136,16 +138,23 @@ fn length_of_amount(amount: &Amount) -> Result<Length, TimeFault>
     length_within(amount.seconds + part)
 }
 
-/// The length that a text shows, rounded up to whole seconds. `Syntax` exactly for a text outside the form
-/// of `docs/specification/times.md`, `CalendarUnit` for a length with years or months, and `Range` for one
-/// above `MAX_LENGTH`.
-pub fn read_length(text: &str) -> Result<Length, TimeFault>
-    ensures { result ≡ length_of text.now }
+pub(crate) fn length_of_bytes(text: &[u8]) -> Result<Length, TimeFault>
+    ensures value { result ≡ length_of text.now }
+    ensures bound { IfOk result (λ length. length ≤ MAX_LENGTH) }
 {
-    let text = text.as_bytes();
     if text.is_empty() || text[0] != b'P' {
         return Err(TimeFault::Syntax);
     }
     let amount = read_amount(&text[1..]).ok_or(TimeFault::Syntax)?;
     length_of_amount(&amount)
+}
+
+/// The length that a text shows, rounded up to whole seconds. `Syntax` exactly for a text outside the form
+/// of `docs/specification/times.md`, `CalendarUnit` for a length with years or months, and `Range` for one
+/// above `MAX_LENGTH`.
+pub fn read_length(text: &str) -> Result<Length, TimeFault>
+    ensures value { result ≡ length_of text.now }
+    ensures bound { IfOk result (λ length. length ≤ MAX_LENGTH) }
+{
+    length_of_bytes(text.as_bytes())
 }
