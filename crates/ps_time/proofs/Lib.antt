@@ -1,3 +1,5 @@
+pub mod CalendarLemmas
+pub mod DigitLemmas
 pub mod KeyLemmas
 pub mod MapLemmas
 pub mod MomentLemmas

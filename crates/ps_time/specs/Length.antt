@@ -51,9 +51,9 @@ amount_of bs =
     let days = days_at bs in
     let clock = clock_at (drop 1 days.2) in
     if length days.2 == 0 then
-        (if length bs == 0 then None else Some (record { calendar = days.0; seconds = days.1; fraction = 0 }))
+    (if length bs == 0 then None else Some (record { calendar = days.0; seconds = days.1; fraction = 0 }))
     else if slice_index days.2 0 == 84 && (nat_lt 1 (length days.2) && length clock.2 == 0) then
-        Some (record { calendar = days.0; seconds = days.1 + clock.0; fraction = clock.1 })
+    Some (record { calendar = days.0; seconds = days.1 + clock.0; fraction = clock.1 })
     else None
 
 -- a number of seconds as a length, where it is one

@@ -1,6 +1,6 @@
 -- The value of a text of a moment: a date and a time of day in the extended format of ISO 8601, with the difference
 -- from UTC.
-use Rattle.std.specs.Prelude.{ℕ, ◌+◌, ◌*◌, Bool, true, false, ◌&&◌, ◌||◌, ◌==◌, nat_le, List, [], drop, slice_index, Option, Some, None, Result, Ok, Err, ℤ, pos, negsuc, neg_ℤ, ◌+ℤ◌, ◌-ℤ◌, ◌*ℤ◌, if◌then◌else◌, codes}
+use Rattle.std.specs.Prelude.{ℕ, ◌+◌, ◌*◌, ◌/◌, ◌%◌, Bool, true, false, ◌&&◌, ◌||◌, ◌==◌, nat_le, List, [], ◌∷◌, ◌++◌, drop, slice_index, Option, Some, None, Result, Ok, Err, ℤ, pos, negsuc, neg_ℤ, ◌+ℤ◌, ◌-ℤ◌, ◌*ℤ◌, if◌then◌else◌, codes}
 use Rattle.std.specs.Option.{option_map}
 use Rattle.jiff_core.specs.Calendar.{days_from_civil}
 use Rattle.ps_time.specs.declared.moment.TheConstants.{MAX_MOMENT}
@@ -10,7 +10,7 @@ use Rattle.ps_time.specs.declared.moment.TimeFault.{TimeFault}
 use Rattle.ps_time.specs.declared.moment.TimeFault.TheVariants.{Syntax, Range}
 use Rattle.ps_time.specs.declared.read_moment.Offset.{Offset}
 use Rattle.ps_time.specs.declared.read_moment.Stamp.{Stamp}
-use Rattle.ps_time.specs.Calendar.{is_date}
+use Rattle.ps_time.specs.Calendar.{is_date, date_of_day}
 use Rattle.ps_time.specs.Picture.{begins_as, is_as, number_at, fraction_at}
 
 -- the seconds and their fraction that the text begins with, and what follows them; 0 without them
@@ -83,3 +83,22 @@ moment_shown round (Some s) =
 -- the moment of a text, or why it is none
 abbrev pub moment_of : Round → List ℕ → Result ℕ TimeFault
 moment_of round bs = moment_shown round (stamp_of bs)
+
+-- two digits of a number below a hundred, and four of one below ten thousand
+abbrev pub two_digits : ℕ → List ℕ
+two_digits n = (48 + n / 10) ∷ (48 + n % 10) ∷ []
+
+abbrev pub four_digits : ℕ → List ℕ
+four_digits n = two_digits (n / 100) ++ two_digits (n % 100)
+
+-- a date as it is written, and a time of the day
+abbrev pub date_text : ℕ × ℕ × ℕ → List ℕ
+date_text date = four_digits date.0 ++ codes "-" ++ two_digits date.1 ++ codes "-" ++ two_digits date.2
+
+abbrev pub clock_text : ℕ → List ℕ
+clock_text second =
+    two_digits (second / 3_600) ++ codes ":" ++ two_digits (second % 3_600 / 60) ++ codes ":" ++ two_digits (second % 60)
+
+-- a moment as it is written
+abbrev pub moment_text_of : ℕ → List ℕ
+moment_text_of m = date_text (date_of_day (m / 86_400)) ++ codes "T" ++ clock_text (m % 86_400) ++ codes "Z"

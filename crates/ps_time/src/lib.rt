@@ -10,6 +10,7 @@ pub mod items;
 pub mod key;
 pub mod memory;
 pub mod moment;
+pub mod moment_text;
 pub mod name;
 pub mod number;
 pub mod picture;

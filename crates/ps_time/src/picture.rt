@@ -57,7 +57,10 @@ pub fn number(digits: &[u8]) -> u64
 fn count_leading(text: &[u8]) -> usize
     ensures { result ≡ leading_digits text.now }
 {
-    text.iter().take(9).take_while(|b| b.is_ascii_digit()).count()
+    text.iter()
+        .take(9)
+        .take_while(|b| b.is_ascii_digit())
+        .count()
 }
 
 /// The number that the text begins with, of one to nine digits, and what follows it.

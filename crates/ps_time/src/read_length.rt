@@ -6,8 +6,11 @@ use crate::moment::{Length, MAX_LENGTH, TimeFault};
 use crate::picture::{split_fraction, split_number, starts_as};
 
 const WEEK: u64 = 604_800;
+
 const DAY: u64 = 86_400;
+
 const HOUR: u64 = 3_600;
+
 const MINUTE: u64 = 60;
 
 /// What a text of a length shows.
