@@ -3,6 +3,7 @@ pub mod DigitLemmas
 pub mod KeyLemmas
 pub mod MapLemmas
 pub mod MomentLemmas
+pub mod MomentTextLemmas
 pub mod NumberLemmas
 pub mod PictureLemmas
 pub mod SortedLemmas

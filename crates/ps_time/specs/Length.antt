@@ -1,5 +1,6 @@
 -- The value of a text of a length: a duration of ISO 8601 in its format with designators.
-use Rattle.std.specs.Prelude.{ℕ, ◌+◌, ◌*◌, ◌<◌, Bool, ◌&&◌, ◌||◌, ◌==◌, nat_le, nat_lt, List, [], ◌∷◌, length, drop, slice_index, Option, Some, None, is_some, Result, Ok, Err, if◌then◌else◌, codes}
+use Rattle.std.specs.Prelude.{ℕ, ◌+◌, ◌*◌, ◌/◌, ◌%◌, Bool, ◌&&◌, ◌||◌, ◌==◌, nat_le, nat_lt, List, [], ◌∷◌, ◌++◌, length, drop, slice_index, Option, Some, None, is_some, Result, Ok, Err, if◌then◌else◌, codes}
+use Rattle.std.specs.Fmt.{decimal}
 use Rattle.std.specs.Option.{unwrap_or}
 use Rattle.ps_time.specs.declared.moment.TheConstants.{MAX_LENGTH}
 use Rattle.ps_time.specs.declared.moment.Round.TheVariants.{Up}
@@ -67,3 +68,18 @@ length_shown (Some a) = if a.calendar then Err CalendarUnit else length_at (a.se
 -- the length of a text, rounded up to whole seconds, or why it is none
 abbrev pub length_of : List ℕ → Result ℕ TimeFault
 length_of bs = if slice_index bs 0 == 80 then length_shown (amount_of (drop 1 bs)) else Err Syntax
+
+-- a count with its designator, where it isn't 0
+abbrev pub count_text : ℕ → ℕ → List ℕ
+count_text n designator = if n == 0 then [] else decimal n ++ designator ∷ []
+
+-- the part of a second of the day, where it isn't the first
+abbrev pub clock_part : ℕ → List ℕ
+clock_part second =
+    if second == 0 then []
+    else codes "T" ++ count_text (second / 3_600) 72 ++ count_text (second % 3_600 / 60) 77 ++ count_text (second % 60) 83
+
+-- a length as it is written: days, hours, minutes and seconds, those that are 0 left out
+abbrev pub length_text_of : ℕ → List ℕ
+length_text_of n =
+    if n == 0 then codes "PT0S" else codes "P" ++ count_text (n / 86_400) 68 ++ clock_part (n % 86_400)

@@ -8,6 +8,7 @@ pub mod duplicate;
 pub mod interval;
 pub mod items;
 pub mod key;
+pub mod length_text;
 pub mod memory;
 pub mod moment;
 pub mod moment_text;

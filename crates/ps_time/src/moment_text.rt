@@ -1,5 +1,6 @@
 //! The text of a moment.
-ghost use Rattle.std.specs.Prelude.{◌≡◌, ◌≤◌, ◌<◌, Ok, IfOk};
+ghost use Rattle.std.specs.Prelude.{◌≡◌, ◌≤◌, ◌<◌, ℕ, Ok, IfOk};
+ghost use Rattle.ps_time.specs.declared.moment.Round.{Round};
 ghost use Rattle.ps_time.specs.Moment.{moment_of, moment_text_of};
 
 use crate::calendar::date_of;
@@ -65,3 +66,8 @@ pub fn moment_text(alloc: Global, moment: Moment) -> Result<Text, Memory>
     };
     Ok(Text::from_string(format!(in alloc; "{date}T{clock}Z")?))
 }
+
+/// A law: the text of every moment is read again with its value, whichever way fractions are rounded.
+pub fn law_moment_text()
+    ensures { (round : Round) (moment : ℕ) → moment ≤ MAX_MOMENT → moment_of round (moment_text_of moment) ≡ Ok moment }
+{}
