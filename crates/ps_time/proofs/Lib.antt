@@ -1,6 +1,7 @@
 pub mod CalendarLemmas
 pub mod DigitLemmas
 pub mod KeyLemmas
+pub mod LengthTextLemmas
 pub mod MapLemmas
 pub mod MomentLemmas
 pub mod MomentTextLemmas

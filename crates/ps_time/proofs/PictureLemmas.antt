@@ -10,7 +10,7 @@ use Rattle.std.proofs.lemmas.Int.Digits.{digits_value_more}
 use Rattle.std.proofs.lemmas.Str.Parse.{IsNumeralModel, numerals_by_value, tells_all_ascii_digits, digits_value_short, digits_value-take-le, digit_at}
 use Rattle.ps_time.specs.Picture.{shows, begins_as, is_as}
 
-and_true : (a b : Bool) → a && b ≡ true → (a ≡ true) × (b ≡ true)
+pub and_true : (a b : Bool) → a && b ≡ true → (a ≡ true) × (b ≡ true)
 and_true true b both = (refl, both)
 and_true false b both = cc
 
