@@ -21,3 +21,5 @@ pub mod read_start;
 pub mod same;
 pub mod text;
 pub mod tiers;
+#[cfg(test)]
+mod time_tests;
