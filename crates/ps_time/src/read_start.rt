@@ -1,5 +1,5 @@
 //! The reader of texts of starts.
-ghost use Rattle.std.specs.Prelude.{◌≡◌, ◌≤◌, ◌+◌, ◌*◌, ◌/◌, ◌%◌, ◌<◌, IfOk};
+ghost use Rattle.std.specs.Prelude.{◌≡◌, ◌≤◌, ◌+◌, ◌*◌, ◌/◌, ◌%◌, ◌<◌, ℕ, IfOk};
 ghost use Rattle.ps_time.specs.Start.{next_multiple, start_of};
 
 use crate::moment::{Length, MAX_LENGTH, MAX_MOMENT, Moment, Round, TimeFault};
@@ -46,3 +46,10 @@ pub fn read_start(text: &str, now: Moment) -> Result<Moment, TimeFault>
         _ => read_moment(text, Round::Up),
     }
 }
+
+/// A law: the multiple that `@` names is one, isn't before `now`, and is the least such.
+pub fn law_next_multiple()
+    ensures multiple { (step now : ℕ) → 0 < step → next_multiple step now % step ≡ 0 }
+    ensures from { (step now : ℕ) → 0 < step → now ≤ next_multiple step now }
+    ensures least { (step now other : ℕ) → 0 < step → other % step ≡ 0 → now ≤ other → next_multiple step now ≤ other }
+{}

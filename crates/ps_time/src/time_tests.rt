@@ -206,7 +206,7 @@ fn starts(rt: HostRuntime) {
     ];
     for (text, now, want) in cases {
         assert!(rt; now <= MAX_MOMENT);
-        assert_eq!(rt; read_start(text, now), want, "{text} at {now}");
+        assert_eq!(rt; read_start(text, now), want, "{text} from {now}");
     }
 }
 
