@@ -1,5 +1,5 @@
 -- Known values, computed from the definitions.
-use Rattle.std.proofs.Common.{◌≡◌, ℕ, Ok, Err, refl, codes}
+use Rattle.std.proofs.Common.{◌≡◌, Ok, Err, refl, codes}
 use Rattle.jiff_core.specs.Calendar.{days_from_civil, day_count, days_of_years, days_of_months}
 use Rattle.ps_time.specs.declared.moment.Round.TheVariants.{Up, Down}
 use Rattle.ps_time.specs.declared.moment.TimeFault.TheVariants.{Syntax, CalendarUnit, Range}
@@ -19,14 +19,14 @@ pub known_lengths :
     × (length_of (codes "PT1S1M") ≡ Err Syntax)
     × (length_of (codes "P1M") ≡ Err CalendarUnit)
     × (length_of (codes "P400000000D") ≡ Err Range)
-unfolding count_at seconds_at days_at clock_at amount_of leading_number fraction_at begins_as
+unfolding length_of count_at seconds_at days_at clock_at amount_of leading_number fraction_at begins_as
 known_lengths = (refl, refl, refl, refl, refl, refl, refl, refl)
 
 pub known_starts :
     (start_of 7_201 (codes "@PT1H") ≡ Ok 10_800)
     × (start_of 7_200 (codes "PT10M") ≡ Ok 7_800)
     × (start_of 0 (codes "@PT0S") ≡ Err Range)
-unfolding count_at seconds_at days_at clock_at amount_of leading_number fraction_at begins_as
+unfolding start_of length_of count_at seconds_at days_at clock_at amount_of leading_number fraction_at begins_as
 known_starts = (refl, refl, refl)
 
 pub known_texts :
@@ -34,7 +34,7 @@ pub known_texts :
     × (moment_text_of 4_102_444_800 ≡ codes "2100-01-01T00:00:00Z")
     × (moment_text_of 951_827_696 ≡ codes "2000-02-29T12:34:56Z")
     × (length_text_of 90_061 ≡ codes "P1DT1H1M1S")
-unfolding date_of_day year_after month_after digits
+unfolding moment_text_of length_text_of date_of_day year_after month_after digits
 known_texts = (refl, refl, refl, refl)
 
 pub known_moments :
@@ -43,5 +43,5 @@ pub known_moments :
     × (moment_of Up (codes "1970-02-29T00:00:00Z") ≡ Err Range)
     × (moment_of Up (codes "1970-01-01T00:00:60Z") ≡ Err Range)
     × (moment_of Up (codes "1970-01-01") ≡ Err Syntax)
-unfolding clock_seconds_at offset_of stamp_of leading_number fraction_at begins_as days_from_civil day_count days_of_years days_of_months
+unfolding moment_of clock_seconds_at offset_of stamp_of leading_number fraction_at begins_as days_from_civil day_count days_of_years days_of_months
 known_moments = (refl, refl, refl, refl, refl)

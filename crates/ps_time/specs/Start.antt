@@ -21,7 +21,7 @@ after now (Ok len) = moment_at (pos (now + len))
 after now (Err fault) = Err fault
 
 -- the moment of a text of a start, rounded up to whole seconds, or why it is none
-abbrev pub start_of : ℕ → List ℕ → Result ℕ TimeFault
+unfoldable pub start_of : ℕ → List ℕ → Result ℕ TimeFault
 start_of now bs =
     if slice_index bs 0 == 64 then next_of now (length_of (drop 1 bs))
     else if slice_index bs 0 == 80 then after now (length_of bs)

@@ -141,6 +141,7 @@ fn length_of_amount(amount: &Amount) -> Result<Length, TimeFault>
     length_within(amount.seconds + part)
 }
 
+#[tactic(auto, unfolding(crate::specs::Length::length_of))]
 pub(crate) fn length_of_bytes(text: &[u8]) -> Result<Length, TimeFault>
     ensures value { result ≡ length_of text.now }
     ensures bound { IfOk result (λ length. length ≤ MAX_LENGTH) }

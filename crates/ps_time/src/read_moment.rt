@@ -168,6 +168,7 @@ fn moment_of_stamp(stamp: &Stamp, round: Round) -> Result<Moment, TimeFault>
 /// The moment that a text shows, with a fraction of a second rounded as asked. `Syntax` exactly for a
 /// text outside the form of `docs/specification/times.md`, `Range` for a date, a time of day or a
 /// difference from UTC that doesn't exist, and for a value outside 0 to `MAX_MOMENT`.
+#[tactic(auto, unfolding(crate::specs::Moment::moment_of))]
 pub fn read_moment(text: &str, round: Round) -> Result<Moment, TimeFault>
     ensures value { result ≡ moment_of round text.now }
     ensures bound { IfOk result (λ moment. moment ≤ MAX_MOMENT) }

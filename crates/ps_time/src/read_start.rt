@@ -25,6 +25,7 @@ fn next_multiple_of(step: Length, now: Moment) -> u64
 /// length for that much after `now`, else a moment; all rounded up to whole seconds. Faults come in the order
 /// of `TimeFault`: `Syntax` and `CalendarUnit` as in the readers of lengths and moments, and `Range` also for
 /// multiples of a length of 0 and for a value above `MAX_MOMENT`.
+#[tactic(auto, unfolding(crate::specs::Start::start_of))]
 pub fn read_start(text: &str, now: Moment) -> Result<Moment, TimeFault>
     requires { now ≤ MAX_MOMENT }
     ensures value { result ≡ start_of now text.now }

@@ -1,5 +1,5 @@
-use Rattle.std.proofs.Common.{◌≡◌, ◌∙◌, sym, ap, true, Some, rules, arith, FitsSigned, w64}
-use Rattle.std.proofs.lemmas.Int.{to_z-of_z, ints}
+use Rattle.std.proofs.Common.{◌≡◌, ◌∙◌, sym, ap, true, Some, rules, FitsSigned, w64}
+use Rattle.std.proofs.lemmas.Int.{to_z-of_z}
 use Rattle.ps_time.specs.Calendar.{day_of_date}
 use Rattle.ps_time.specs.Moment.{on_clock, moment_at}
 use Rattle.ps_time.proofs.MomentLemmas.{shown_at}
