@@ -1,4 +1,5 @@
--- The value of a text of a length: a duration of ISO 8601 in its format with designators.
+-- The value of a text of a length: a duration of ISO 8601 in its format with designators. The codes of these are P 80,
+-- Y 89, M 77, W 87, D 68, T 84, H 72 and S 83.
 use Rattle.std.specs.Prelude.{ℕ, ◌+◌, ◌*◌, ◌/◌, ◌%◌, Bool, ◌&&◌, ◌||◌, ◌==◌, nat_le, nat_lt, List, [], ◌∷◌, ◌++◌, length, drop, slice_index, Option, Some, None, is_some, Result, Ok, Err, if◌then◌else◌, codes}
 use Rattle.std.specs.Fmt.{decimal}
 use Rattle.std.specs.Option.{unwrap_or}

@@ -19,7 +19,7 @@ seconds_at bs =
     if begins_as (codes ":00") bs then (number_at 1 2 bs, (fraction_at (drop 3 bs)).0, (fraction_at (drop 3 bs)).1)
     else (0, 0, bs)
 
--- a difference from UTC that begins with its sign
+-- a difference from UTC that begins with its sign, where - has the code 45
 abbrev pub difference : List ℕ → ℕ → ℕ → Offset
 difference bs hours minutes = record { behind = slice_index bs 0 == 45; hours = hours; minutes = minutes }
 
