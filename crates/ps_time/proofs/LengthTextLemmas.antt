@@ -1,5 +1,5 @@
 -- The text of a length is read again with its value.
-use Rattle.std.proofs.Common.{◌≡◌, ℕ, zero, suc, ◌+◌, ◌-◌, ◌*◌, ◌/◌, ◌%◌, ◌^◌, ◌<◌, ◌≤◌, ◌≢◌, Bool, true, false, not, ◌&&◌, ◌||◌, ◌==◌, cond, eqb, leb, List, [], ◌∷◌, ◌++◌, length, take, drop, Option, Some, None, Ok, refl, ap, sym, ◌∙◌, arith, codes, append_assoc, le-leb, length-append, append-nil, lit<, ⊎_elim}
+use Rattle.std.proofs.Common.{◌≡◌, ℕ, zero, suc, ◌+◌, ◌*◌, ◌/◌, ◌%◌, ◌^◌, ◌<◌, ◌≤◌, true, false, cond, eqb, leb, List, [], ◌∷◌, ◌++◌, length, take, Option, Some, None, Ok, refl, ap, sym, ◌∙◌, arith, codes, append_assoc, le-leb, length-append, append-nil, lit<, ⊎_elim}
 use Rattle.std.specs.Char.{is_ascii_digit}
 use Rattle.std.specs.Fmt.{decimal}
 use Rattle.std.specs.List.{prefix_len}
@@ -120,6 +120,7 @@ amount_of_clock bs rest days clock some read after =
     rw (read, after, long, more) refl
 
 length_from : (bs : List ℕ) (n : ℕ) → n ≤ MAX_LENGTH → amount_of bs ≡ Some (record { calendar = false; seconds = n; fraction = 0 }) → length_of (80 ∷ bs) ≡ Ok n
+unfolding length_of
 length_from bs n last read =
     let whole : n + 0 ≡ n = omega arith in
     let test : leb n MAX_LENGTH ≡ true = le-leb n MAX_LENGTH last in
@@ -197,10 +198,11 @@ some_read n some last =
     ] refl
 
 nothing_read : length_of (codes "PT0S") ≡ Ok 0
-unfolding days_at clock_at seconds_at count_at amount_of leading_number fraction_at begins_as
+unfolding length_of days_at clock_at seconds_at count_at amount_of leading_number fraction_at begins_as
 nothing_read = refl
 
 pub length_text_read : (n : ℕ) → n ≤ MAX_LENGTH → length_of (length_text_of n) ≡ Ok n
+unfolding length_text_of
 length_text_read n last =
     elim (eqb n 0) as (λ b. eqb n 0 ≡ b → length_of (cond b (codes "PT0S") (80 ∷ (count_text (n / 86_400) 68 ++ clock_part (n % 86_400)))) ≡ Ok n) [
       | true ↦ λ is. let none : n ≡ 0 = grind (arith, nat_tests) in nothing_read ∙ ap Ok (sym none)

@@ -1,6 +1,7 @@
 pub mod CalendarLemmas
 pub mod DigitLemmas
 pub mod KeyLemmas
+pub mod KnownTimes
 pub mod LengthTextLemmas
 pub mod MapLemmas
 pub mod MomentLemmas
@@ -8,3 +9,4 @@ pub mod MomentTextLemmas
 pub mod NumberLemmas
 pub mod PictureLemmas
 pub mod SortedLemmas
+pub mod StartLemmas

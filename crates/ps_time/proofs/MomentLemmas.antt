@@ -1,5 +1,5 @@
 -- What a text of a moment shows, from its parts.
-use Rattle.std.proofs.Common.{◌≡◌, ℕ, true, List, drop, Some, refl, codes, ap, ◌∙◌, sym, Bool, false, cond, ◌&&◌, None, Err, ℤ, pos}
+use Rattle.std.proofs.Common.{◌≡◌, ℕ, true, List, drop, Some, refl, codes, false, cond, ◌&&◌, None, Err, ℤ, pos}
 use Rattle.ps_time.specs.declared.read_moment.Offset.{Offset}
 use Rattle.jiff_core.specs.Calendar.{days_from_civil}
 use Rattle.ps_time.specs.declared.moment.Round.{Round}

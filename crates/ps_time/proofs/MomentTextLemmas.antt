@@ -1,17 +1,16 @@
 -- The text of a moment is read again with its value.
-use Rattle.std.proofs.Common.{◌≡◌, ℕ, ◌+◌, ◌-◌, ◌*◌, ◌/◌, ◌%◌, ◌<◌, ◌≤◌, true, false, ◌&&◌, List, [], ◌∷◌, ◌++◌, Some, Ok, ℤ, pos, ◌+ℤ◌, ◌-ℤ◌, ◌*ℤ◌, cond, drop, refl, ap, sym, ◌∙◌, arith, codes, leb, le-leb}
+use Rattle.std.proofs.Common.{◌≡◌, ℕ, ◌+◌, ◌*◌, ◌/◌, ◌%◌, ◌<◌, ◌≤◌, true, false, List, [], ◌∷◌, ◌++◌, Some, Ok, pos, drop, refl, ap, sym, ◌∙◌, arith, codes, leb, le-leb}
 use Rattle.std.specs.Char.{is_ascii_digit, digit_value}
 use Rattle.std.specs.Str.Parse.{digits_value}
 use Rattle.std.proofs.lemmas.Bool.Decides.{nat_tests}
 use Rattle.std.proofs.lemmas.Int.{ints}
 use Rattle.std.specs.Cmp.Derive.{both_true}
-use Rattle.jiff_core.specs.Calendar.{days_from_civil, days_in_month}
 use Rattle.ps_time.specs.declared.moment.Round.{Round}
 use Rattle.ps_time.specs.declared.moment.Round.TheVariants.{Up, Down}
 use Rattle.ps_time.specs.declared.moment.TheConstants.{MAX_MOMENT}
 use Rattle.ps_time.specs.declared.read_moment.Stamp.{Stamp}
 use Rattle.ps_time.specs.Calendar.{is_date, day_of_date, date_of_day}
-use Rattle.ps_time.specs.Moment.{seconds_at, offset_of, stamp_of, on_clock, carried, utc_of, moment_at, moment_shown, moment_of, two_digits, date_text, clock_text, moment_text_of}
+use Rattle.ps_time.specs.Moment.{seconds_at, offset_of, stamp_of, on_clock, utc_of, moment_at, moment_shown, moment_of, two_digits, date_text, clock_text, moment_text_of}
 use Rattle.ps_time.specs.Picture.{shows, begins_as, fraction_at}
 use Rattle.ps_time.proofs.CalendarLemmas.{HasDigits, date_of_day_digits, date_of_day_is}
 use Rattle.ps_time.proofs.MomentLemmas.{stamp_from, shown_at}
@@ -101,6 +100,7 @@ second_shown round n s few small last =
     shown_at round (written date s) (pos n) (dated n few) (timed date s small) ∙ ap moment_at (counted round date n s) ∙ in_time (n * 86_400 + s) last
 
 pub moment_text_read : (round : Round) (m : ℕ) → m ≤ MAX_MOMENT → moment_of round (moment_text_of m) ≡ Ok m
+unfolding moment_of moment_text_of
 moment_text_read round m last =
     let n = m / 86_400 in
     let s = m % 86_400 in

@@ -1,4 +1,5 @@
--- The value of a text of a length: a duration of ISO 8601 in its format with designators.
+-- The value of a text of a length: a duration of ISO 8601 in its format with designators. The codes of these are P 80,
+-- Y 89, M 77, W 87, D 68, T 84, H 72 and S 83.
 use Rattle.std.specs.Prelude.{ℕ, ◌+◌, ◌*◌, ◌/◌, ◌%◌, Bool, ◌&&◌, ◌||◌, ◌==◌, nat_le, nat_lt, List, [], ◌∷◌, ◌++◌, length, drop, slice_index, Option, Some, None, is_some, Result, Ok, Err, if◌then◌else◌, codes}
 use Rattle.std.specs.Fmt.{decimal}
 use Rattle.std.specs.Option.{unwrap_or}
@@ -66,7 +67,7 @@ length_shown None = Err Syntax
 length_shown (Some a) = if a.calendar then Err CalendarUnit else length_at (a.seconds + carried Up a.fraction)
 
 -- the length of a text, rounded up to whole seconds, or why it is none
-abbrev pub length_of : List ℕ → Result ℕ TimeFault
+unfoldable pub length_of : List ℕ → Result ℕ TimeFault
 length_of bs = if slice_index bs 0 == 80 then length_shown (amount_of (drop 1 bs)) else Err Syntax
 
 -- a count with its designator, where it isn't 0
@@ -80,6 +81,6 @@ clock_part second =
     else codes "T" ++ count_text (second / 3_600) 72 ++ count_text (second % 3_600 / 60) 77 ++ count_text (second % 60) 83
 
 -- a length as it is written: days, hours, minutes and seconds, those that are 0 left out
-abbrev pub length_text_of : ℕ → List ℕ
+unfoldable pub length_text_of : ℕ → List ℕ
 length_text_of n =
     if n == 0 then codes "PT0S" else codes "P" ++ count_text (n / 86_400) 68 ++ clock_part (n % 86_400)

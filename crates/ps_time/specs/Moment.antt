@@ -1,6 +1,6 @@
 -- The value of a text of a moment: a date and a time of day in the extended format of ISO 8601, with the difference
 -- from UTC.
-use Rattle.std.specs.Prelude.{ℕ, ◌+◌, ◌*◌, ◌/◌, ◌%◌, Bool, true, false, ◌&&◌, ◌||◌, ◌==◌, nat_le, List, [], ◌∷◌, ◌++◌, drop, slice_index, Option, Some, None, Result, Ok, Err, ℤ, pos, negsuc, neg_ℤ, ◌+ℤ◌, ◌-ℤ◌, ◌*ℤ◌, if◌then◌else◌, codes}
+use Rattle.std.specs.Prelude.{ℕ, ◌+◌, ◌*◌, ◌/◌, ◌%◌, Bool, false, ◌&&◌, ◌||◌, ◌==◌, nat_le, List, [], ◌∷◌, ◌++◌, drop, slice_index, Option, Some, None, Result, Ok, Err, ℤ, pos, negsuc, neg_ℤ, ◌+ℤ◌, ◌-ℤ◌, ◌*ℤ◌, if◌then◌else◌, codes}
 use Rattle.std.specs.Option.{option_map}
 use Rattle.jiff_core.specs.Calendar.{days_from_civil}
 use Rattle.ps_time.specs.declared.moment.TheConstants.{MAX_MOMENT}
@@ -19,7 +19,7 @@ seconds_at bs =
     if begins_as (codes ":00") bs then (number_at 1 2 bs, (fraction_at (drop 3 bs)).0, (fraction_at (drop 3 bs)).1)
     else (0, 0, bs)
 
--- a difference from UTC that begins with its sign
+-- a difference from UTC that begins with its sign, where - has the code 45
 abbrev pub difference : List ℕ → ℕ → ℕ → Offset
 difference bs hours minutes = record { behind = slice_index bs 0 == 45; hours = hours; minutes = minutes }
 
@@ -81,7 +81,7 @@ moment_shown round (Some s) =
     else Err Range
 
 -- the moment of a text, or why it is none
-abbrev pub moment_of : Round → List ℕ → Result ℕ TimeFault
+unfoldable pub moment_of : Round → List ℕ → Result ℕ TimeFault
 moment_of round bs = moment_shown round (stamp_of bs)
 
 -- two digits of a number below a hundred, and four of one below ten thousand
@@ -100,5 +100,5 @@ clock_text second =
     two_digits (second / 3_600) ++ codes ":" ++ two_digits (second % 3_600 / 60) ++ codes ":" ++ two_digits (second % 60)
 
 -- a moment as it is written
-abbrev pub moment_text_of : ℕ → List ℕ
+unfoldable pub moment_text_of : ℕ → List ℕ
 moment_text_of m = date_text (date_of_day (m / 86_400)) ++ codes "T" ++ clock_text (m % 86_400) ++ codes "Z"

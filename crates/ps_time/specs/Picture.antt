@@ -5,8 +5,8 @@ use Rattle.std.specs.List.{prefix_len}
 use Rattle.std.specs.Option.{unwrap_or}
 use Rattle.std.specs.Str.Parse.{digits_value}
 
--- whether a mark of a picture shows the byte: 0 shows any digit, T and Z also the small letter, + also -, and any
--- other mark itself
+-- whether a mark of a picture shows the byte: 0 (code 48) shows any digit, T (84) and Z (90) also the small letter,
+-- + (43) also - (45), and any other mark itself
 abbrev pub shows : ℕ → ℕ → Bool
 shows mark b =
     if mark == 48 then is_ascii_digit b

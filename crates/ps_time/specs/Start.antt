@@ -20,8 +20,8 @@ abbrev pub after : ℕ → Result ℕ TimeFault → Result ℕ TimeFault
 after now (Ok len) = moment_at (pos (now + len))
 after now (Err fault) = Err fault
 
--- the moment of a text of a start, rounded up to whole seconds, or why it is none
-abbrev pub start_of : ℕ → List ℕ → Result ℕ TimeFault
+-- the moment of a text of a start, rounded up to whole seconds, or why it is none; @ has the code 64 and P 80
+unfoldable pub start_of : ℕ → List ℕ → Result ℕ TimeFault
 start_of now bs =
     if slice_index bs 0 == 64 then next_of now (length_of (drop 1 bs))
     else if slice_index bs 0 == 80 then after now (length_of bs)

@@ -8,7 +8,7 @@ use jiff::civil::Date;
 use jiff_core::civil::Date as CivilDate;
 
 /// The number of a day, 0 for 1970-01-01; `None` exactly for a date that the calendar doesn't have.
-pub fn day_number(year: u64, month: u64, day: u64) -> Option<i64>
+pub(crate) fn day_number(year: u64, month: u64, day: u64) -> Option<i64>
     ensures value { result ≡ day_of_date year month day }
     ensures bound { IfSome result IsEpochDay }
 {
@@ -27,7 +27,7 @@ pub fn law_dates()
 {}
 
 /// The year, month and day of a day from 1970 to 2100.
-pub fn date_of(day: u64) -> (u64, u64, u64)
+pub(crate) fn date_of(day: u64) -> (u64, u64, u64)
     requires { day ≤ 47_482 }
     ensures { result ≡ date_of_day day }
 {

@@ -65,6 +65,7 @@ impl fmt::Display for ShownClockPart {
 }
 
 /// The text of a length: its days, hours, minutes and seconds, without those that are 0; `PT0S` for 0.
+#[tactic(auto, unfolding(crate::specs::Length::length_text_of))]
 pub fn length_text(alloc: Global, length: Length) -> Result<Text, Memory>
     requires { length ≤ MAX_LENGTH }
     ensures { IfOk result (λ text. text ≡ length_text_of length) }

@@ -24,3 +24,5 @@ pub mod same;
 mod tests;
 pub mod text;
 pub mod tiers;
+#[cfg(test)]
+mod time_tests;

@@ -55,6 +55,7 @@ impl fmt::Display for ShownClock {
 }
 
 /// The text of a moment: `YYYY-MM-DDThh:mm:ssZ`.
+#[tactic(auto, unfolding(crate::specs::Moment::moment_text_of))]
 pub fn moment_text(alloc: Global, moment: Moment) -> Result<Text, Memory>
     requires { moment ≤ MAX_MOMENT }
     ensures { IfOk result (λ text. text ≡ moment_text_of moment) }

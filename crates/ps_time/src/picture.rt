@@ -18,7 +18,7 @@ fn shows_byte(mark: u8, byte: u8) -> bool
 }
 
 /// Whether the text begins as the picture shows.
-pub fn starts_as(picture: &[u8], text: &[u8]) -> bool
+pub(crate) fn starts_as(picture: &[u8], text: &[u8]) -> bool
     ensures value { result ≡ begins_as picture.now text.now }
     ensures long { IsTrue result → length picture.now ≤ length text.now }
 {
@@ -34,14 +34,14 @@ pub fn starts_as(picture: &[u8], text: &[u8]) -> bool
 }
 
 /// Whether the whole text is as the picture shows.
-pub fn matches(picture: &[u8], text: &[u8]) -> bool
+pub(crate) fn matches(picture: &[u8], text: &[u8]) -> bool
     ensures { result ≡ is_as picture.now text.now }
 {
     text.len() == picture.len() && starts_as(picture, text)
 }
 
 /// The number that at most nine digits write.
-pub fn number(digits: &[u8]) -> u64
+pub(crate) fn number(digits: &[u8]) -> u64
     requires digits { all_ascii_digits digits.now ≡ true }
     requires short { length digits.now ≤ 9 }
     ensures value { result ≡ digits_value 10 digits.now }
@@ -64,7 +64,7 @@ fn count_leading(text: &[u8]) -> usize
 }
 
 /// The number that the text begins with, of one to nine digits, and what follows it.
-pub fn split_number(text: &[u8]) -> Option<(u64, &[u8])>
+pub(crate) fn split_number(text: &[u8]) -> Option<(u64, &[u8])>
     ensures value { option_map (λ found. (found.0, found.1.now)) result ≡ leading_number text.now }
     ensures bound { IfSome result (λ found. found.0 < 1_000_000_000) }
 {
@@ -76,10 +76,10 @@ pub fn split_number(text: &[u8]) -> Option<(u64, &[u8])>
     Some((number(digits), rest))
 }
 
-#[tactic(auto, unfolding(crate::specs::Picture::fraction_at))]
 /// The digits of a decimal fraction that the text begins with, as a number, and what follows them; 0
 /// without one.
-pub fn split_fraction(text: &[u8]) -> (u64, &[u8])
+#[tactic(auto, unfolding(crate::specs::Picture::fraction_at))]
+pub(crate) fn split_fraction(text: &[u8]) -> (u64, &[u8])
     ensures { (result.0, result.1.now) ≡ fraction_at text.now }
 {
     if starts_as(b".", text) || starts_as(b",", text) {

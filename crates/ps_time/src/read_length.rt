@@ -24,8 +24,8 @@ pub struct Amount {
     pub fraction: u64,
 }
 
-#[tactic(auto, unfolding(crate::specs::Length::count_at))]
 /// The count of this designator that the text begins with, if it does, and what follows it.
+#[tactic(auto, unfolding(crate::specs::Length::count_at))]
 fn split_count(text: &[u8], designator: u8) -> (Option<u64>, &[u8])
     ensures value { (result.0, result.1.now) ≡ count_at designator text.now }
     ensures bound { IfSome result.0 (λ count. count < 1_000_000_000) }
@@ -39,8 +39,8 @@ fn split_count(text: &[u8], designator: u8) -> (Option<u64>, &[u8])
     (Some(count), &rest[1..])
 }
 
-#[tactic(auto, unfolding(crate::specs::Length::seconds_at))]
 /// The same of seconds, with the digits of their fraction.
+#[tactic(auto, unfolding(crate::specs::Length::seconds_at))]
 fn split_seconds(text: &[u8]) -> (u64, u64, &[u8])
     ensures value { (result.0, result.1, result.2.now) ≡ seconds_at text.now }
     ensures bound { result.0 < 1_000_000_000 }
@@ -55,9 +55,9 @@ fn split_seconds(text: &[u8]) -> (u64, u64, &[u8])
     (count, fraction, &rest[1..])
 }
 
-#[tactic(auto, unfolding(crate::specs::Length::days_at))]
 /// The counts of the text after `P`: whether years or months are among them, the seconds of the weeks
 /// and days, and what follows.
+#[tactic(auto, unfolding(crate::specs::Length::days_at))]
 fn split_days(text: &[u8]) -> (bool, u64, &[u8])
     ensures value { (result.0, result.1, result.2.now) ≡ days_at text.now }
     ensures bound { result.1 < 1_000_000_000 * 700_000 }
@@ -73,8 +73,8 @@ fn split_days(text: &[u8]) -> (bool, u64, &[u8])
     )
 }
 
-#[tactic(auto, unfolding(crate::specs::Length::clock_at))]
 /// The counts of the text after `T`: their seconds, the digits of the fraction, and what follows.
+#[tactic(auto, unfolding(crate::specs::Length::clock_at))]
 fn split_clock(text: &[u8]) -> (u64, u64, &[u8])
     ensures value { (result.0, result.1, result.2.now) ≡ clock_at text.now }
     ensures bound { result.0 < 1_000_000_000 * 4_000 }
@@ -141,6 +141,7 @@ fn length_of_amount(amount: &Amount) -> Result<Length, TimeFault>
     length_within(amount.seconds + part)
 }
 
+#[tactic(auto, unfolding(crate::specs::Length::length_of))]
 pub(crate) fn length_of_bytes(text: &[u8]) -> Result<Length, TimeFault>
     ensures value { result ≡ length_of text.now }
     ensures bound { IfOk result (λ length. length ≤ MAX_LENGTH) }

@@ -1,5 +1,5 @@
 //! The reader of texts of moments.
-ghost use Rattle.std.specs.Prelude.{◌≡◌, ◌≤◌, ◌<◌, pos, ◌+ℤ◌, ◌*ℤ◌, Some, true};
+ghost use Rattle.std.specs.Prelude.{◌≡◌, ◌≤◌, ◌<◌, pos, ◌+ℤ◌, ◌*ℤ◌, Some, true, IfOk};
 ghost use Rattle.jiff_core.specs.Calendar.{IsWithin, IsEpochDay};
 ghost use Rattle.ps_time.specs.Moment.{seconds_at, offset_of, stamp_of, on_clock, utc_of, carried, seconds_ahead, moment_at, moment_shown, moment_of};
 
@@ -144,8 +144,9 @@ fn utc_second(day: i64, stamp: &Stamp, round: Round) -> i64
     civil - seconds_off(offset) + carry(round, stamp.fraction)
 }
 
-fn moment_within(second: i64) -> Result<Moment, TimeFault>
-    ensures { result ≡ moment_at second }
+pub(crate) fn moment_within(second: i64) -> Result<Moment, TimeFault>
+    ensures value { result ≡ moment_at second }
+    ensures bound { IfOk result (λ moment. moment ≤ MAX_MOMENT) }
 {
     if second < 0 || second as u64 > MAX_MOMENT {
         return Err(TimeFault::Range);
@@ -154,7 +155,8 @@ fn moment_within(second: i64) -> Result<Moment, TimeFault>
 }
 
 fn moment_of_stamp(stamp: &Stamp, round: Round) -> Result<Moment, TimeFault>
-    ensures { result ≡ moment_shown round (Some stamp.now) }
+    ensures value { result ≡ moment_shown round (Some stamp.now) }
+    ensures bound { IfOk result (λ moment. moment ≤ MAX_MOMENT) }
 {
     let day = day_number(stamp.year, stamp.month, stamp.day).ok_or(TimeFault::Range)?;
     if !is_on_clock(stamp) {
@@ -166,8 +168,10 @@ fn moment_of_stamp(stamp: &Stamp, round: Round) -> Result<Moment, TimeFault>
 /// The moment that a text shows, with a fraction of a second rounded as asked. `Syntax` exactly for a
 /// text outside the form of `docs/specification/times.md`, `Range` for a date, a time of day or a
 /// difference from UTC that doesn't exist, and for a value outside 0 to `MAX_MOMENT`.
+#[tactic(auto, unfolding(crate::specs::Moment::moment_of))]
 pub fn read_moment(text: &str, round: Round) -> Result<Moment, TimeFault>
-    ensures { result ≡ moment_of round text.now }
+    ensures value { result ≡ moment_of round text.now }
+    ensures bound { IfOk result (λ moment. moment ≤ MAX_MOMENT) }
 {
     let stamp = read_stamp(text.as_bytes()).ok_or(TimeFault::Syntax)?;
     moment_of_stamp(&stamp, round)

@@ -1,4 +1,4 @@
-use Rattle.std.proofs.Common.{◌≡◌, refl, pos, arith, FitsSigned, w16, ap, ◌∙◌, nat_abs}
+use Rattle.std.proofs.Common.{◌≡◌, refl, arith, FitsSigned, w16, ap, ◌∙◌, nat_abs}
 use Rattle.std.proofs.lemmas.Int.{to_z-of_z, ints}
 use Rattle.ps_time.specs.Calendar.{date_of_day}
 use Rattle.ps_time.proofs.CalendarLemmas.{date_is, date_of_day_is}

@@ -1,6 +1,5 @@
-use Rattle.std.proofs.Common.{◌≡◌, length, take, drop, arith, take_all}
-use Rattle.std.specs.Str.Parse.{digits_value}
-use Rattle.ps_time.proofs.PictureLemmas.{ReadsDigit, reads_digit, number_bound}
+use Rattle.std.proofs.Common.{◌≡◌, take, arith, take_all}
+use Rattle.ps_time.proofs.PictureLemmas.{reads_digit, number_bound}
 use Rattle.ps_time.proofs.picture.number.Goals as goal
 
 pub overflow_mul-value : goal.overflow_mul-value

@@ -1,5 +1,4 @@
-use Rattle.std.proofs.Common.{◌≡◌, ◌∙◌, sym, drop, true, arith}
-use Rattle.ps_time.specs.Picture.{begins_as}
+use Rattle.std.proofs.Common.{◌∙◌, sym, drop, arith}
 use Rattle.ps_time.proofs.PictureLemmas.{begins_as-short, begins_as-shown, begins_as-not_shown, begins_as-end}
 use Rattle.ps_time.proofs.picture.starts_as.Goals as goal
 

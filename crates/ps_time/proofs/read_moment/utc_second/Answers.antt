@@ -1,4 +1,4 @@
-use Rattle.std.proofs.Common.{◌≡◌, ◌∙◌, sym, ap, arith, FitsSigned, w64, to_z, of_z, ℤ, ◌-ℤ◌, ◌+ℤ◌, refl}
+use Rattle.std.proofs.Common.{arith, FitsSigned, w64, ◌-ℤ◌, ◌+ℤ◌, refl}
 use Rattle.std.proofs.lemmas.Int.{to_z-of_z, ints}
 use Rattle.ps_time.proofs.read_moment.utc_second.Goals as goal
 
