@@ -1,0 +1,5 @@
+//! When a result is handed to an archiver again.
+#![tactic(auto)]
+
+pub mod policy;
+pub mod state;

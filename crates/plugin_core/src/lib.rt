@@ -1,0 +1,5 @@
+//! Tests and tools of measurements.
+#![tactic(auto)]
+
+pub mod test_spec;
+pub mod tool;
