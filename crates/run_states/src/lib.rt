@@ -1,0 +1,8 @@
+//! The run rows of a host: what they keep, how they live and lapse, and how they are named.
+#![tactic(auto)]
+
+pub mod answer;
+pub mod proposal;
+pub mod row;
+pub mod state;
+pub mod why;
