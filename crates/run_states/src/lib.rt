@@ -2,7 +2,9 @@
 #![tactic(auto)]
 
 pub mod answer;
+pub mod life;
 pub mod proposal;
 pub mod row;
+pub mod rows;
 pub mod state;
 pub mod why;
