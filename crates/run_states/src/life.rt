@@ -175,6 +175,7 @@ impl RunRow {
 
         // An earlier settling makes no difference.
         ensures whenever { (m : ℕ) → m ≤ moment → settled_row moment (settled_row m self.old) ≡ self.new }
+        ensures moments { HasMoments self.new }
     {
         if let Some(closing) = self.lapse(moment) {
             self.close(closing);

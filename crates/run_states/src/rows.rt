@@ -128,6 +128,7 @@ impl Rows {
 
         // An earlier settling makes no difference.
         ensures whenever { (m : ℕ) → m ≤ moment → settled_rows moment (settled_rows m self.old.list) ≡ self.new.list }
+        ensures moments { All HasMoments self.new.list }
         ensures room { self.new.room ≡ self.old.room }
     {
         settle_all(&mut self.rows, moment);
