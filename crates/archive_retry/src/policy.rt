@@ -1,0 +1,59 @@
+//! How often an archiver is tried again, and how long after a failure.
+ghost use Rattle.std.specs.Prelude.{◌≡◌, IfOk};
+
+use ps_time::duplicate::Duplicate;
+use ps_time::items::Items;
+use ps_time::memory::Memory;
+use ps_time::moment::Length;
+use ps_time::same::Same;
+use std::alloc::Global;
+
+/// Some retries with one wait.
+#[derive(Clone, Copy, Debug, PartialEq, Eq)]
+pub struct Entry {
+    /// How many retries: 1 to 1,000.
+    pub attempts: u32,
+    /// From a failure to the next attempt, in seconds.
+    pub wait: Length,
+}
+
+impl Duplicate for Entry {
+    fn duplicate(&self, _alloc: Global) -> Result<Entry, Memory> {
+        Ok(*self)
+    }
+}
+
+impl Same for Entry {
+    fn same(&self, other: &Entry) -> bool {
+        self == other
+    }
+}
+
+/// The entries are used up one after another; once they are spent, no attempt follows a failure.
+#[derive(Debug, Drop)]
+pub struct Policy {
+    /// At most 16.
+    pub entries: Items<Entry>,
+}
+
+impl Policy {
+    pub fn copy(&self, alloc: Global) -> Result<Policy, Memory>
+        ensures { IfOk result (λ made. made ≡ self.now) }
+    {
+        Ok(Policy {
+            entries: self.entries.copy(alloc)?,
+        })
+    }
+}
+
+impl Duplicate for Policy {
+    fn duplicate(&self, alloc: Global) -> Result<Policy, Memory> {
+        self.copy(alloc)
+    }
+}
+
+impl Same for Policy {
+    fn same(&self, other: &Policy) -> bool {
+        self.entries.same(&other.entries)
+    }
+}

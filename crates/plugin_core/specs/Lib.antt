@@ -1,0 +1,2 @@
+pub mod TestSpec
+pub mod Tool

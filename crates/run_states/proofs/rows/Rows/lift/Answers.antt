@@ -1,0 +1,30 @@
+use Rattle.std.proofs.Common.{◌≡◌, Some, sym, ap}
+use Rattle.run_states.specs.Rows.{Rows, IsPlaceOf}
+use Rattle.run_states.proofs.Place.{find_place, lift_place, ascending_lift, find_gap, lift_gap}
+use Rattle.run_states.proofs.rows.Rows.lift.Goals as goal
+
+-- the row at the place goes, and the order stays
+pub invariant_of-self : goal.invariant_of-self
+invariant_of-self c =
+    let seen : c.self.inside.rows.items ≡ c.args.self.now.list = ap (λ (t : Rows). t.list) c.self.view_is in
+    let place : IsPlaceOf c.self.inside.rows.items c.args.key c.in-Ok.at = rw seen c.in-Ok.ensures.found in
+    rw c.remove.ensures.items (ascending_lift _ c.self.invariant _ _ c.remove.result place)
+
+pub returns-in-Ok-clause-row : goal.returns-in-Ok-clause-row
+returns-in-Ok-clause-row c =
+    let seen : c.self.inside.rows.items ≡ c.args.self.now.list = ap (λ (t : Rows). t.list) c.self.view_is in
+    let place : IsPlaceOf c.self.inside.rows.items c.args.key c.in-Ok.at = rw seen c.in-Ok.ensures.found in
+    rw (← seen, find_place _ c.self.invariant _ _ c.remove.result place) (ap Some c.remove.ensures.value)
+
+pub returns-in-Ok-clause-rows : goal.returns-in-Ok-clause-rows
+returns-in-Ok-clause-rows c =
+    let seen : c.self.inside.rows.items ≡ c.args.self.now.list = ap (λ (t : Rows). t.list) c.self.view_is in
+    let place : IsPlaceOf c.self.inside.rows.items c.args.key c.in-Ok.at = rw seen c.in-Ok.ensures.found in
+    rw (← seen, lift_place _ c.self.invariant _ _ c.remove.result place) c.remove.ensures.items
+
+-- no row has the key
+pub returns-in-Err-clause-row : goal.returns-in-Err-clause-row
+returns-in-Err-clause-row c = sym (find_gap _ _ _ c.in-Err.ensures.absent)
+
+pub returns-in-Err-clause-rows : goal.returns-in-Err-clause-rows
+returns-in-Err-clause-rows c = sym (lift_gap _ _ _ c.in-Err.ensures.absent)

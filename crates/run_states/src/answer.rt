@@ -1,0 +1,89 @@
+//! What a participant answers, and what the lead has heard of it.
+ghost use Rattle.std.specs.Prelude.{◌≡◌, IfOk};
+
+use ps_time::duplicate::Duplicate;
+use ps_time::items::Items;
+use ps_time::memory::Memory;
+use ps_time::same::Same;
+use ps_time::text::Text;
+use ps_time::tiers::Tiers;
+use std::alloc::Global;
+
+/// The answer to a question for free starts.
+#[derive(Debug, Drop)]
+pub struct FreeAnswer {
+    /// The names of the host's tools that run the test.
+    pub tools: Items<Text>,
+    pub tiers: Tiers,
+}
+
+impl FreeAnswer {
+    pub fn copy(&self, alloc: Global) -> Result<FreeAnswer, Memory>
+        ensures { IfOk result (λ made. made ≡ self.now) }
+    {
+        Ok(FreeAnswer {
+            tools: self.tools.copy(alloc)?,
+            tiers: self.tiers.copy(alloc)?,
+        })
+    }
+}
+
+impl Duplicate for FreeAnswer {
+    fn duplicate(&self, alloc: Global) -> Result<FreeAnswer, Memory> {
+        self.copy(alloc)
+    }
+}
+
+impl Same for FreeAnswer {
+    fn same(&self, other: &FreeAnswer) -> bool {
+        self.tools.same(&other.tools) && self.tiers.same(&other.tiers)
+    }
+}
+
+/// What a lead knows of one other participant.
+#[derive(Debug, Drop)]
+pub struct Other {
+    pub free: Option<FreeAnswer>,
+    /// Whether it accepted.
+    pub accepted: bool,
+    /// Whether it acknowledged the confirmation.
+    pub confirm_told: bool,
+    /// Whether it acknowledged the cancellation.
+    pub cancel_told: bool,
+    /// Whether it acknowledged the test's material.
+    pub material_told: bool,
+    /// Its result, where one was heard; `Some(None)` where it is known to have none.
+    pub heard: Option<Option<Text>>,
+}
+
+impl Other {
+    pub fn copy(&self, alloc: Global) -> Result<Other, Memory>
+        ensures { IfOk result (λ made. made ≡ self.now) }
+    {
+        Ok(Other {
+            free: self.free.duplicate(alloc)?,
+            accepted: self.accepted,
+            confirm_told: self.confirm_told,
+            cancel_told: self.cancel_told,
+            material_told: self.material_told,
+            heard: self.heard.duplicate(alloc)?,
+        })
+    }
+}
+
+impl Duplicate for Other {
+    fn duplicate(&self, alloc: Global) -> Result<Other, Memory> {
+        self.copy(alloc)
+    }
+}
+
+impl Same for Other {
+    fn same(&self, other: &Other) -> bool {
+        self.free.same(&other.free)
+            && self.heard.same(&other.heard)
+            && self.accepted == other.accepted
+            && self.confirm_told == other.confirm_told
+            && self.cancel_told == other.cancel_told
+            && self.material_told == other.material_told
+    }
+}
