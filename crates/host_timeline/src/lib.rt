@@ -1,0 +1,5 @@
+//! The reservations of a host: what conflicts with a run, what can be preempted, what stays.
+#![tactic(auto)]
+
+pub mod booking;
+pub mod timeline;
