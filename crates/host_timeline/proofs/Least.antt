@@ -1,8 +1,10 @@
 -- What a test lets through of an ascending list is ascending, and the first of it is the least.
-use Rattle.std.proofs.Common.{◌≡◌, ◌∙◌, ℕ, suc, ◌<◌, List, [], ◌∷◌, length, get_or, drop, Bool, true, false, cond, map, Some, refl, sym, ap, subst, drop-cons}
-use Rattle.std.specs.List.{filter, AllByRecursion}
+use Rattle.std.proofs.Common.{◌≡◌, ◌∙◌, ℕ, suc, ◌<◌, ◌≤◌, List, [], ◌∷◌, length, get_or, drop, Bool, true, false, cond, not, ◌&&◌, map, Some, None, refl, sym, ap, subst, drop-cons}
+use Rattle.std.proofs.lemmas.List.{drop_all}
+use Rattle.std.specs.List.{filter, list_all, AllByRecursion}
 use Rattle.std.specs.declared.cmp.Ordering.{Ordering}
 use Rattle.std.specs.declared.cmp.Ordering.TheVariants.{Less, Greater}
+use Rattle.std.specs.Option.{is_none}
 use Rattle.std.specs.Ordering.{ordering_reverse}
 use Rattle.ps_time.specs.Key.{key_cmp}
 use Rattle.ps_time.specs.Sorted.{IsAscending}
@@ -58,6 +60,27 @@ least_at p bs items i b up left within is passes =
     let first : filter p (b ∷ drop (suc i) items) ≡ b ∷ filter p (drop (suc i) items) = rw passes refl in
     sym (least_passing p bs b (filter p (drop (suc i) items)) up (left ∙ ap (filter p) here ∙ first))
 
+-- where none passes, there is no least
+pub least_at_end : (p : Booking → Bool) (bs items : List Booking) (i : ℕ) → filter p bs ≡ filter p (drop i items) → length items ≤ i → None ≡ least_key (keys_of (filter p bs))
+least_at_end p bs items i left past =
+    let over : drop i items ≡ [] = drop_all i items past in
+    sym (ap (λ xs. least_key (keys_of xs)) (left ∙ ap (filter p) over))
+
 -- the keys of those that pass are ascending
 pub ascending_passing : (p : Booking → Bool) (bs : List Booking) → IsAscendingBookings bs → IsAscending key_cmp (λ k. k) (keys_of (filter p bs))
 ascending_passing p bs up = ascending-keys key_cmp (λ b. b.key) (filter p bs) (ascending-filter key_cmp (λ b. b.key) p bs up)
+
+-- none is in the way exactly where all that conflict may be preempted
+pub none_least : (q r : Booking → Bool) (bs : List Booking) → is_none (least_key (keys_of (filter (λ b. q b && not (r b)) bs))) ≡ list_all r (filter q bs)
+none_least q r [] = refl
+none_least q r (b ∷ bs) =
+    let rest = filter (λ b. q b && not (r b)) bs in
+    let more = filter q bs in
+    let cases = elim (r b) as (λ y. is_none (least_key (keys_of (cond (not y) (b ∷ rest) rest))) ≡ (y && list_all r more)) [
+        | true ↦ none_least q r bs
+        | false ↦ refl
+      ] in
+    elim (q b) as (λ x. is_none (least_key (keys_of (cond (x && not (r b)) (b ∷ rest) rest))) ≡ list_all r (cond x (b ∷ more) more)) [
+      | true ↦ cases
+      | false ↦ none_least q r bs
+    ]

@@ -1,2 +1,3 @@
+mod Free
 mod Least
 mod Place

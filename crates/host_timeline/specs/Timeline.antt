@@ -1,11 +1,12 @@
 -- The bookings of a host, and the places that are reserved for more.
-use Rattle.std.specs.Prelude.{◌≡◌, ℕ, ◌<◌, ◌≤◌, List, Option, length, slice_index_or}
+use Rattle.std.specs.Prelude.{◌≡◌, ℕ, ◌<◌, ◌≤◌, List, [], ◌∷◌, Option, length, slice_index_or}
 use Rattle.std.specs.List.Sorted.{IsPartitionPoint}
 use Rattle.std.specs.declared.cmp.Ordering.TheVariants.{Less, Equal, Greater}
 use Rattle.ps_time.specs.declared.key.RunKey.{RunKey}
 use Rattle.ps_time.specs.Key.{key_cmp}
 use Rattle.ps_time.specs.Sorted.{find_key, without_key, insert_key, change_key, IsAscending}
 use Rattle.host_timeline.specs.declared.booking.Booking.{Booking}
+use Rattle.host_timeline.specs.Booking.{conflicting}
 
 -- the bookings, ascending by key, and how many more fit
 pub record Timeline : Type 0 where
@@ -35,6 +36,16 @@ with_started = change_key key_cmp (λ b. b.key) started_booking
 -- each key is below those after it
 abbrev pub IsAscendingBookings : List Booking → Type 0
 IsAscendingBookings = IsAscending key_cmp (λ b. b.key)
+
+-- no two of them conflict
+abbrev pub IsConflictFree : List Booking → Type 0
+IsConflictFree [] = Unit {0}
+IsConflictFree (b ∷ bs) = (conflicting b.class b.interval bs ≡ []) × IsConflictFree bs
+
+-- what every timeline keeps of its bookings
+pub record IsBook (bookings : List Booking) : Type 0 where
+  pub ascending : IsAscendingBookings bookings
+  pub conflict_free : IsConflictFree bookings
 
 -- the booking at place i has the key
 pub record IsPlaceOf (bookings : List Booking) (key : RunKey) (i : ℕ) : Type 0 where

@@ -1,9 +1,11 @@
 //! The timeline: the bookings of a host, ascending by key, with reserved places.
 ghost use Rattle.std.specs.Prelude.{◌≡◌, ◌+◌, ◌<◌, ◌≤◌, [], None, IfOk, IfErr, OnOk, is_some, if◌then◌else◌};
+ghost use Rattle.std.specs.List.{list_all};
+ghost use Rattle.std.specs.Option.{is_none};
 ghost use Rattle.ps_time.specs.Key.{key_cmp};
 ghost use Rattle.ps_time.specs.Sorted.{IsAscending};
-ghost use Rattle.host_timeline.specs.Booking.{conflicting, firm, keys_of, least_key};
-ghost use Rattle.host_timeline.specs.Timeline.{find_booking, with_booking, without_booking, with_started, IsAscendingBookings, IsPlaceOf, IsGapFor};
+ghost use Rattle.host_timeline.specs.Booking.{conflicting, can_preempt, firm, keys_of, least_key};
+ghost use Rattle.host_timeline.specs.Timeline.{find_booking, with_booking, without_booking, with_started, IsAscendingBookings, IsConflictFree, IsPlaceOf, IsGapFor};
 
 use crate::booking::Booking;
 use ps_time::class::Class;
@@ -23,13 +25,13 @@ pub struct Timeline {
 
 impl Model for Timeline {
     ghost use Rattle.std.specs.Prelude.{◌-◌, vec_len, vec_capacity};
-    ghost use Rattle.host_timeline.specs.Timeline.{Timeline as Seen, IsAscendingBookings};
+    ghost use Rattle.host_timeline.specs.Timeline.{Timeline as Seen, IsBook};
 
     ghost Value = { Seen };
 
     ghost view = { λ t. record { list = t.bookings.items; room = vec_capacity t.bookings - vec_len t.bookings } };
 
-    ghost invariant = { λ t. IsAscendingBookings t.bookings.items };
+    ghost invariant = { λ t. IsBook t.bookings.items };
 }
 
 impl Timeline {
@@ -55,6 +57,7 @@ impl Timeline {
     pub fn bookings(&self) -> &[Booking]
         ensures list { result.now ≡ self.now.list }
         ensures ascending { IsAscendingBookings self.now.list }
+        ensures conflict_free { IsConflictFree self.now.list }
     {
         self.bookings.as_slice()
     }
@@ -67,7 +70,8 @@ impl Timeline {
         priority: i16,
         moment: Moment,
     ) -> Option<RunKey>
-        ensures { result ≡ least_key (keys_of (firm class interval.now priority moment self.now.list)) }
+        ensures least { result ≡ least_key (keys_of (firm class interval.now priority moment self.now.list)) }
+        ensures none { is_none result ≡ list_all (can_preempt priority moment) (conflicting class interval.now self.now.list) }
     {
         for booking in self.bookings.as_slice() {
             if booking.is_firm(class, interval, priority, moment) {
