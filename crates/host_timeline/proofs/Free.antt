@@ -90,7 +90,7 @@ pub free_start : (bs : List Booking) (k : RunKey) → IsConflictFree bs → IsCo
 free_start [] k free = tt
 free_start (b ∷ bs) k free =
     let same_test : (c : Class) (i : Span) (d : Booking) → conflicts_with c i (cond (is_eq (key_cmp d.key k)) (started_booking d) d) ≡ conflicts_with c i d =
-          λ c i d. elim (is_eq (key_cmp d.key k)) as (λ x. conflicts_with c i (cond x (started_booking d) d) ≡ conflicts_with c i d) [ true ↦ refl | false ↦ refl ] in
+    λ c i d. elim (is_eq (key_cmp d.key k)) as (λ x. conflicts_with c i (cond x (started_booking d) d) ≡ conflicts_with c i d) [ true ↦ refl | false ↦ refl ] in
     let rest = with_started bs k in
     let none : conflicting b.class b.interval rest ≡ [] = none_map (conflicts_with b.class b.interval) (λ d. cond (is_eq (key_cmp d.key k)) (started_booking d) d) (same_test b.class b.interval) bs free.0 in
     (elim (is_eq (key_cmp b.key k)) as (λ x. conflicting (cond x (started_booking b) b).class (cond x (started_booking b) b).interval rest ≡ []) [ true ↦ none | false ↦ none ], free_start bs k free.1)

@@ -77,9 +77,9 @@ none_least q r (b ∷ bs) =
     let rest = filter (λ b. q b && not (r b)) bs in
     let more = filter q bs in
     let cases = elim (r b) as (λ y. is_none (least_key (keys_of (cond (not y) (b ∷ rest) rest))) ≡ (y && list_all r more)) [
-        | true ↦ none_least q r bs
-        | false ↦ refl
-      ] in
+      | true ↦ none_least q r bs
+      | false ↦ refl
+    ] in
     elim (q b) as (λ x. is_none (least_key (keys_of (cond (x && not (r b)) (b ∷ rest) rest))) ≡ list_all r (cond x (b ∷ more) more)) [
       | true ↦ cases
       | false ↦ none_least q r bs

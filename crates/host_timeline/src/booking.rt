@@ -2,7 +2,7 @@
 ghost use Rattle.std.specs.Prelude.{◌≡◌, ℕ, ◌+◌, ◌&&◌, not, nat_lt};
 ghost use Rattle.host_timeline.specs.Booking.{conflicts_with, can_preempt, is_firm, firm_from_of};
 
-use ps_time::class::{classes_conflict, Class};
+use ps_time::class::{Class, classes_conflict};
 use ps_time::interval::Interval;
 use ps_time::key::RunKey;
 use ps_time::moment::Moment;
@@ -50,13 +50,7 @@ impl Booking {
     }
 
     /// Whether it stands in the way of a run: they conflict, and the run may not preempt it.
-    pub fn is_firm(
-        &self,
-        class: Class,
-        interval: &Interval,
-        priority: i16,
-        moment: Moment,
-    ) -> bool
+    pub fn is_firm(&self, class: Class, interval: &Interval, priority: i16, moment: Moment) -> bool
         ensures { result ≡ is_firm class interval.now priority moment self.now }
     {
         self.conflicts_with(class, interval) && !self.can_be_preempted(priority, moment)

@@ -2,4 +2,6 @@
 #![tactic(auto)]
 
 pub mod booking;
+#[cfg(test)]
+mod tests;
 pub mod timeline;
