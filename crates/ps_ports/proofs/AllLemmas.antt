@@ -19,7 +19,7 @@ pub Wrote-more : (old mid now : Option (List ℕ)) (bytes rest : List ℕ) (n : 
 Wrote-more old mid now bytes rest n wrote more = record {
   done = wrote.done ++ take n rest;
   split = wrote.split ∙ ap (λ l. wrote.done ++ l) (sym (take-append-drop n rest)) ∙ sym (append_assoc wrote.done (take n rest) (drop n rest))
-    ∙ ap (λ l. (wrote.done ++ take n rest) ++ l) (sym (take_rest rest n));
+      ∙ ap (λ l. (wrote.done ++ take n rest) ++ l) (sym (take_rest rest n));
   appended = Appends-trans old mid now wrote.done (take n rest) wrote.appended more;
 }
 
@@ -38,4 +38,4 @@ pub prefix_of-more : (old mid now : Option (List ℕ)) (bytes rest : List ℕ) (
     → n < length rest → WrotePrefix old now bytes
 prefix_of-more old mid now bytes rest n wrote more left =
     prefix_of old now bytes (take (length rest - n) (drop n rest)) (Wrote-more old mid now bytes rest n wrote more)
-        (omega (arith, length-take (length rest - n) (drop n rest), length-drop n rest))
+    (omega (arith, length-take (length rest - n) (drop n rest), length-drop n rest))

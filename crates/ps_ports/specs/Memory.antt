@@ -70,15 +70,23 @@ sink_of s = record { written = s.written; calls = s.calls; faults = s.write_faul
 -- the stream with this source in it
 abbrev pub with_source : StreamState → SourceState → StreamState
 with_source s source = record {
-  left = source.left; written = s.written; calls = source.calls;
-  read_faults = source.faults; write_faults = s.write_faults; starved = s.starved;
+  left = source.left;
+  written = s.written;
+  calls = source.calls;
+  read_faults = source.faults;
+  write_faults = s.write_faults;
+  starved = s.starved;
 }
 
 -- the stream with this sink in it
 abbrev pub with_sink : StreamState → SinkState → StreamState
 with_sink s sink = record {
-  left = s.left; written = sink.written; calls = sink.calls;
-  read_faults = s.read_faults; write_faults = sink.faults; starved = sink.starved;
+  left = s.left;
+  written = sink.written;
+  calls = sink.calls;
+  read_faults = s.read_faults;
+  write_faults = sink.faults;
+  starved = sink.starved;
 }
 
 -- a read leaves what was written, the count of its faults, and which calls are to fail

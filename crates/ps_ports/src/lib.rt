@@ -2,16 +2,15 @@
 //! memory, and adapters over readers and writers of std.
 #![tactic(auto)]
 
+pub mod adapters;
 pub mod all;
 mod failing_calls;
 pub mod fault;
 pub mod memory_sink;
 pub mod memory_source;
 pub mod memory_stream;
-pub mod reader_source;
 pub mod sink;
 pub mod source;
 pub mod stream;
 mod unread;
-pub mod writer_sink;
 mod written;

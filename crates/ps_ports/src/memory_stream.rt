@@ -32,8 +32,12 @@ impl Model for MemoryStream {
     ghost Value = { StreamState };
 
     ghost view = { λ s. record {
-        left = s.left; written = s.written.bytes; calls = s.calls;
-        read_faults = s.read_faults; write_faults = s.write_faults; starved = s.written.starved;
+      left = s.left;
+      written = s.written.bytes;
+      calls = s.calls;
+      read_faults = s.read_faults;
+      write_faults = s.write_faults;
+      starved = s.written.starved;
     } };
 }
 
@@ -42,8 +46,12 @@ impl MemoryStream {
     /// that are to fail, the first call being number 1.
     pub fn new(alloc: Global, bytes: Vec<u8>, failing: Vec<u64>) -> MemoryStream
         ensures { result ≡ record {
-            left = bytes.items; written = []; calls = no_calls failing.items;
-            read_faults = 0; write_faults = 0; starved = false;
+          left = bytes.items;
+          written = [];
+          calls = no_calls failing.items;
+          read_faults = 0;
+          write_faults = 0;
+          starved = false;
         } }
     {
         MemoryStream {
