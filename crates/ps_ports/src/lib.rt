@@ -12,5 +12,7 @@ pub mod memory_stream;
 pub mod sink;
 pub mod source;
 pub mod stream;
+#[cfg(test)]
+mod tests;
 mod unread;
 mod written;
