@@ -16,8 +16,8 @@ abbrev pub GaveAtMost : ℕ → Option (List ℕ) → Option (List ℕ) → Type
 GaveAtMost most old now = (bytes : List ℕ) × Consumes old now bytes × (length bytes ≤ most)
 
 -- the source held more than so many bytes
-abbrev pub IsLonger : ℕ → Option (List ℕ) → Type 0
-IsLonger most old = IfSome old (λ held. most < length held)
+abbrev pub HeldMoreThan : ℕ → Option (List ℕ) → Type 0
+HeldMoreThan most old = IfSome old (λ held. most < length held)
 
 -- the first n bytes of the piece went out, and the piece has more than n
 abbrev pub WrotePrefix : Option (List ℕ) → Option (List ℕ) → List ℕ → Type 0

@@ -1,7 +1,7 @@
 //! Reading a source to its end, and writing a whole piece to a sink.
 ghost use Rattle.std.specs.Prelude.{◌≡◌, ◌≤◌, IfOk, OnOk, OnErr, IsErrOf, length};
 ghost use Rattle.std.specs.Io.KnownBytes.{Appends};
-ghost use Rattle.ps_ports.specs.All.{GaveAll, GaveAtMost, GaveMoreThan, IsLonger, WrotePrefix};
+ghost use Rattle.ps_ports.specs.All.{GaveAll, GaveAtMost, GaveMoreThan, HeldMoreThan, WrotePrefix};
 ghost use Rattle.ps_ports.specs.Causes.{Rose};
 
 use crate::fault::{AllFault, WriteFault};
@@ -17,7 +17,7 @@ pub fn read_all<S: Source>(alloc: Global, source: &mut S, most: u64) -> Result<V
 
     // Exactly where more than `most` bytes came.
     ensures too_long { IsErrOf result AllFault.TooLong → GaveMoreThan most (S.left source.old) (S.left source.new) }
-    ensures longer { IsErrOf result AllFault.TooLong → IsLonger most (S.left source.old) }
+    ensures held_more { IsErrOf result AllFault.TooLong → HeldMoreThan most (S.left source.old) }
     ensures not_too_long { IsErrOf result AllFault.ReadFault → GaveAtMost most (S.left source.old) (S.left source.new) }
 
     // It doesn't give up by itself.

@@ -11,9 +11,10 @@ use crate::memory_stream::MemoryStream;
 use crate::sink::Sink;
 use crate::source::Source;
 use crate::stream::Stream;
-use std::alloc::Global;
+use std::alloc::{AllocError, Global};
 use std::io;
 use std::io::{ErrorKind, Read, Write};
+use std::process::Abort;
 use std::test::Fail;
 
 /// Takes and gives one byte at a time.
@@ -60,35 +61,71 @@ impl<K: Sink> Sink for Slow<K> {
     ghost sink_kept_trans = { λ a b c. K.sink_kept_trans a.inner b.inner c.inner };
 }
 
-fn slice_of(answer: &Result<Vec<u8>, AllFault>) -> Result<&[u8], AllFault> {
+fn slow_source(
+    alloc: Global,
+    held: &[u8],
+    failing: &[u64],
+) -> Result<Slow<MemorySource>, AllocError> {
+    let held = held.to_vec(alloc)?;
+    let failing = failing.to_vec(alloc)?;
+    Ok(Slow {
+        inner: MemorySource::new(held, failing),
+    })
+}
+
+fn slow_sink(alloc: Global, failing: &[u64]) -> Result<Slow<MemorySink>, AllocError> {
+    let failing = failing.to_vec(alloc)?;
+    let before = b">".to_vec(alloc)?;
+    Ok(Slow {
+        inner: MemorySink::new(before, failing),
+    })
+}
+
+fn is_all(answer: Result<Vec<u8>, AllFault>, wanted: &[u8]) -> bool {
     match answer {
-        Ok(bytes) => Ok(bytes.as_slice()),
-        Err(fault) => Err(*fault),
+        Ok(bytes) => bytes.as_slice() == wanted,
+        Err(_) => false,
     }
 }
 
 #[test]
 fn reads_to_the_end(rt: HostRuntime) -> Result<(), Fail> {
     let alloc = rt.alloc();
-    // What the source holds, how many bytes are taken at most, and what is answered.
-    let rows = [
-        (b"".as_slice(), 0, Ok(b"".as_slice())),
-        (b"abc".as_slice(), 4, Ok(b"abc".as_slice())),
-        (b"abc".as_slice(), 3, Ok(b"abc".as_slice())),
-        (b"abc".as_slice(), 2, Err(AllFault::TooLong)),
-        (b"a".as_slice(), 0, Err(AllFault::TooLong)),
-    ];
-    for (held, most, wanted) in rows {
-        let mut source = MemorySource::new(held.to_vec(alloc)?, Vec::new(alloc));
-        let at_once = read_all(alloc, &mut source, most);
-        assert!(rt; slice_of(&at_once) == wanted, "{most} at once");
-        let inner = MemorySource::new(held.to_vec(alloc)?, Vec::new(alloc));
-        let mut slow = Slow { inner };
-        let slowly = read_all(alloc, &mut slow, most);
-        assert!(rt; slice_of(&slowly) == wanted, "{most} slowly");
-        assert_eq!(rt; slow.inner.faults(), 0);
+    for most in [3, 4, u64::MAX] {
+        let mut slow = slow_source(alloc, b"abc", &[])?;
+        assert!(rt;
+            is_all(read_all(alloc, &mut slow, most), b"abc"),
+            "slowly, {most}"
+        );
+        let mut source = slow_source(alloc, b"abc", &[])?.inner;
+        assert!(rt;
+            is_all(read_all(alloc, &mut source, most), b"abc"),
+            "at once, {most}"
+        );
     }
+    for most in [0, 1, 2] {
+        let mut slow = slow_source(alloc, b"abc", &[])?;
+        assert!(rt;
+            read_all(alloc, &mut slow, most).is_err_and(is_too_long),
+            "slowly, {most}"
+        );
+        let mut source = slow_source(alloc, b"abc", &[])?.inner;
+        assert!(rt;
+            read_all(alloc, &mut source, most).is_err_and(is_too_long),
+            "at once, {most}"
+        );
+    }
+    let mut empty = slow_source(alloc, b"", &[])?;
+    assert!(rt; is_all(read_all(alloc, &mut empty, 0), b""));
     Ok(())
+}
+
+fn is_too_long(fault: AllFault) -> bool {
+    fault == AllFault::TooLong
+}
+
+fn is_read_fault(fault: AllFault) -> bool {
+    fault == AllFault::ReadFault
 }
 
 #[test]
@@ -98,59 +135,66 @@ fn reads_more_than_one_buffer(rt: HostRuntime) -> Result<(), Fail> {
     for count in 0..10_000u32 {
         held.push((count % 251) as u8)?;
     }
-    let mut source = MemorySource::new(held.as_slice().to_vec(alloc)?, Vec::new(alloc));
-    let answer = read_all(alloc, &mut source, 10_000);
-    assert!(rt; slice_of(&answer) == Ok(held.as_slice()));
+    let mut source = slow_source(alloc, held.as_slice(), &[])?.inner;
+    assert!(rt; is_all(read_all(alloc, &mut source, 10_000), held.as_slice()));
     assert_eq!(rt; source.calls(), 4);
-    assert!(rt; source.left().is_empty());
     Ok(())
 }
 
-// Reads "abc" slowly: three reads give a byte, and the fourth gives the end.
+/// The source fails at the call with this number, and then gives this rest.
+fn expect_read_fault(
+    rt: &impl Abort,
+    alloc: Global,
+    mut slow: Slow<MemorySource>,
+    call: u64,
+    rest: &[u8],
+) {
+    assert!(rt;
+        read_all(alloc, &mut slow, 3).is_err_and(is_read_fault),
+        "{call}"
+    );
+    assert!(rt;
+        slow.inner.faults() == 1 && slow.inner.calls() == call,
+        "{call}"
+    );
+    assert!(rt; slow.inner.left() == rest, "{call}");
+    assert!(rt; is_all(read_all(alloc, &mut slow, 3), rest), "after {call}");
+}
+
+// Three reads give a byte each, and the fourth gives the end.
 #[test]
 fn reading_fails_at_each_place(rt: HostRuntime) -> Result<(), Fail> {
     let alloc = rt.alloc();
-    let rests = [
-        b"abc".as_slice(),
-        b"bc".as_slice(),
-        b"c".as_slice(),
-        b"".as_slice(),
-    ];
-    for (place, rest) in rests.into_iter().enumerate() {
-        let failing = [place as u64 + 1].to_vec(alloc)?;
-        let inner = MemorySource::new(b"abc".to_vec(alloc)?, failing);
-        let mut slow = Slow { inner };
-        let answer = read_all(alloc, &mut slow, 3);
-        assert!(rt; slice_of(&answer) == Err(AllFault::ReadFault), "{place}");
-        assert_eq!(rt; slow.inner.faults(), 1, "{place}");
-        assert_eq!(rt; slow.inner.calls(), place as u64 + 1, "{place}");
-        assert!(rt; slow.inner.left() == rest, "{place}");
-        let again = read_all(alloc, &mut slow, 3);
-        assert!(rt; slice_of(&again) == Ok(rest), "{place} again");
-        assert_eq!(rt; slow.inner.faults(), 1, "{place} again");
+    let held = b"abc".as_slice();
+    for call in 1..5u64 {
+        let slow = slow_source(alloc, held, &[call])?;
+        expect_read_fault(&rt, alloc, slow, call, &held[call as usize - 1..]);
     }
     Ok(())
+}
+
+/// The sink fails at the write with this number, and the bytes before it were written.
+fn expect_write_fault(rt: &impl Abort, mut slow: Slow<MemorySink>, call: u64, written: &[u8]) {
+    assert_eq!(rt; write_all(&mut slow, b"abc"), Err(WriteFault), "{call}");
+    assert!(rt;
+        slow.inner.faults() == 1 && slow.inner.calls() == call,
+        "{call}"
+    );
+    assert!(rt; slow.inner.written() == written, "{call}");
+    assert!(rt; !slow.inner.starved(), "{call}");
 }
 
 #[test]
 fn writing_fails_at_each_place(rt: HostRuntime) -> Result<(), Fail> {
     let alloc = rt.alloc();
-    let written = [
-        b">".as_slice(),
-        b">a".as_slice(),
-        b">ab".as_slice(),
-        b">abc".as_slice(),
-    ];
-    for (place, wanted) in written.into_iter().enumerate() {
-        let failing = [place as u64 + 1].to_vec(alloc)?;
-        let inner = MemorySink::new(b">".to_vec(alloc)?, failing);
-        let mut slow = Slow { inner };
-        let answer = write_all(&mut slow, b"abc");
-        assert_eq!(rt; answer.is_ok(), place == 3, "{place}");
-        assert!(rt; slow.inner.written() == wanted, "{place}");
-        assert_eq!(rt; slow.inner.faults(), u64::from(place < 3), "{place}");
-        assert!(rt; !slow.inner.starved());
+    let wanted = b">abc".as_slice();
+    for call in 1..4u64 {
+        let slow = slow_sink(alloc, &[call])?;
+        expect_write_fault(&rt, slow, call, &wanted[..call as usize]);
     }
+    let mut slow = slow_sink(alloc, &[4])?;
+    assert_eq!(rt; write_all(&mut slow, b"abc"), Ok(()));
+    assert!(rt; slow.inner.written() == wanted && slow.inner.faults() == 0);
     Ok(())
 }
 
@@ -166,45 +210,56 @@ fn echo<T: Stream>(alloc: Global, stream: &mut T, most: u64) -> bool
     }
 }
 
+fn stream(alloc: Global, failing: &[u64]) -> Result<MemoryStream, AllocError> {
+    let held = b"abc".to_vec(alloc)?;
+    let failing = failing.to_vec(alloc)?;
+    Ok(MemoryStream::new(alloc, held, failing))
+}
+
 #[test]
-fn a_stream_numbers_all_its_calls(rt: HostRuntime) -> Result<(), Fail> {
+fn a_stream_is_read_and_written(rt: HostRuntime) -> Result<(), Fail> {
     let alloc = rt.alloc();
-    // Two reads and a write.
-    let mut stream = MemoryStream::new(alloc, b"abc".to_vec(alloc)?, Vec::new(alloc));
+    let mut stream = stream(alloc, &[])?;
     assert!(rt; echo(alloc, &mut stream, 3));
     assert!(rt; stream.written() == b"abc".as_slice() && stream.left().is_empty());
+    // Two reads and a write.
     assert_eq!(rt; stream.calls(), 3);
-    assert!(rt; stream.read_faults() == 0 && stream.write_faults() == 0);
-    // The write fails, and then a read.
-    let failing = [3, 5].to_vec(alloc)?;
-    let mut stream = MemoryStream::new(alloc, b"abc".to_vec(alloc)?, failing);
+    assert!(rt; !stream.starved());
+    Ok(())
+}
+
+// The first write is call 3, and the last read is call 5.
+#[test]
+fn a_stream_numbers_reads_and_writes_together(rt: HostRuntime) -> Result<(), Fail> {
+    let alloc = rt.alloc();
+    let mut stream = stream(alloc, &[3, 5])?;
     assert!(rt; !echo(alloc, &mut stream, 3));
-    assert!(rt; stream.written().is_empty() && stream.left().is_empty());
     assert!(rt; stream.read_faults() == 0 && stream.write_faults() == 1);
     assert_eq!(rt; stream.write(b"d"), Ok(1));
     assert_eq!(rt; stream.read(&mut [0]), Err(Failed));
-    assert!(rt; stream.written() == b"d".as_slice());
     assert!(rt; stream.read_faults() == 1 && stream.write_faults() == 1);
-    assert!(rt; !stream.starved());
+    assert!(rt; stream.written() == b"d".as_slice());
     Ok(())
 }
 
 #[test]
 fn adapters_on_a_pipe(rt: HostRuntime) -> Result<(), Fail> {
-    let alloc = rt.alloc();
     let (reader, writer) = io::pipe(&rt)?;
-    let mut source = ReaderSource::new(reader);
     let mut sink = WriterSink::new(writer);
     assert_eq!(rt; write_all(&mut sink, b"through the system"), Ok(()));
     assert_eq!(rt; sink.faults(), 0);
     drop(sink);
-    let answer = read_all(alloc, &mut source, 18);
-    assert!(rt; slice_of(&answer) == Ok(b"through the system".as_slice()));
+    let mut source = ReaderSource::new(reader);
+    assert!(rt; is_all(read_all(rt.alloc(), &mut source, 18), b"through the system"));
     assert_eq!(rt; source.faults(), 0);
-    // Nobody reads any more.
+    Ok(())
+}
+
+#[test]
+fn a_pipe_that_nobody_reads(rt: HostRuntime) -> Result<(), Fail> {
     let (reader, writer) = io::pipe(&rt)?;
-    let mut sink = WriterSink::new(writer);
     drop(reader);
+    let mut sink = WriterSink::new(writer);
     assert_eq!(rt; write_all(&mut sink, b"lost"), Err(WriteFault));
     assert_eq!(rt; sink.faults(), 1);
     Ok(())
@@ -254,32 +309,32 @@ impl Write for Interrupted {
 }
 
 #[test]
-fn a_call_that_is_interrupted_is_made_again(rt: HostRuntime) -> Result<(), Fail> {
-    let alloc = rt.alloc();
-    let twice = [ErrorKind::Interrupted, ErrorKind::Interrupted];
-    let broken = [ErrorKind::BrokenPipe, ErrorKind::Interrupted];
-    let mut source = ReaderSource::new(Interrupted {
-        errors: twice.to_vec(alloc)?,
-    });
-    assert_eq!(rt; source.read(&mut [0]), Ok(0));
-    assert_eq!(rt; source.faults(), 2);
-    let mut source = ReaderSource::new(Interrupted {
-        errors: broken.to_vec(alloc)?,
-    });
-    assert_eq!(rt; source.read(&mut [0]), Err(Failed));
-    assert_eq!(rt; source.faults(), 2);
-    let mut sink = WriterSink::new(Interrupted {
-        errors: twice.to_vec(alloc)?,
-    });
-    assert_eq!(rt; sink.write(b""), Ok(0));
-    assert_eq!(rt; sink.faults(), 2);
-    // 0 of a piece that isn't empty is counted too.
-    assert_eq!(rt; write_all(&mut sink, b"a"), Err(WriteFault));
-    assert_eq!(rt; sink.faults(), 3);
-    let mut sink = WriterSink::new(Interrupted {
-        errors: broken.to_vec(alloc)?,
-    });
-    assert_eq!(rt; sink.write(b"a"), Err(Failed));
-    assert_eq!(rt; sink.faults(), 2);
+fn a_read_that_is_interrupted_is_made_again(rt: HostRuntime) -> Result<(), Fail> {
+    for (then, wanted) in [
+        (ErrorKind::Interrupted, Ok(0)),
+        (ErrorKind::BrokenPipe, Err(Failed)),
+    ] {
+        let errors = [then, ErrorKind::Interrupted].to_vec(rt.alloc())?;
+        let mut source = ReaderSource::new(Interrupted { errors });
+        assert_eq!(rt; source.read(&mut [0]), wanted);
+        assert_eq!(rt; source.faults(), 2);
+    }
+    Ok(())
+}
+
+#[test]
+fn a_write_that_is_interrupted_is_made_again(rt: HostRuntime) -> Result<(), Fail> {
+    for (then, wanted) in [
+        (ErrorKind::Interrupted, Ok(0)),
+        (ErrorKind::BrokenPipe, Err(Failed)),
+    ] {
+        let errors = [then, ErrorKind::Interrupted].to_vec(rt.alloc())?;
+        let mut sink = WriterSink::new(Interrupted { errors });
+        assert_eq!(rt; sink.write(b""), wanted);
+        assert_eq!(rt; sink.faults(), 2);
+        // It takes none of a piece that isn't empty.
+        assert_eq!(rt; write_all(&mut sink, b"a"), Err(WriteFault));
+        assert_eq!(rt; sink.faults(), 3);
+    }
     Ok(())
 }
