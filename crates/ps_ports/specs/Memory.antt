@@ -1,5 +1,5 @@
 -- Sources, sinks and streams in memory, and the calls that are to fail.
-use Rattle.std.specs.Prelude.{◌≡◌, ℕ, ◌+◌, ◌==◌, Bool, ◌||◌, not, List, ◌++◌, drop, Result, Ok, Err, refl}
+use Rattle.std.specs.Prelude.{◌≡◌, ℕ, ◌==◌, Bool, ◌||◌, not, List, ◌++◌, drop, Result, Ok, Err, refl}
 use Rattle.std.specs.List.{list_any}
 use Rattle.std.proofs.Common.{◌∙◌}
 use Rattle.ps_ports.specs.Causes.{raised}

@@ -29,17 +29,17 @@ pub fn read_all<S: Source>(alloc: Global, source: &mut S, most: u64) -> Result<V
     let mut all = Vec::new(alloc);
     let mut buf = [0; 4096];
     loop {
-        match source.read(&mut buf) {
-            Ok(0) => return Ok(all),
-            Ok(count) => {
-                if most - (all.len() as u64) < count as u64 {
-                    return Err(AllFault::TooLong);
-                }
-                if all.extend_from_slice(&buf[..count]).is_err() {
-                    return Err(AllFault::Memory);
-                }
-            }
-            Err(_) => return Err(AllFault::ReadFault),
+        let Ok(count) = source.read(&mut buf) else {
+            return Err(AllFault::ReadFault);
+        };
+        if most - (all.len() as u64) < count as u64 {
+            return Err(AllFault::TooLong);
+        }
+        if all.extend_from_slice(&buf[..count]).is_err() {
+            return Err(AllFault::Memory);
+        }
+        if count == 0 {
+            return Ok(all);
         }
     }
 }
