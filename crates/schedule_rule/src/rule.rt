@@ -1,0 +1,99 @@
+//! A rule, the windows of its numbers, and the jump to the next number.
+ghost use Rattle.std.specs.Prelude.{◌≡◌, ◌+◌, ◌*◌, ◌≤◌, ◌↔◌, ◌&&◌, ℕ, IsNone, IfSome, nat_le};
+ghost use Rattle.schedule_rule.specs.Rule.{has_number, nominal_start, last_start, is_allowed, is_within, window_of, reaches_from, IsLeast, IsGreatest, HoldsNowhere};
+
+use ps_time::duplicate::Duplicate;
+use ps_time::interval::Window;
+use ps_time::memory::Memory;
+use ps_time::moment::{Length, MAX_LENGTH, MAX_MOMENT, Moment};
+use ps_time::same::Same;
+use std::alloc::Global;
+use std::marker::Model;
+
+/// When the runs of a task may start. Run number `k`, counted from 0, may start from
+/// `anchor + k * repeat` on, and up to `slip` later.
+#[derive(Clone, Copy, Debug, PartialEq, Eq)]
+pub struct Rule {
+    /// The nominal start of number 0: at most `MAX_MOMENT`.
+    pub anchor: Moment,
+    /// How much later than nominal a run may start: at most `MAX_LENGTH`.
+    pub slip: Length,
+    /// From one nominal start to the next: 1 to `MAX_LENGTH`. Where absent, number 0 is the only one.
+    pub repeat: Option<Length>,
+    /// No run starts after it: at most `MAX_MOMENT`.
+    pub until: Option<Moment>,
+    /// How many numbers there are, those of failed runs among them: at least 1.
+    pub max_runs: Option<u32>,
+}
+
+impl Model for Rule {
+    ghost use Rattle.schedule_rule.specs.Rule.{Schedule, IsRule};
+
+    ghost Value = { Schedule };
+
+    ghost view = { λ r. record { anchor = r.anchor; slip = r.slip; repeat = r.repeat; until = r.until; max_runs = r.max_runs } };
+
+    ghost invariant = { λ r. IsRule (record { anchor = r.anchor; slip = r.slip; repeat = r.repeat; until = r.until; max_runs = r.max_runs }) };
+
+    ghost inverse = { λ s. record { anchor = s.anchor; slip = s.slip; repeat = s.repeat; until = s.until; max_runs = s.max_runs } };
+}
+
+impl Duplicate for Rule {
+    fn duplicate(&self, _alloc: Global) -> Result<Rule, Memory> {
+        Ok(*self)
+    }
+}
+
+impl Same for Rule {
+    fn same(&self, other: &Rule) -> bool {
+        self == other
+    }
+}
+
+impl Rule {
+    /// Whether there is a run of this number.
+    fn has_number(&self, number: u32) -> bool
+        ensures { result ≡ has_number self.now number }
+    {
+        (number == 0 || self.repeat.is_some()) && self.max_runs.is_none_or(|runs| number < runs)
+    }
+
+    fn nominal_start(&self, number: u32) -> u64
+        ensures value { result ≡ nominal_start self.now number }
+        ensures small { result ≤ MAX_MOMENT + u32.MAX * MAX_LENGTH }
+    {
+        self.anchor + u64::from(number) * self.repeat.unwrap_or(0)
+    }
+
+    /// The last moment at which any run may start.
+    fn last_start(&self) -> Moment
+        ensures { result ≡ last_start self.now }
+    {
+        self.until.unwrap_or(MAX_MOMENT).min(MAX_MOMENT)
+    }
+}
+
+/// The moments at which run `number` may start: each of the window's, and no other. `None` where there
+/// are none.
+pub fn window(rule: &Rule, number: u32) -> Option<Window>
+    ensures value { result ≡ window_of rule.now number }
+    ensures none { IsNone result ↔ HoldsNowhere (is_allowed rule.now number) }
+    ensures least { IfSome result (λ w. IsLeast (is_allowed rule.now number) w.first) }
+    ensures greatest { IfSome result (λ w. IsGreatest (is_allowed rule.now number) w.last) }
+    ensures each { IfSome result (λ w. (s : ℕ) → is_allowed rule.now number s ≡ is_within w s) }
+{
+    let first = rule.nominal_start(number);
+    let last = (first + rule.slip).min(rule.last_start());
+    if rule.has_number(number) && first <= last {
+        Some(Window { first, last })
+    } else {
+        None
+    }
+}
+
+/// Whether run `number` may start at `start`.
+pub fn allowed(rule: &Rule, number: u32, start: Moment) -> bool
+    ensures { result ≡ is_allowed rule.now number start }
+{
+    window(rule, number).is_some_and(|window| window.first <= start && start <= window.last)
+}
