@@ -1,5 +1,5 @@
 -- Rules as contracts see them, and the starts that they allow.
-use Rattle.std.specs.Prelude.{ℕ, Bool, true, false, ◌≡◌, ◌+◌, ◌*◌, ◌≤◌, ◌&&◌, ◌||◌, ◌==◌, min, nat_le, nat_lt, Option, Some, None, is_some, unwrap_or, if◌then◌else◌, IsTrue}
+use Rattle.std.specs.Prelude.{ℕ, zero, suc, Bool, true, false, ◌≡◌, ◌+◌, ◌*◌, ◌^◌, ◌≤◌, ◌&&◌, ◌||◌, ◌==◌, min, nat_le, nat_lt, Option, Some, None, is_some, unwrap_or, if◌then◌else◌, IsTrue}
 use Rattle.std.specs.Option.{ForSome}
 use Rattle.ps_time.specs.Span.{Range}
 use Rattle.ps_time.specs.declared.moment.TheConstants.{MAX_MOMENT, MAX_LENGTH}
@@ -67,6 +67,15 @@ window_reaches (Some w) moment = nat_le moment w.last
 -- number k is at or after from, and its window reaches the moment
 abbrev pub reaches_from : Schedule → ℕ → ℕ → ℕ → Bool
 reaches_from rule from moment k = nat_le from k && window_reaches (window_of rule k) moment
+
+-- the first of so many numbers from n on for which a test holds
+unfoldable pub first_from : (ℕ → Bool) → ℕ → ℕ → Option ℕ
+first_from test n zero = None
+first_from test n (suc more) = if test n then Some n else first_from test (suc n) more
+
+-- the first such number of 32 bits: `next_number` shows that no greater one reaches a moment
+abbrev pub next_of : Schedule → ℕ → ℕ → Option ℕ
+next_of rule from moment = first_from (reaches_from rule from moment) 0 (2 ^ 32)
 
 -- the least and the greatest of the numbers for which a test holds
 pub record IsLeast (test : ℕ → Bool) (n : ℕ) : Type 0 where

@@ -1,6 +1,6 @@
 //! A rule, the windows of its numbers, and the jump to the next number.
-ghost use Rattle.std.specs.Prelude.{◌≡◌, ◌+◌, ◌*◌, ◌≤◌, ◌↔◌, ◌&&◌, ℕ, IsNone, IfSome, nat_le};
-ghost use Rattle.schedule_rule.specs.Rule.{has_number, nominal_start, last_start, is_allowed, is_within, window_of, reaches_from, IsLeast, IsGreatest, HoldsNowhere};
+ghost use Rattle.std.specs.Prelude.{◌≡◌, ◌+◌, ◌*◌, ◌≤◌, ◌<◌, ◌↔◌, ℕ, IsNone, IsSome, IfSome, IfNone};
+ghost use Rattle.schedule_rule.specs.Rule.{has_number, nominal_start, last_start, is_allowed, is_within, window_of, window_reaches, reaches_from, next_of, IsLeast, IsGreatest, HoldsNowhere};
 
 use ps_time::duplicate::Duplicate;
 use ps_time::interval::Window;
@@ -71,6 +71,28 @@ impl Rule {
     {
         self.until.unwrap_or(MAX_MOMENT).min(MAX_MOMENT)
     }
+
+    /// Whether the window of the number has its last start at or after the moment.
+    fn reaches(&self, number: u32, moment: u64) -> bool
+        ensures { result ≡ window_reaches (window_of self.now number) moment }
+    {
+        window(self, number).is_some_and(|window| moment <= window.last)
+    }
+
+    /// The least number whose nominal start and slip reach the moment, found by division; 0 without a
+    /// repeat. `None` where every such number starts after `MAX_MOMENT`.
+    #[tactic(auto, using(crate::proofs::JumpLemmas::short))]
+    fn first_reaching(&self, moment: u64) -> Option<u32>
+        ensures before { IfSome result (λ k. (j : ℕ) → j < k → nominal_start self.now j + self.now.slip < moment) }
+        ensures from_there { IfSome result (λ k. IsSome self.now.repeat → moment ≤ nominal_start self.now k + self.now.slip) }
+        ensures none { IfNone result ((j : ℕ) → nominal_start self.now j ≤ MAX_MOMENT → nominal_start self.now j + self.now.slip < moment) }
+    {
+        let Some(repeat) = self.repeat else {
+            return Some(0);
+        };
+        let missing = moment.saturating_sub(self.anchor + self.slip);
+        u32::try_from(missing.div_ceil(repeat)).ok()
+    }
 }
 
 /// The moments at which run `number` may start: each of the window's, and no other. `None` where there
@@ -96,4 +118,15 @@ pub fn allowed(rule: &Rule, number: u32, start: Moment) -> bool
     ensures { result ≡ is_allowed rule.now number start }
 {
     window(rule, number).is_some_and(|window| window.first <= start && start <= window.last)
+}
+
+/// The least number at or after `from` whose window reaches `reach`, any 64-bit number: whose last
+/// start is at or after it. `None` where there is none.
+pub fn next_number(rule: &Rule, from: u32, reach: Moment) -> Option<u32>
+    ensures value { result ≡ next_of rule.now from reach }
+    ensures least { IfSome result (IsLeast (reaches_from rule.now from reach)) }
+    ensures none { IsNone result ↔ HoldsNowhere (reaches_from rule.now from reach) }
+{
+    let number = from.max(rule.first_reaching(reach)?);
+    rule.reaches(number, reach).then_some(number)
 }
