@@ -37,23 +37,27 @@ has_number rule k = (k == 0 || is_some rule.repeat) && is_below k rule.max_runs
 abbrev pub nominal_start : Schedule → ℕ → ℕ
 nominal_start rule k = rule.anchor + k * unwrap_or rule.repeat 0
 
+-- the moment up to which its slip lets it start
+abbrev pub latest_start : Schedule → ℕ → ℕ
+latest_start rule k = nominal_start rule k + rule.slip
+
 -- run number k may start at s
 abbrev pub is_allowed : Schedule → ℕ → ℕ → Bool
 is_allowed rule k s =
     has_number rule k
-    && (nat_le (nominal_start rule k) s && nat_le s (nominal_start rule k + rule.slip))
+    && (nat_le (nominal_start rule k) s && nat_le s (latest_start rule k))
     && (is_at_most s rule.until && nat_le s MAX_MOMENT)
 
--- the last moment at which any run may start
+-- the last moment at which a run of any number may start
 abbrev pub last_start : Schedule → ℕ
 last_start rule = min (unwrap_or rule.until MAX_MOMENT) MAX_MOMENT
 
 abbrev pub range_of : Bool → ℕ → ℕ → Option Range
 range_of exists first last = if exists && nat_le first last then Some (record { first = first; last = last }) else None
 
--- the starts that are allowed to run number k: `window` shows that they are these
+-- the least and the greatest start that is allowed to run number k, as `window` shows
 abbrev pub window_of : Schedule → ℕ → Option Range
-window_of rule k = range_of (has_number rule k) (nominal_start rule k) (min (nominal_start rule k + rule.slip) (last_start rule))
+window_of rule k = range_of (has_number rule k) (nominal_start rule k) (min (latest_start rule k) (last_start rule))
 
 -- a moment lies in a window
 abbrev pub is_within : Range → ℕ → Bool

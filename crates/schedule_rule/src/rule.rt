@@ -1,6 +1,6 @@
 //! A rule, the windows of its numbers, and the jump to the next number.
 ghost use Rattle.std.specs.Prelude.{◌≡◌, ◌+◌, ◌*◌, ◌≤◌, ◌<◌, ◌↔◌, ℕ, IsNone, IsSome, IfSome, IfNone};
-ghost use Rattle.schedule_rule.specs.Rule.{has_number, nominal_start, last_start, is_allowed, is_within, window_of, window_reaches, reaches_from, next_of, IsLeast, IsGreatest, HoldsNowhere};
+ghost use Rattle.schedule_rule.specs.Rule.{has_number, nominal_start, latest_start, last_start, is_allowed, is_within, window_of, window_reaches, reaches_from, next_of, IsLeast, IsGreatest, HoldsNowhere};
 
 use ps_time::duplicate::Duplicate;
 use ps_time::interval::Window;
@@ -58,6 +58,7 @@ impl Rule {
         (number == 0 || self.repeat.is_some()) && self.max_runs.is_none_or(|runs| number < runs)
     }
 
+    /// The moment from which the number may start: far below 2^64 for every number of 32 bits.
     fn nominal_start(&self, number: u32) -> u64
         ensures value { result ≡ nominal_start self.now number }
         ensures small { result ≤ MAX_MOMENT + u32.MAX * MAX_LENGTH }
@@ -69,7 +70,7 @@ impl Rule {
     fn last_start(&self) -> Moment
         ensures { result ≡ last_start self.now }
     {
-        self.until.unwrap_or(MAX_MOMENT).min(MAX_MOMENT)
+        self.until.unwrap_or(MAX_MOMENT)
     }
 
     /// Whether the window of the number has its last start at or after the moment.
@@ -79,13 +80,14 @@ impl Rule {
         window(self, number).is_some_and(|window| moment <= window.last)
     }
 
-    /// The least number whose nominal start and slip reach the moment, found by division; 0 without a
-    /// repeat. `None` where every such number starts after `MAX_MOMENT`.
+    /// The least number whose slip ends at or after the moment, found by division; 0 without a repeat.
+    /// `None` where such numbers start after `MAX_MOMENT`.
     #[tactic(auto, using(crate::proofs::JumpLemmas::short))]
     fn first_reaching(&self, moment: u64) -> Option<u32>
-        ensures before { IfSome result (λ k. (j : ℕ) → j < k → nominal_start self.now j + self.now.slip < moment) }
-        ensures from_there { IfSome result (λ k. IsSome self.now.repeat → moment ≤ nominal_start self.now k + self.now.slip) }
-        ensures none { IfNone result ((j : ℕ) → nominal_start self.now j ≤ MAX_MOMENT → nominal_start self.now j + self.now.slip < moment) }
+        ensures before { IfSome result (λ k. (j : ℕ) → j < k → latest_start self.now j < moment) }
+        ensures there { IfSome result (λ k. IsSome self.now.repeat → moment ≤ latest_start self.now k) }
+        ensures none { IfNone result
+            ((j : ℕ) → nominal_start self.now j ≤ MAX_MOMENT → latest_start self.now j < moment) }
     {
         let Some(repeat) = self.repeat else {
             return Some(0);
@@ -129,4 +131,117 @@ pub fn next_number(rule: &Rule, from: u32, reach: Moment) -> Option<u32>
 {
     let number = from.max(rule.first_reaching(reach)?);
     rule.reaches(number, reach).then_some(number)
+}
+
+#[cfg(test)]
+mod tests {
+    use super::*;
+
+    #[test]
+    fn every_hour_until_noon(rt: HostRuntime) {
+        let rule = Rule {
+            anchor: 36_000,
+            slip: 600,
+            repeat: Some(3_600),
+            until: Some(43_200),
+            max_runs: Some(5),
+        };
+        for (number, first, last) in [
+            (0, 36_000, 36_600),
+            (1, 39_600, 40_200),
+            (2, 43_200, 43_200),
+        ] {
+            assert!(rt;
+                window(&rule, number).is_some_and(|w| w.first == first && w.last == last),
+                "at {number}"
+            );
+        }
+        assert_eq!(rt; window(&rule, 3), None);
+        for (from, reach, want) in [
+            (0, 40_200, Some(1)),
+            (0, 40_201, Some(2)),
+            (2, 0, Some(2)),
+            (0, 43_201, None),
+            (0, u64::MAX, None),
+        ] {
+            assert_eq!(rt;
+                next_number(&rule, from, reach),
+                want,
+                "{reach} from {from}"
+            );
+        }
+        for (number, start, want) in [
+            (0, 35_999, false),
+            (0, 36_000, true),
+            (0, 36_600, true),
+            (0, 36_601, false),
+            (2, 43_200, true),
+            (2, 43_201, false),
+            (3, 46_800, false),
+        ] {
+            assert_eq!(rt; allowed(&rule, number, start), want, "{number} at {start}");
+        }
+    }
+
+    #[test]
+    fn bounds(rt: HostRuntime) {
+        let five = Rule {
+            anchor: 36_000,
+            slip: 600,
+            repeat: Some(3_600),
+            until: None,
+            max_runs: Some(5),
+        };
+        let once = Rule {
+            anchor: 1_000,
+            slip: 300,
+            repeat: None,
+            until: None,
+            max_runs: None,
+        };
+        let overlapping = Rule {
+            anchor: 1_000,
+            slip: 100,
+            repeat: Some(10),
+            until: None,
+            max_runs: None,
+        };
+        let ended = Rule {
+            until: Some(999),
+            ..overlapping
+        };
+        let last = Rule {
+            anchor: MAX_MOMENT,
+            ..overlapping
+        };
+        let each_second = Rule {
+            anchor: 0,
+            slip: 0,
+            repeat: Some(1),
+            until: None,
+            max_runs: Some(u32::MAX),
+        };
+        for (rule, from, reach, want) in [
+            (five, 0, 51_000, Some(4)),
+            (five, 0, 51_001, None),
+            (once, 0, 1_300, Some(0)),
+            (once, 0, 1_301, None),
+            (once, 1, 0, None),
+            (overlapping, 0, 1_205, Some(11)),
+            (overlapping, 11, 1_205, Some(11)),
+            (overlapping, 12, 1_205, Some(12)),
+            (ended, 0, 0, None),
+            (last, 0, MAX_MOMENT, Some(0)),
+            (last, 0, MAX_MOMENT + 1, None),
+            (each_second, 0, MAX_MOMENT, Some(4_102_444_800)),
+            (each_second, 4_102_444_801, 0, None),
+            (each_second, u32::MAX, u64::MAX, None),
+        ] {
+            assert_eq!(rt;
+                next_number(&rule, from, reach),
+                want,
+                "{rule:?}: {reach} from {from}"
+            );
+        }
+    }
 }
