@@ -7,7 +7,7 @@ use Rattle.std.proofs.lemmas.Grind.{div_ceil_times}
 use Rattle.std.proofs.lemmas.Nat.{mul-le}
 use Rattle.schedule_rule.proofs.FirstLemmas.{found}
 use Rattle.ps_time.specs.declared.moment.TheConstants.{MAX_MOMENT}
-use Rattle.schedule_rule.specs.Rule.{Schedule, nominal_start, latest_start, range_of, window_of, window_reaches, reaches_from, next_of, IsLeast, HoldsNowhere}
+use Rattle.schedule_rule.specs.Rule.{Schedule, nominal_start, latest_start, window_of, window_reaches, reaches_from, next_of, IsLeast, HoldsNowhere}
 
 -- a number below a quotient that is rounded up
 pub short : (a r j : ℕ) → 0 < r → j < a / r + min 1 (a % r) → j * r < a
@@ -15,9 +15,6 @@ short a r j positive below =
     let bounds = div_ceil_times a r positive in
     let next : (j + 1) * r ≤ (a / r + min 1 (a % r)) * r = mul-le (j + 1) r _ r (omega arith) (omega arith) in
     omega (arith, next, bounds.1)
-
-reached : (e : Bool) (first last moment : ℕ) → window_reaches (range_of e first last) moment ≡ (e && (nat_le first last && nat_le moment last))
-reached e first last moment = grind (arith, nat_tests)
 
 nominal_ascends : (rule : Schedule) (j k : ℕ) → j ≤ k → nominal_start rule j ≤ nominal_start rule k
 nominal_ascends rule j k order = omega (arith, mul-le j (unwrap_or rule.repeat 0) k (unwrap_or rule.repeat 0) order (omega arith))
@@ -49,7 +46,7 @@ after anchor slip (Some r) until None n j reach order ascends lasts not_here = g
 after anchor slip (Some r) until (Some runs) n j reach order ascends lasts not_here = grind (arith, nat_tests)
 
 -- no number at or after from reaches, where the first that could doesn't
-pub none_reaches : (rule : Schedule) (from first reach : ℕ) → ((j : ℕ) → j < first → latest_start rule j < reach) → (IsSome rule.repeat → reach ≤ latest_start rule first) → window_reaches (window_of rule (max from first)) reach ≡ false → HoldsNowhere (reaches_from rule from reach)
+none_reaches : (rule : Schedule) (from first reach : ℕ) → ((j : ℕ) → j < first → latest_start rule j < reach) → (IsSome rule.repeat → reach ≤ latest_start rule first) → window_reaches (window_of rule (max from first)) reach ≡ false → HoldsNowhere (reaches_from rule from reach)
 none_reaches rule from first reach early lasts not_here m =
     elim (cases_lt m from) [
       | inl below ↦ grind (arith, nat_tests)
@@ -60,7 +57,7 @@ none_reaches rule from first reach early lasts not_here m =
     ]
 
 -- the first that could is the least that reaches, where it does
-pub least_reaches : (rule : Schedule) (from first reach : ℕ) → ((j : ℕ) → j < first → latest_start rule j < reach) → window_reaches (window_of rule (max from first)) reach ≡ true → IsLeast (reaches_from rule from reach) (max from first)
+least_reaches : (rule : Schedule) (from first reach : ℕ) → ((j : ℕ) → j < first → latest_start rule j < reach) → window_reaches (window_of rule (max from first)) reach ≡ true → IsLeast (reaches_from rule from reach) (max from first)
 least_reaches rule from first reach early here = record {
   holds = grind (arith, nat_tests);
   least = λ m reaches. let parts = and_parts (nat_le from m) _ reaches in

@@ -81,11 +81,12 @@ first_from test n (suc more) = if test n then Some n else first_from test (suc n
 abbrev pub next_of : Schedule → ℕ → ℕ → Option ℕ
 next_of rule from moment = first_from (reaches_from rule from moment) 0 (2 ^ 32)
 
--- the least and the greatest of the numbers for which a test holds
+-- n is the least of the numbers for which the test holds
 pub record IsLeast (test : ℕ → Bool) (n : ℕ) : Type 0 where
   pub holds : IsTrue (test n)
   pub least : (m : ℕ) → IsTrue (test m) → n ≤ m
 
+-- n is the greatest of them
 pub record IsGreatest (test : ℕ → Bool) (n : ℕ) : Type 0 where
   pub holds : IsTrue (test n)
   pub greatest : (m : ℕ) → IsTrue (test m) → m ≤ n
