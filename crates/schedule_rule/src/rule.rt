@@ -10,8 +10,8 @@ use ps_time::same::Same;
 use std::alloc::Global;
 use std::marker::Model;
 
-/// When the runs of a task may start. Run number `k`, counted from 0, may start from
-/// `anchor + k * repeat` on, and up to `slip` later.
+/// When the runs of a task may start: the `schedule` of a pScheduler task. Run number `k`, counted
+/// from 0, may start from `anchor + k * repeat` on, and up to `slip` later.
 #[derive(Clone, Copy, Debug, PartialEq, Eq)]
 pub struct Rule {
     /// The nominal start of number 0: at most `MAX_MOMENT`.
@@ -122,8 +122,8 @@ pub fn allowed(rule: &Rule, number: u32, start: Moment) -> bool
     window(rule, number).is_some_and(|window| window.first <= start && start <= window.last)
 }
 
-/// The least number at or after `from` whose window reaches `reach`, any 64-bit number: whose last
-/// start is at or after it. `None` where there is none.
+/// The least number at or after `from` whose window reaches `reach`: whose last start is at or after
+/// it. `None` where there is none; `reach` may be any number of 64 bits.
 pub fn next_number(rule: &Rule, from: u32, reach: Moment) -> Option<u32>
     ensures value { result ≡ next_of rule.now from reach }
     ensures least { IfSome result (IsLeast (reaches_from rule.now from reach)) }
