@@ -1,0 +1,5 @@
+pub mod Answer
+pub mod Coding
+pub mod Fields
+pub mod Kinds
+pub mod Tree

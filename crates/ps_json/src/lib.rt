@@ -1,0 +1,10 @@
+//! JSON trees whole: read, written, copied, measured, and taken apart member by member.
+#![tactic(auto)]
+
+pub mod fault;
+pub mod fields;
+pub mod kinds;
+pub mod memory;
+pub mod name;
+pub mod shape;
+pub mod tree;
