@@ -7,8 +7,6 @@ ghost use Rattle.ps_json.specs.Fields.{without_member, need_of, end_of, is_comme
 ghost use Rattle.ps_json.specs.Kinds.{members_of};
 
 use crate::fault::JsonFault;
-use crate::kinds::wrong_kind;
-use crate::name::Name;
 use serde_json::{Map, Value};
 use std::alloc::Global;
 use std::marker::Model;
@@ -38,7 +36,7 @@ impl Fields {
     {
         match value {
             Value::Object(members) => Ok(Fields { members }),
-            _ => wrong_kind(alloc, name),
+            _ => Err(JsonFault::wrong_kind(alloc, name)),
         }
     }
 
@@ -57,7 +55,7 @@ impl Fields {
     {
         match self.take(name) {
             Some(value) => Ok(value),
-            None => Err(JsonFault::Missing(Name::new(alloc, name)?)),
+            None => Err(JsonFault::missing(alloc, name)),
         }
     }
 
@@ -68,7 +66,7 @@ impl Fields {
         for (name, _) in self.members.iter() {
             let name = name.as_str();
             if !is_comment(name) {
-                return Err(JsonFault::Unknown(Name::new(alloc, name)?));
+                return Err(JsonFault::unknown(alloc, name));
             }
         }
         Ok(())

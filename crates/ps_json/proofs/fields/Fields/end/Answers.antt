@@ -7,7 +7,7 @@ pub returns-then-not-is_comment : goal.returns-then-not-is_comment
 returns-then-not-is_comment c =
     let loop = c.loop-name.invariant in
     let unknown : is_comment (string_bytes c.in-Some.name.now) ≡ false = sym (ap is_comment c.as_str-name.ensures.value) ∙ sym c.is_comment.ensures ∙ c.if-not-is_comment.true in
-    λ _. rw (c.in_ok-new.ensures, c.as_str-name.ensures.value) (end_of-unknown c.args.self _ _ _ c.in-Some.ensures.steps loop.least loop.sorted unknown)
+    λ told. rw (c.unknown.ensures told, c.as_str-name.ensures.value) (end_of-unknown c.args.self _ _ _ c.in-Some.ensures.steps loop.least loop.sorted unknown)
 
 pub loop-name-preserved : goal.loop-name-preserved
 loop-name-preserved c =
