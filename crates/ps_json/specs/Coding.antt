@@ -1,5 +1,5 @@
 -- How a proof stores a tree: each part as a pair of its kind and of what it holds, and back.
-use Rattle.std.specs.Prelude.{◌≡◌, ℕ, zero, suc, ◌==◌, List, [], ◌∷◌, Bool, true, false, cond, ℤ, pos, negsuc, refl}
+use Rattle.std.specs.Prelude.{◌≡◌, ℕ, ◌==◌, List, [], ◌∷◌, Bool, true, false, cond, ℤ, pos, negsuc, refl}
 use Rattle.std.specs.Float.{Float, nan, inf, fin}
 use Rattle.std.specs.Coded.{Coded, code_by}
 use Rattle.serde_json.specs.Data.{Num, unsigned, negative, float, Data, null, boolean, number, string, array, object, Items, no_items, item, Members, no_members, member}

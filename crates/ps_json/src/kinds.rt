@@ -1,5 +1,5 @@
 //! The value of a member, by its kind.
-ghost use Rattle.std.specs.Prelude.{◌≡◌, ◌≤◌, IfOk, map, string_bytes};
+ghost use Rattle.std.specs.Prelude.{◌≡◌, ◌≤◌, ◌≤ℤ◌, IfOk, map, string_bytes};
 ghost use Rattle.serde_json.specs.View.{view};
 ghost use Rattle.ps_json.specs.Answer.{GivesUnless, seen_as};
 ghost use Rattle.ps_json.specs.Kinds.{count_of, integer_of, text_of, boolean_of, list_of};
@@ -34,6 +34,7 @@ pub fn read_integer(
     most: i64,
 ) -> Result<i64, JsonFault>
     ensures integer { GivesUnless JsonFault.Memory result (integer_of name.now least most (view value)) }
+    ensures within { IfOk result (λ z. (least ≤ℤ z) × (z ≤ℤ most)) }
 {
     match value.as_i64() {
         Some(integer) if least <= integer && integer <= most => Ok(integer),

@@ -15,8 +15,9 @@ use std::test::Fail;
 // Texts, and what is written again of each, or why it is refused. RFC 8259 decides; Python's
 // `json` agrees but for what the RFC leaves open: a lone surrogate and a byte order mark are
 // refused, and `-0` is read as a number that isn't whole.
-static TEXTS: [(&str, &str); 116] = [
-    // Numbers: the grammar of RFC 8259, section 6, and which of them are whole.
+
+// Numbers: the grammar of RFC 8259, section 6, and which of them are whole.
+static NUMBERS: [(&str, &str); 36] = [
     ("0", "0"),
     ("-0", "not whole"),
     ("00", "syntax"),
@@ -53,7 +54,10 @@ static TEXTS: [(&str, &str); 116] = [
     ("-1e400", "syntax"),
     ("NaN", "syntax"),
     ("Infinity", "syntax"),
-    // Literals and strings, section 7: escapes, surrogates, control characters.
+];
+
+// Literals and strings, section 7: escapes, surrogates, control characters.
+static STRINGS: [(&str, &str); 29] = [
     ("null", "null"),
     ("true", "true"),
     ("false", "false"),
@@ -86,7 +90,10 @@ static TEXTS: [(&str, &str); 116] = [
     ("\"\u{0}\"", "syntax"),
     ("\"\u{7f}\"", "\"\u{7f}\""),
     ("\"\u{e9}\"", "\"\u{e9}\""),
-    // Blanks, section 2, and what stands around a text.
+];
+
+// Blanks, section 2, and what stands around a text.
+static BLANKS: [(&str, &str); 15] = [
     ("", "syntax"),
     (" ", "syntax"),
     (" 1 ", "1"),
@@ -102,7 +109,10 @@ static TEXTS: [(&str, &str); 116] = [
     ("1,", "syntax"),
     ("1//c", "syntax"),
     ("/*c*/1", "syntax"),
-    // Lists, section 5.
+];
+
+// Lists, section 5.
+static LISTS: [(&str, &str); 12] = [
     ("[]", "[]"),
     ("[ ]", "[]"),
     ("[1,2]", "[1,2]"),
@@ -115,7 +125,10 @@ static TEXTS: [(&str, &str); 116] = [
     ("]", "syntax"),
     ("[1", "syntax"),
     ("[1}", "syntax"),
-    // Objects, section 4: members in the order of the bytes of their names, the last of a repeated one.
+];
+
+// Objects, section 4: members in the order of the bytes of their names, the last of a repeated one.
+static OBJECTS: [(&str, &str); 24] = [
     ("{}", "{}"),
     ("{ }", "{}"),
     ("{\"a\":1}", "{\"a\":1}"),
@@ -181,16 +194,35 @@ fn answer(alloc: Global, bytes: &[u8]) -> Result<String, Fail> {
     }
 }
 
-#[test]
-fn texts_of_the_standard(rt: HostRuntime) -> Result<(), Fail> {
-    for (text, expected) in TEXTS {
-        let told = answer(rt.alloc(), text.as_bytes())?;
-        assert_eq!(rt; told.as_str(), expected, "{text}");
-    }
-    for bytes in NOT_UTF8 {
-        assert_eq!(rt; answer(rt.alloc(), bytes)?.as_str(), "not utf-8");
+fn check_texts(alloc: Global, texts: &[(&str, &str)]) -> Result<(), Fail> {
+    for (text, expected) in texts {
+        let told = answer(alloc, text.as_bytes())?;
+        if told.as_str() != *expected {
+            return Err(Fail::new(format_args!("{text:?} is told {told}")));
+        }
     }
     Ok(())
+}
+
+fn check_not_utf8(alloc: Global, texts: &[&[u8]]) -> Result<(), Fail> {
+    for bytes in texts {
+        let told = answer(alloc, bytes)?;
+        if told.as_str() != "not utf-8" {
+            return Err(Fail::new(format_args!("{bytes:?} is told {told}")));
+        }
+    }
+    Ok(())
+}
+
+#[test]
+fn texts_of_the_standard(rt: HostRuntime) -> Result<(), Fail> {
+    let alloc = rt.alloc();
+    check_texts(alloc, &NUMBERS)?;
+    check_texts(alloc, &STRINGS)?;
+    check_texts(alloc, &BLANKS)?;
+    check_texts(alloc, &LISTS)?;
+    check_texts(alloc, &OBJECTS)?;
+    check_not_utf8(alloc, &NOT_UTF8)
 }
 
 // `levels` openings, each closed again where `closed` says so.
@@ -328,15 +360,21 @@ static KINDS: [(&str, [&str; 5]); 17] = [
     ("null", [NO, NO, NO, NO, NO]),
 ];
 
-#[test]
-fn values_by_kind(rt: HostRuntime) -> Result<(), Fail> {
-    for (text, expected) in KINDS {
+fn check_kinds(alloc: Global, kinds: &[(&str, [&str; 5])]) -> Result<(), Fail> {
+    for (text, expected) in kinds {
         for kind in 0..5 {
-            let told = as_kind(rt.alloc(), text, kind)?;
-            assert_eq!(rt; told.as_str(), expected[kind], "{text}");
+            let told = as_kind(alloc, text, kind)?;
+            if told.as_str() != expected[kind] {
+                return Err(Fail::new(format_args!("{text} is told {told} at {kind}")));
+            }
         }
     }
     Ok(())
+}
+
+#[test]
+fn values_by_kind(rt: HostRuntime) -> Result<(), Fail> {
+    check_kinds(rt.alloc(), &KINDS)
 }
 
 #[test]

@@ -1,5 +1,4 @@
-use Rattle.std.proofs.Common.{◌≡◌, map, refl}
-use Rattle.serde_json.specs.View.{view}
+use Rattle.std.proofs.Common.{refl}
 use Rattle.serde_json.proofs.Views.{view-Array}
 use Rattle.ps_json.proofs.TreeLemmas.{items_list-items_of}
 use Rattle.ps_json.proofs.kinds.read_list.Goals as goal

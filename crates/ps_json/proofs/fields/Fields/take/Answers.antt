@@ -1,7 +1,7 @@
 use Rattle.std.proofs.Common.{◌≡◌, option_map, None, ap, ◌∙◌}
 use Rattle.std.specs.Map.{lookup, remove_entry}
 use Rattle.serde_json.specs.Find.{get_member}
-use Rattle.serde_json.specs.View.{view, members_view}
+use Rattle.serde_json.specs.View.{view}
 use Rattle.serde_json.proofs.Views.{view-lookup}
 use Rattle.ps_json.proofs.MemberLemmas.{is_named, members_view-remove_entry}
 use Rattle.ps_json.proofs.fields.Fields.take.Goals as goal
