@@ -1,6 +1,7 @@
 //! The reader of scripts. In its private functions memory is the outer error, a reason the inner one.
 ghost use Rattle.std.specs.Prelude.{◌≡◌, [], IfOk, IfSome, OnOk, is_some};
 ghost use Rattle.std.specs.Str.{is_utf8};
+ghost use Rattle.psched_rehearse.specs.Lawful.{IsLawful};
 ghost use Rattle.psched_rehearse.specs.Read.{Reads};
 ghost use Rattle.psched_rehearse.specs.Script.{place_of, is_repeated, host_line, book_line, opens_other, line_by_word, line_of, with_line, lines_from, no_lines, script_of};
 ghost use Rattle.psched_rehearse.specs.declared.script.ScriptFault.TheVariants.{Memory as out_of_memory};
@@ -185,7 +186,8 @@ fn add_line(script: &mut Script, number: u64, content: Content) -> Result<(), Me
 /// Reads a script: UTF-8 lines, each ended by a line feed, which the last may leave out.
 /// docs/specification/scripts.md states the grammar.
 pub fn read_script(alloc: Global, bytes: &[u8]) -> Result<Script, ScriptFault>
-    ensures { Reads result (script_of bytes.now) }
+    ensures script { Reads result (script_of bytes.now) }
+    ensures lawful { IfOk result IsLawful }
 {
     let lines = Lines::cut(alloc, bytes)?;
     read_lines(alloc, &lines)
