@@ -201,7 +201,6 @@ first_lawful = record {
   order = refl;
 }
 
--- and so is what a reader of all lines answers
-pub lawful_read : (ls : List (List ℕ)) (r : Result Script ScriptFault) → Reads r (lines_from no_lines 1 ls) → IfOk r IsLawful
-lawful_read ls (Ok script) reads = rw reads at (lawful_from no_lines 1 ls first_lawful)
-lawful_read ls (Err fault) reads = tt
+-- and so is what all lines give
+pub lawful_read : (ls : List (List ℕ)) (script : Script) → lines_from no_lines 1 ls ≡ Ok script → IsLawful script
+lawful_read ls script is = rw is at (lawful_from no_lines 1 ls first_lawful)

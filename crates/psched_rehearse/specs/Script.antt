@@ -120,9 +120,13 @@ abbrev pub lines_from : Script → ℕ → List (List ℕ) → Result Script Scr
 lines_from script n [] = Ok script
 lines_from script n (l ∷ ls) = go_on n (line_of script.hosts l) (λ content. lines_from (with_line script n content) (n + 1) ls)
 
+-- the lines of bytes: their parts between line feeds
+abbrev pub lines_of : List ℕ → List (List ℕ)
+lines_of bytes = slice_split (λ b. b == 10) bytes
+
 abbrev pub no_lines : Script
 no_lines = record { hosts = []; lines = [] }
 
 -- what the bytes say, or the first line that is refused and why
 abbrev pub script_of : List ℕ → Result Script ScriptFault
-script_of bytes = lines_from no_lines 1 (slice_split (λ b. b == 10) bytes)
+script_of bytes = lines_from no_lines 1 (lines_of bytes)

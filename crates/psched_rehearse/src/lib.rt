@@ -1,8 +1,7 @@
 //! Rehearsals: scripts of what happens on some hosts, read and run.
 #![tactic(auto)]
 
-pub mod fields;
-pub mod lines;
+mod fields;
 pub mod read;
 pub mod script;
-pub mod words;
+mod words;

@@ -7,7 +7,6 @@ ghost use Rattle.psched_rehearse.specs.Script.{place_of, is_repeated, host_line,
 ghost use Rattle.psched_rehearse.specs.declared.script.ScriptFault.TheVariants.{Memory as out_of_memory};
 
 use crate::fields::Fields;
-use crate::lines::Lines;
 use crate::script::{MAX_HOSTS, Numbered, Reason, Script, ScriptFault, ScriptHost, ScriptLine};
 use crate::words::{read_number, read_priority};
 use ps_time::class::read_class;
@@ -23,7 +22,7 @@ type Read<T> = Result<Result<T, Reason>, Memory>;
 
 /// What a line says.
 #[derive(Debug, Drop)]
-pub enum Content {
+enum Content {
     /// The line is skipped.
     Nothing,
     NewHost(ScriptHost),
@@ -189,20 +188,14 @@ pub fn read_script(alloc: Global, bytes: &[u8]) -> Result<Script, ScriptFault>
     ensures script { Reads result (script_of bytes.now) }
     ensures lawful { IfOk result IsLawful }
 {
-    let lines = Lines::cut(alloc, bytes)?;
-    read_lines(alloc, &lines)
-}
-
-fn read_lines(alloc: Global, lines: &Lines<'_>) -> Result<Script, ScriptFault>
-    ensures { Reads result (lines_from no_lines 1 lines.now) }
-{
     let mut script = Script {
         hosts: Items::new(alloc),
         lines: Items::new(alloc),
     };
-    for index in 0..lines.len() {
-        let number = index as u64 + 1;
-        match read_line(alloc, script.hosts.as_slice(), lines.at(index))? {
+    let mut number: u64 = 0;
+    for line in bytes.split(|b| *b == b'\n') {
+        number += 1;
+        match read_line(alloc, script.hosts.as_slice(), line)? {
             Ok(content) => add_line(&mut script, number, content)?,
             Err(reason) => {
                 return Err(ScriptFault::Refused {
