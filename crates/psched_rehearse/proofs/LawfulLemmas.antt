@@ -1,6 +1,6 @@
 -- Every script that the grammar gives is lawful.
-use Rattle.std.proofs.Common.{◌≡◌, ◌≢◌, ℕ, zero, suc, ◌+◌, ◌<◌, ◌≤◌, ℤ, pos, negsuc, ◌-ℤ◌, ◌≤ℤ◌, Bool, true, false, not, ◌&&◌, ◌||◌, ◌==◌, refl, List, [], ◌∷◌, ◌++◌, length, get_or, IfOk, Option, Some, None, Result, Ok, Err, arith}
-use Rattle.std.specs.List.{All, AllPairs, position_from, list_any, slice_split}
+use Rattle.std.proofs.Common.{◌≡◌, ◌≢◌, ℕ, suc, ◌+◌, ◌<◌, ◌≤◌, ℤ, pos, negsuc, ◌-ℤ◌, ◌≤ℤ◌, Bool, true, false, not, ◌||◌, ◌==◌, refl, List, [], ◌∷◌, ◌++◌, length, IfOk, Option, Some, None, Result, Ok, Err, arith}
+use Rattle.std.specs.List.{All, AllPairs, position_from, slice_split}
 use Rattle.std.specs.Option.{option_and_then, option_map}
 use Rattle.std.specs.Prelude.{nat_lt, if◌then◌else◌, slice_index_or, codes}
 use Rattle.ps_time.specs.Number.{decimal_of}
@@ -11,7 +11,7 @@ use Rattle.std.proofs.lemmas.List.Kept.{AllPairs-cons}
 use Rattle.std.proofs.lemmas.List.{length-append}
 use Rattle.std.proofs.lemmas.Slice.Eq.{bytes_eq-Decides}
 use Rattle.ps_time.specs.Name.{is_name}
-use Rattle.psched_rehearse.specs.Script.{need, check, within, number_of, priority_of, place_of, is_repeated, host_line, book_line, opens_other, is_skipped, line_by_word, line_of, with_line, lines_from, no_lines, script_of}
+use Rattle.psched_rehearse.specs.Script.{need, check, within, number_of, priority_of, place_of, is_repeated, host_line, book_line, opens_other, is_skipped, line_of, with_line, lines_from, no_lines}
 use Rattle.psched_rehearse.specs.Lawful.{IsLawfulHost, IsLawfulLine, FollowsHosts, hosts_after, DeclareInOrder, IsLawful}
 use Rattle.std.specs.Str.{bytes_eq, is_utf8}
 use Rattle.ps_time.specs.Class.{class_of_text}
@@ -23,8 +23,6 @@ use Rattle.psched_rehearse.specs.declared.script.Reason.TheVariants.{NotUtf8, Un
 use Rattle.psched_rehearse.specs.declared.script.Numbered.{Numbered}
 use Rattle.psched_rehearse.specs.declared.script.Script.{Script}
 use Rattle.psched_rehearse.specs.declared.script.TheConstants.{MAX_HOSTS}
-use Rattle.psched_rehearse.specs.declared.script.ScriptFault.{ScriptFault}
-use Rattle.psched_rehearse.specs.Read.{Reads}
 use Rattle.psched_rehearse.specs.Script.{go_on}
 use Rattle.psched_rehearse.specs.declared.script.ScriptHost.{ScriptHost}
 use Rattle.psched_rehearse.specs.declared.script.ScriptLine.{ScriptLine}

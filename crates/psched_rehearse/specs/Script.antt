@@ -10,7 +10,6 @@ use Rattle.psched_rehearse.specs.declared.read.Content.{Content}
 use Rattle.psched_rehearse.specs.declared.read.Content.TheVariants.{Nothing, NewHost, Event}
 use Rattle.psched_rehearse.specs.declared.script.TheConstants.{MAX_HOSTS}
 use Rattle.psched_rehearse.specs.declared.script.ScriptHost.{ScriptHost}
-use Rattle.psched_rehearse.specs.declared.script.ScriptLine.{ScriptLine}
 use Rattle.psched_rehearse.specs.declared.script.ScriptLine.TheVariants.{Host, Book}
 use Rattle.psched_rehearse.specs.declared.script.Script.{Script}
 use Rattle.psched_rehearse.specs.declared.script.Reason.{Reason}

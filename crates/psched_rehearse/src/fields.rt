@@ -1,5 +1,5 @@
 //! The fields of a line.
-ghost use Rattle.std.specs.Prelude.{◌≡◌, ◌<◌, ◌==◌, [], length, IfOk, slice_index_or};
+ghost use Rattle.std.specs.Prelude.{◌≡◌, ◌==◌, [], length, IfOk, slice_index_or};
 ghost use Rattle.std.specs.List.{slice_split};
 
 use ps_time::memory::Memory;
@@ -35,10 +35,14 @@ impl<'a> Fields<'a> {
         self.parts.len()
     }
 
-    pub fn at(&self, index: usize) -> &'a str
-        requires { index < length self.now }
-        ensures { result.now ≡ slice_index_or self.now index [] }
+    /// The field at this place, counted from 0; an empty one where there is none.
+    pub fn at(&self, place: usize) -> &'a str
+        ensures { result.now ≡ slice_index_or self.now place [] }
     {
-        self.parts[index]
+        if place < self.parts.len() {
+            self.parts[place]
+        } else {
+            ""
+        }
     }
 }

@@ -40,8 +40,8 @@ impl From<Memory> for ScriptFault {
 fn find_host(hosts: &[ScriptHost], name: &str) -> Option<usize>
     ensures { result ≡ place_of hosts.now name.now }
 {
-    for place in 0..hosts.len() {
-        if hosts[place].name.as_str() == name {
+    for (place, host) in hosts.iter().enumerate() {
+        if host.name.as_str() == name {
             return Some(place);
         }
     }
@@ -90,27 +90,15 @@ fn read_book(hosts: &[ScriptHost], fields: &Fields<'_>) -> Result<Content, Reaso
         return Err(Reason::WrongNumberOfFields);
     }
     let name = fields.at(1);
-    let Some(at) = read_number(fields.at(0), 0, MAX_MOMENT) else {
-        return Err(Reason::BadNumber);
-    };
-    let Some(priority) = read_priority(fields.at(4)) else {
-        return Err(Reason::BadNumber);
-    };
-    let Some(start) = read_number(fields.at(5), 0, MAX_MOMENT) else {
-        return Err(Reason::BadNumber);
-    };
-    let Some(length) = read_number(fields.at(6), 1, MAX_LENGTH) else {
-        return Err(Reason::BadNumber);
-    };
+    let at = read_number(fields.at(0), 0, MAX_MOMENT).ok_or(Reason::BadNumber)?;
+    let priority = read_priority(fields.at(4)).ok_or(Reason::BadNumber)?;
+    let start = read_number(fields.at(5), 0, MAX_MOMENT).ok_or(Reason::BadNumber)?;
+    let length = read_number(fields.at(6), 1, MAX_LENGTH).ok_or(Reason::BadNumber)?;
     if !is_host_name(name) {
         return Err(Reason::BadName);
     }
-    let Some(host) = find_host(hosts, name) else {
-        return Err(Reason::NoSuchHost);
-    };
-    let Some(class) = read_class(fields.at(3)) else {
-        return Err(Reason::BadClass);
-    };
+    let host = find_host(hosts, name).ok_or(Reason::NoSuchHost)?;
+    let class = read_class(fields.at(3)).ok_or(Reason::BadClass)?;
     Ok(Content::Event(ScriptLine::Book {
         at,
         host,
@@ -130,13 +118,14 @@ fn begins_other(word: &str) -> bool
 fn read_by_word(alloc: Global, hosts: &[ScriptHost], fields: &Fields<'_>) -> Read<Content>
     ensures { IfOk result (λ r. r ≡ line_by_word hosts.now fields.now) }
 {
-    if fields.len() > 0 && fields.at(0) == "host" {
+    let first = fields.at(0);
+    if first == "host" {
         return read_host(alloc, hosts, fields);
     }
-    if fields.len() > 0 && begins_other(fields.at(0)) {
+    if begins_other(first) {
         return Ok(Err(Reason::UnknownWord));
     }
-    if fields.len() > 2 && fields.at(2) == "book" {
+    if fields.at(2) == "book" {
         return Ok(read_book(hosts, fields));
     }
     Ok(Err(Reason::UnknownWord))

@@ -1,8 +1,8 @@
-use Rattle.std.proofs.Common.{◌≡◌, ◌==◌, ◌+◌, ◌<◌, ◌≤◌, length, Ok, Err, refl, ◌∙◌, sym, ap, rules, tests, arith}
+use Rattle.std.proofs.Common.{◌≡◌, ◌==◌, Ok, Err, refl, ◌∙◌, sym, ap, rules, tests, arith}
 use Rattle.std.proofs.lemmas.Iterator.Consumers.{YieldsList-at, YieldsList-turn, YieldsList-end}
 use Rattle.std.proofs.lemmas.Iterator.Splits.{YieldsList-from_slice_split}
 use Rattle.std.proofs.lemmas.List.{length-append}
-use Rattle.psched_rehearse.specs.Script.{line_of, lines_of, lines_from}
+use Rattle.psched_rehearse.specs.Script.{line_of, lines_of}
 use Rattle.psched_rehearse.proofs.LawfulLemmas.{lawful_read}
 use Rattle.psched_rehearse.proofs.LineLemmas.{lines_from-read, lines_from-refused, lines_from-end, length-lines_of}
 use Rattle.psched_rehearse.proofs.read.read_script.Goals as goal

@@ -1,8 +1,6 @@
 use Rattle.std.proofs.Common.{◌≡◌, ℤ, pos, ◌-ℤ◌, to_z, of_z, w16, Some, None, ◌∙◌, sym, ap, lit<, arith}
-use Rattle.std.specs.Option.{option_map}
 use Rattle.std.proofs.lemmas.Int.{ints}
 use Rattle.std.proofs.lemmas.Str.Pattern.{strip_prefix_char}
-use Rattle.psched_rehearse.specs.Script.{number_of, priority_of}
 use Rattle.psched_rehearse.proofs.TextLemmas.{priority_of-minus, priority_of-plain, signed}
 use Rattle.psched_rehearse.proofs.words.read_priority.Goals as goal
 
