@@ -31,11 +31,12 @@ abbrev pub hosts_after : ℕ → ScriptLine → ℕ
 hosts_after count (Host place) = count + 1
 hosts_after count (Book at host class priority start len) = count
 
--- so does each line after the first `count` hosts, until all are declared
+-- each line follows the hosts above it, from `count` on, until `all` are declared
 abbrev pub DeclareInOrder : ℕ → List Numbered → ℕ → Type 0
 DeclareInOrder count [] all = count ≡ all
 DeclareInOrder count (l ∷ ls) all = FollowsHosts count l.line × DeclareInOrder (hosts_after count l.line) ls all
 
+-- few hosts, all different, and lines that are lawful over them, in the order of their declaration
 pub record IsLawful (script : Script) : Type 0 where
   pub few : length script.hosts ≤ MAX_HOSTS
   pub hosts : All IsLawfulHost script.hosts
