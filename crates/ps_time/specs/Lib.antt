@@ -1,4 +1,5 @@
 pub mod Class
+pub mod Id
 pub mod Key
 pub mod Name
 pub mod Number

@@ -4,6 +4,7 @@
 pub mod asker;
 pub mod class;
 pub mod duplicate;
+pub mod id;
 pub mod interval;
 pub mod items;
 pub mod key;
@@ -12,5 +13,7 @@ pub mod moment;
 pub mod name;
 pub mod number;
 pub mod same;
+#[cfg(test)]
+mod tests;
 pub mod text;
 pub mod tiers;
