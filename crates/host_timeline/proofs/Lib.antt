@@ -1,0 +1,3 @@
+mod Free
+mod Least
+mod Place

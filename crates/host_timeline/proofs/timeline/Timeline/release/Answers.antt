@@ -1,0 +1,30 @@
+use Rattle.std.proofs.Common.{◌≡◌, refl, sym, ap}
+use Rattle.host_timeline.specs.Timeline.{Timeline, IsPlaceOf}
+use Rattle.host_timeline.proofs.Place.{find_place, release_place, book_after_release, find_gap, release_gap}
+use Rattle.host_timeline.proofs.timeline.Timeline.release.Goals as goal
+
+-- the booking at the place goes, and the order stays
+pub invariant_of-self : goal.invariant_of-self
+invariant_of-self c =
+    let seen : c.self.inside.bookings.items ≡ c.args.self.now.list = ap (λ (t : Timeline). t.list) c.self.view_is in
+    let place : IsPlaceOf c.self.inside.bookings.items c.args.key c.in-Ok.at = rw seen c.in-Ok.ensures.found in
+    rw c.remove.ensures.items (book_after_release _ c.self.invariant _ _ c.remove.result place)
+
+pub returns-in-Ok-clause-found : goal.returns-in-Ok-clause-found
+returns-in-Ok-clause-found c =
+    let seen : c.self.inside.bookings.items ≡ c.args.self.now.list = ap (λ (t : Timeline). t.list) c.self.view_is in
+    let place : IsPlaceOf c.self.inside.bookings.items c.args.key c.in-Ok.at = rw seen c.in-Ok.ensures.found in
+    rw (← seen, find_place _ c.self.invariant _ _ c.remove.result place) refl
+
+pub returns-in-Ok-clause-list : goal.returns-in-Ok-clause-list
+returns-in-Ok-clause-list c =
+    let seen : c.self.inside.bookings.items ≡ c.args.self.now.list = ap (λ (t : Timeline). t.list) c.self.view_is in
+    let place : IsPlaceOf c.self.inside.bookings.items c.args.key c.in-Ok.at = rw seen c.in-Ok.ensures.found in
+    rw (← seen, release_place _ c.self.invariant _ _ c.remove.result place) c.remove.ensures.items
+
+-- no booking has the key
+pub returns-in-Err-clause-found : goal.returns-in-Err-clause-found
+returns-in-Err-clause-found c = rw (find_gap _ _ _ c.in-Err.ensures.absent) refl
+
+pub returns-in-Err-clause-list : goal.returns-in-Err-clause-list
+returns-in-Err-clause-list c = sym (release_gap _ _ _ c.in-Err.ensures.absent)

@@ -1,0 +1,7 @@
+//! The reservations of a host: what conflicts with a run, what can be preempted, what stays.
+#![tactic(auto)]
+
+pub mod booking;
+#[cfg(test)]
+mod tests;
+pub mod timeline;
