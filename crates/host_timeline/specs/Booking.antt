@@ -44,3 +44,7 @@ lesser k (Some j) = if is_lt (key_cmp j k) then j else k
 abbrev pub least_key : List RunKey → Option RunKey
 least_key [] = None
 least_key (k ∷ ks) = Some (lesser k (least_key ks))
+
+-- the bookings without those in conflict with the run
+abbrev pub without_conflicts : Class → Span → List Booking → List Booking
+without_conflicts class interval bookings = filter (λ b. not (conflicts_with class interval b)) bookings

@@ -4,7 +4,7 @@ ghost use Rattle.std.specs.List.{list_all};
 ghost use Rattle.std.specs.Option.{is_none};
 ghost use Rattle.ps_time.specs.Key.{key_cmp};
 ghost use Rattle.ps_time.specs.Sorted.{IsAscending};
-ghost use Rattle.host_timeline.specs.Booking.{conflicting, can_preempt, firm, keys_of, least_key};
+ghost use Rattle.host_timeline.specs.Booking.{conflicting, can_preempt, firm, keys_of, least_key, without_conflicts};
 ghost use Rattle.host_timeline.specs.Timeline.{find_booking, with_booking, without_booking, with_started, IsAscendingBookings, IsConflictFree, IsPlaceOf, IsGapFor};
 
 use crate::booking::Booking;
@@ -127,6 +127,15 @@ impl Timeline {
             }
             Err(_) => false,
         }
+    }
+
+    /// Takes each booking in conflict with a run out; their places stay reserved.
+    pub fn release_conflicts(&mut self, class: Class, interval: &Interval)
+        ensures list { self.new.list ≡ without_conflicts class interval.now self.old.list }
+        ensures room { self.old.room ≤ self.new.room }
+    {
+        self.bookings
+            .retain(|booking| !booking.conflicts_with(class, interval));
     }
 
     /// Says that the run of a key was started, so that it can't be preempted. Nothing changes for a key that no booking has.

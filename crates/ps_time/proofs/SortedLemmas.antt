@@ -81,15 +81,18 @@ module _ {K X : Type 0} {cmp : K → K → Ordering} (o : IsTotalOrder cmp) (key
         | false ↦ all-filter P p xs all.1
       ]
 
-  -- the order stays where an item goes
-  pub ascending-without : (xs : List X) (k : K) → IsAscending cmp key xs → IsAscending cmp key (without_key cmp key xs k)
-  ascending-without [] k up = tt
-  ascending-without (x ∷ xs) k up =
-      let rest = without_key cmp key xs k in
-      elim (not (is_eq (cmp (key x) k))) as (λ b. IsAscending cmp key (cond b (x ∷ rest) rest)) [
-        | true ↦ (all-filter _ _ xs up.0, ascending-without xs k up.1)
-        | false ↦ ascending-without xs k up.1
+  -- the order stays where items go
+  pub ascending-filter : (p : X → Bool) (xs : List X) → IsAscending cmp key xs → IsAscending cmp key (filter p xs)
+  ascending-filter p [] up = tt
+  ascending-filter p (x ∷ xs) up =
+      let rest = filter p xs in
+      elim (p x) as (λ b. IsAscending cmp key (cond b (x ∷ rest) rest)) [
+        | true ↦ (all-filter _ p xs up.0, ascending-filter p xs up.1)
+        | false ↦ ascending-filter p xs up.1
       ]
+
+  pub ascending-without : (xs : List X) (k : K) → IsAscending cmp key xs → IsAscending cmp key (without_key cmp key xs k)
+  ascending-without xs k up = ascending-filter (λ x. not (is_eq (cmp (key x) k))) xs up
 
   -- what holds of every item and of the new one holds after it has come
   all-insert : (P : X → Type 0) (xs : List X) (y : X) → AllByRecursion P xs → P y → AllByRecursion P (insert_key cmp key xs y)
@@ -141,7 +144,7 @@ module _ {K X : Type 0} {cmp : K → K → Ordering} (o : IsTotalOrder cmp) (key
       (all-map (λ y. cmp (key (f x)) (key y) ≡ Less) f (λ y less. rw (same y) less) xs below, ascending-map f same xs up.1)
 
   -- an item whose key is below all others goes to the front
-  insert_front : (xs : List X) (y : X) → AllByRecursion (λ z. cmp (key y) (key z) ≡ Less) xs → insert_key cmp key xs y ≡ y ∷ xs
+  pub insert_front : (xs : List X) (y : X) → AllByRecursion (λ z. cmp (key y) (key z) ≡ Less) xs → insert_key cmp key xs y ≡ y ∷ xs
   insert_front [] y all = refl
   insert_front (z ∷ zs) y all = rw (o.antisymm (key z) (key y), all.0) refl
 

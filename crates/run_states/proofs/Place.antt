@@ -1,5 +1,5 @@
 -- What a search finds among rows, and what an edit at that place does.
-use Rattle.std.proofs.Common.{◌≡◌, ℕ, List, length, get_or, set, Result, Ok, Err, IfOk, IfErr, Option, Some, None, map, refl}
+use Rattle.std.proofs.Common.{◌≡◌, ℕ, List, length, get_or, set, Result, Ok, Err, IfOk, IfErr, Option, Some, None, map, refl, true, false, cond}
 use Rattle.std.specs.List.{insert, remove}
 use Rattle.std.specs.List.Sorted.{IsSearchInRange, IsBinarySearchResult}
 use Rattle.ps_time.specs.declared.key.RunKey.{RunKey}
@@ -8,7 +8,11 @@ use Rattle.run_states.specs.declared.why.Closing.{Closing}
 use Rattle.ps_time.specs.Key.{key_cmp}
 use Rattle.run_states.specs.declared.life.LifeStep.{LifeStep}
 use Rattle.run_states.specs.declared.life.LifeStep.TheVariants.{Confirm, Start, End, Close}
-use Rattle.run_states.specs.Life.{closed_by, lapse_of, marked_row, settled_row}
+use Rattle.run_states.specs.declared.why.Why.TheVariants.{Preempted}
+use Rattle.ps_time.specs.declared.class.Class.{Class}
+use Rattle.ps_time.specs.Span.{Span}
+use Rattle.run_states.specs.Conflict.{in_conflict, preempted_row}
+use Rattle.run_states.specs.Life.{close_row, closed_by, lapse_of, marked_row, settled_row}
 use Rattle.ps_time.proofs.KeyLemmas.{key_cmp_total}
 use Rattle.ps_time.proofs.SortedLemmas.{searchable, find_in_gap, insert_in_gap, find_at, without_at, without_in_gap, ascending-without, ascending-insert, ascending-map, set_changes, ascending-change, change_in_gap}
 use Rattle.run_states.specs.Rows.{find_row, put_row, lift_row, change_row, IsAscendingRows, IsPlaceOf, IsGapFor}
@@ -46,6 +50,13 @@ closed_key (Some c) row = refl
 
 pub ascending_settled : (m : ℕ) (rows : List RunRow) → IsAscendingRows rows → IsAscendingRows (map (settled_row m) rows)
 ascending_settled m rows up = ascending-map key_cmp_total (λ r. r.key) (settled_row m) (λ row. closed_key (lapse_of m row) row) rows up
+
+-- and so does giving way
+pub preempted_key : (m : ℕ) (key : RunKey) (class : Class) (interval : Span) (row : RunRow) → (preempted_row m key class interval row).key ≡ row.key
+preempted_key m key class interval row = elim (in_conflict class interval row) as (λ b. (cond b (close_row (record { moment = m; why = Preempted key }) row) row).key ≡ row.key) [ true ↦ refl | false ↦ refl ]
+
+pub ascending_preempted : (m : ℕ) (key : RunKey) (class : Class) (interval : Span) (rows : List RunRow) → IsAscendingRows rows → IsAscendingRows (map (preempted_row m key class interval) rows)
+ascending_preempted m key class interval rows up = ascending-map key_cmp_total (λ r. r.key) (preempted_row m key class interval) (preempted_key m key class interval) rows up
 
 module _ (f : RunRow → RunRow) (rows : List RunRow) (k : RunKey) where
   -- a write over the row that has the key changes that row alone

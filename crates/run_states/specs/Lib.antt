@@ -1,3 +1,4 @@
+pub mod Conflict
 pub mod Life
 pub mod Rows
 pub mod State

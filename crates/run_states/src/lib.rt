@@ -2,6 +2,7 @@
 #![tactic(auto)]
 
 pub mod answer;
+pub mod conflict;
 pub mod life;
 pub mod proposal;
 pub mod row;

@@ -1,0 +1,5 @@
+pub mod Book
+pub mod Booking
+pub mod Change
+pub mod Reservations
+pub mod Step
