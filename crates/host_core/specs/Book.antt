@@ -8,6 +8,8 @@ use Rattle.run_states.specs.Rows.{find_row}
 use Rattle.host_core.specs.declared.change.Change.{Change}
 use Rattle.host_core.specs.declared.change.Change.TheVariants.{Accepted, Confirmed}
 use Rattle.host_core.specs.declared.change.Changes.{Changes}
+use Rattle.host_core.specs.declared.step.Input.{Input}
+use Rattle.host_core.specs.declared.step.Input.TheVariants.{Book as BookInput}
 use Rattle.host_core.specs.Change.{apply, apply_all}
 
 pub record Book : Type 0 where
@@ -36,11 +38,6 @@ book_after b changes = after changes.list
     after [] = b
     after (c ∷ cs) = record { moment = changes.moment; rows = apply_all changes.moment (c ∷ cs) (settled_rows changes.moment b.rows) }
 
--- the book has only moments and lengths in bounds
-pub record IsLawful (b : Book) : Type 0 where
-  pub moment : b.moment ≤ MAX_MOMENT
-  pub rows : All HasMoments b.rows
-
 -- a change may come next, over these rows
 abbrev pub CanApply : ℕ → List RunRow → Change → Type 0
 CanApply m rows (Accepted p participants) =
@@ -62,3 +59,7 @@ abbrev pub added : List Change → ℕ
 added [] = 0
 added (Accepted p participants ∷ cs) = added cs + 1
 added (Confirmed k ∷ cs) = added cs
+
+-- what is asked has its moments and lengths in bounds
+abbrev pub IsInBounds : Input → Type 0
+IsInBounds (BookInput class priority start len) = (start ≤ MAX_MOMENT) × (1 ≤ len) × (len ≤ MAX_LENGTH)

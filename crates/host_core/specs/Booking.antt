@@ -1,5 +1,5 @@
 -- A booking: a run of a host for itself, and whether it fits.
-use Rattle.std.specs.Prelude.{ℕ, ℤ, ◌+◌, Bool, not, ◌&&◌, ◌==◌, nat_lt, nat_le, max, List, [], ◌∷◌, length, find, map, filter, Option, Some, None, is_some, is_none, option_map, if◌then◌else◌, codes}
+use Rattle.std.specs.Prelude.{ℕ, ℤ, ◌+◌, Bool, false, not, ◌&&◌, ◌==◌, nat_lt, nat_le, max, List, [], ◌∷◌, length, find, map, filter, Option, Some, None, is_some, Result, Ok, Err, if◌then◌else◌, codes}
 use Rattle.std.specs.Ordering.{is_lt, int_cmp}
 use Rattle.ps_time.specs.Span.{Span, span_of}
 use Rattle.ps_time.specs.declared.class.Class.{Class}
@@ -16,7 +16,7 @@ use Rattle.run_states.specs.declared.row.RunRow.{RunRow}
 use Rattle.run_states.specs.declared.why.Denial.{Denial}
 use Rattle.run_states.specs.declared.why.Denial.TheVariants.{Past, Conflict, Full}
 use Rattle.run_states.specs.declared.why.What.TheVariants.{Runs}
-use Rattle.host_core.specs.Change.{in_conflict}
+use Rattle.run_states.specs.Conflict.{in_conflict}
 
 -- the greatest number of the host's own bookings, which have task 0; 0 where there is none
 abbrev pub last_number : ℕ → List RunRow → ℕ
@@ -58,28 +58,33 @@ starts_after m (Some s) = nat_lt m s.start
 abbrev pub yields : ℤ → ℕ → RunRow → Bool
 yields priority m r = is_lt (int_cmp r.priority priority) && (not (is_some r.started) && starts_after (m + 10) r.interval)
 
--- the booked rows in conflict with the proposal, and the first of them, in the order of keys, that it can't preempt
-abbrev pub conflicts : Proposal → List RunRow → List RunRow
-conflicts p rows = filter (in_conflict (test_class p.test) (span_of p.start (test_length p.test))) rows
-
-abbrev pub firm_conflict : ℕ → Proposal → List RunRow → Option RunRow
-firm_conflict m p rows = find (λ r. not (yields p.priority m r)) (conflicts p rows)
-
--- the most rows that a book has
-abbrev pub MOST_RUNS : ℕ
-MOST_RUNS = 50000
-
--- why the proposal doesn't fit into these rows, settled at m: the first reason that applies
-abbrev pub refusal : ℕ → List RunRow → Proposal → Option Denial
-refusal m rows p = if nat_lt p.start m then Some (Past m p.start) else unless (firm_conflict m p rows)
-  where
-    unless : Option RunRow → Option Denial
-    unless (Some r) = Some (Conflict r.key)
-    unless None = if nat_le MOST_RUNS (length rows) then Some (Full Runs (length rows)) else None
-
--- a proposal fits where nothing speaks against it
-abbrev pub fits : ℕ → List RunRow → Proposal → Bool
-fits m rows p = is_none (refusal m rows p)
+-- the booked rows in conflict with a run of this class and interval
+abbrev pub conflicts : Class → Span → List RunRow → List RunRow
+conflicts class interval rows = filter (in_conflict class interval) rows
 
 abbrev pub keys_of_rows : List RunRow → List RunKey
 keys_of_rows rows = map (λ r. r.key) rows
+
+-- the keys of the conflicts where each can be preempted at m, or the first, in the order of keys, that can't
+abbrev pub sorted_conflicts : ℤ → ℕ → List RunRow → Result (List RunKey) RunKey
+sorted_conflicts priority m rows = unless (find (λ r. not (yields priority m r)) rows)
+  where
+    unless : Option RunRow → Result (List RunKey) RunKey
+    unless (Some r) = Err r.key
+    unless None = Ok (keys_of_rows rows)
+
+-- the run preempts these, or can't preempt this one
+abbrev pub preempted_by : Proposal → ℕ → List RunRow → Result (List RunKey) RunKey
+preempted_by p m rows = sorted_conflicts p.priority m (conflicts (test_class p.test) (span_of p.start (test_length p.test)) rows)
+
+-- the most rows that a book has
+abbrev pub most_runs : ℕ
+most_runs = 50000
+
+-- whether the proposal fits into these rows, settled at m: the keys of those that it preempts, or the first reason that speaks against it
+abbrev pub fitted : ℕ → List RunRow → Proposal → Result (List RunKey) Denial
+fitted m rows p = if nat_lt p.start m then Err (Past m p.start) else with_conflicts (preempted_by p m rows)
+  where
+    with_conflicts : Result (List RunKey) RunKey → Result (List RunKey) Denial
+    with_conflicts (Err key) = Err (Conflict key)
+    with_conflicts (Ok keys) = if nat_le most_runs (length rows) then Err (Full Runs (length rows)) else Ok keys

@@ -1,7 +1,6 @@
 -- What a change does to the rows of a book. Each moment of a row is set once: `first` keeps what stands.
 use Rattle.std.specs.Prelude.{ℕ, Bool, true, false, ◌&&◌, List, [], ◌∷◌, map, Option, Some, None, is_some, if◌then◌else◌}
 use Rattle.std.specs.Ordering.{is_eq}
-use Rattle.ps_time.specs.Class.{clash}
 use Rattle.ps_time.specs.Key.{key_cmp}
 use Rattle.ps_time.specs.Span.{Span, span_of}
 use Rattle.ps_time.specs.declared.class.Class.{Class}
@@ -9,8 +8,8 @@ use Rattle.ps_time.specs.declared.key.RunKey.{RunKey}
 use Rattle.plugin_core.specs.TestSpec.{test_class, test_length}
 use Rattle.run_states.specs.declared.proposal.Proposal.{Proposal}
 use Rattle.run_states.specs.declared.row.RunRow.{RunRow}
-use Rattle.run_states.specs.declared.why.Why.TheVariants.{Preempted}
-use Rattle.run_states.specs.Life.{is_booked, close_row, confirm_row}
+use Rattle.run_states.specs.Conflict.{preempted_row}
+use Rattle.run_states.specs.Life.{confirm_row}
 use Rattle.run_states.specs.Rows.{find_row, put_row}
 use Rattle.host_core.specs.declared.change.Change.{Change}
 use Rattle.host_core.specs.declared.change.Change.TheVariants.{Accepted, Confirmed}
@@ -66,18 +65,9 @@ abbrev pub incoming : Change → Option Incoming
 incoming (Accepted p participants) = Some (record { key = p.key; class = test_class p.test; interval = span_of p.start (test_length p.test) })
 incoming (Confirmed k) = None
 
--- the reservation of the row, if it has one, conflicts with a run of this class and interval
-abbrev pub clashes : Class → Span → Class → Option Span → Bool
-clashes class interval other None = false
-clashes class interval other (Some s) = clash class interval other s
-
--- the row is booked and in conflict with a run of this class and interval
-abbrev pub in_conflict : Class → Span → RunRow → Bool
-in_conflict class interval r = is_booked r && clashes class interval (test_class r.test) r.interval
-
 abbrev pub give_way : ℕ → Option Incoming → RunRow → RunRow
 give_way m None r = r
-give_way m (Some i) r = if in_conflict i.class i.interval r then close_row (record { moment = m; why = Preempted i.key }) r else r
+give_way m (Some i) r = preempted_row m i.key i.class i.interval r
 
 -- a new row goes to its place, unless its key is there
 abbrev pub put_new : Option RunRow → List RunRow → List RunRow

@@ -2,4 +2,5 @@ pub mod Book
 pub mod Booking
 pub mod Change
 pub mod Reservations
+pub mod Sound
 pub mod Step

@@ -1,5 +1,5 @@
 -- The reservations for which the rows of a book stand.
-use Rattle.std.specs.Prelude.{◌≡◌, ◌×◌, ℕ, ℤ, Bool, not, List, [], ◌∷◌, ◌++◌, map, filter, Option, Some, None, is_some, Result, Ok, Err, if◌then◌else◌, All}
+use Rattle.std.specs.Prelude.{◌≡◌, ℕ, ℤ, Bool, not, List, [], ◌∷◌, ◌++◌, map, filter, Option, Some, None, is_some, Result, Ok, Err, if◌then◌else◌, All}
 use Rattle.ps_time.specs.Span.{Span}
 use Rattle.ps_time.specs.declared.key.RunKey.{RunKey}
 use Rattle.plugin_core.specs.TestSpec.{test_class}
@@ -8,6 +8,7 @@ use Rattle.run_states.specs.Life.{is_booked, lapse_of}
 use Rattle.run_states.specs.Rows.{find_row}
 use Rattle.host_timeline.specs.declared.booking.Booking.{Booking}
 use Rattle.host_timeline.specs.Booking.{firm_from_of}
+use Rattle.host_timeline.specs.Timeline.{without_booking}
 use Rattle.host_core.specs.Booking.{yields}
 
 -- what a row with this interval reserves
@@ -38,10 +39,15 @@ abbrev pub lapses : ℕ → RunRow → Bool
 lapses m r = is_some (lapse_of m r)
 
 -- keys of rows in conflict, one after the other: those that can be preempted, or the first that can't; a row that lapses by m doesn't count
+abbrev pub sort_one : ℤ → ℕ → RunKey → Option RunRow → List RunKey → (List RunKey → Result (List RunKey) RunKey) → Result (List RunKey) RunKey
+sort_one priority m k None done next = next done
+sort_one priority m k (Some r) done next = if lapses m r then next done else (if yields priority m r then next (done ++ k ∷ []) else Err k)
+
 abbrev pub sorted_out : ℤ → ℕ → List RunRow → List RunKey → List RunKey → Result (List RunKey) RunKey
 sorted_out priority m rows done [] = Ok done
-sorted_out priority m rows done (k ∷ ks) = at (find_row rows k)
-  where
-    at : Option RunRow → Result (List RunKey) RunKey
-    at None = sorted_out priority m rows done ks
-    at (Some r) = if lapses m r then sorted_out priority m rows done ks else (if yields priority m r then sorted_out priority m rows (done ++ k ∷ []) ks else Err k)
+sorted_out priority m rows done (k ∷ ks) = sort_one priority m k (find_row rows k) done (λ more. sorted_out priority m rows more ks)
+
+-- the reservations without those of the rows that lapse by m
+abbrev pub released : ℕ → List RunRow → List Booking → List Booking
+released m [] bs = bs
+released m (r ∷ rs) bs = released m rs (if lapses m r then without_booking bs r.key else bs)

@@ -6,7 +6,8 @@ use Rattle.run_states.specs.Life.{HasMoments}
 use Rattle.host_timeline.specs.declared.booking.Booking.{Booking}
 use Rattle.host_core.specs.Reservations.{bookings_of}
 
-pub record IsSound (moment : ℕ) (rows : List RunRow) (bookings : List Booking) : Type 0 where
-  pub moment : moment ≤ MAX_MOMENT
-  pub rows : All HasMoments rows
+-- moments are in bounds, and the reservations are those of the rows
+pub record IsSound (m : ℕ) (rows : List RunRow) (bookings : List Booking) : Type 0 where
+  pub moment : m ≤ MAX_MOMENT
+  pub moments : All HasMoments rows
   pub index : bookings ≡ bookings_of rows

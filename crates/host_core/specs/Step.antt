@@ -1,6 +1,7 @@
 -- One step of a host: its reply and its changes, read off the settled book.
-use Rattle.std.specs.Prelude.{ℕ, ℤ, ◌+◌, ◌==◌, List, [], ◌∷◌, Option, Some, None, if◌then◌else◌}
+use Rattle.std.specs.Prelude.{ℕ, ℤ, ◌+◌, ◌==◌, List, [], ◌∷◌, Result, Ok, Err, if◌then◌else◌}
 use Rattle.ps_time.specs.declared.class.Class.{Class}
+use Rattle.ps_time.specs.declared.key.RunKey.{RunKey}
 use Rattle.run_states.specs.Life.{settled_rows}
 use Rattle.run_states.specs.declared.proposal.Proposal.{Proposal}
 use Rattle.run_states.specs.declared.row.RunRow.{RunRow}
@@ -13,39 +14,30 @@ use Rattle.host_core.specs.declared.change.Change.TheVariants.{Accepted, Confirm
 use Rattle.host_core.specs.declared.change.Changes.{Changes}
 use Rattle.host_core.specs.declared.step.Input.{Input}
 use Rattle.host_core.specs.declared.step.Input.TheVariants.{Book as BookInput}
+use Rattle.host_core.specs.declared.step.Outcome.{Outcome}
 use Rattle.host_core.specs.declared.step.Reply.{Reply}
 use Rattle.host_core.specs.declared.step.Reply.TheVariants.{Booked, Denied}
 use Rattle.host_core.specs.Book.{Book, moment_at, book_after}
-use Rattle.host_core.specs.Booking.{last_number, booking, conflicts, refusal, keys_of_rows}
+use Rattle.host_core.specs.Booking.{last_number, booking, fitted}
 
 -- the last number that a booking can have
-abbrev pub LAST_NUMBER : ℕ
-LAST_NUMBER = 4294967295
-
--- what a step answers and changes
-pub record Outcome : Type 0 where
-  pub reply : Reply
-  pub list : List Change
+abbrev pub last_booking : ℕ
+last_booking = 4294967295
 
 abbrev pub denied : Denial → Outcome
 denied d = record { reply = Denied d; list = [] }
 
--- a booking is accepted and confirmed at once
-abbrev pub booked : Config → List RunRow → Proposal → Outcome
-booked c rows p = record { reply = Booked p.key (keys_of_rows (conflicts p rows)); list = Accepted p (c.name ∷ []) ∷ Confirmed p.key ∷ [] }
-
-abbrev pub unless_denied : Option Denial → Outcome → Outcome
-unless_denied (Some d) outcome = denied d
-unless_denied None outcome = outcome
-
-abbrev pub decided_booking : Config → ℕ → List RunRow → Proposal → Outcome
-decided_booking c m rows p = unless_denied (refusal m rows p) (booked c rows p)
+-- a booking that fits is accepted and confirmed at once
+abbrev pub decided_booking : Config → Proposal → Result (List RunKey) Denial → Outcome
+decided_booking c p (Err d) = denied d
+decided_booking c p (Ok keys) = record { reply = Booked p.key keys; list = Accepted p (c.name ∷ []) ∷ Confirmed p.key ∷ [] }
 
 -- its number is one more than the greatest; after the last there is none
 abbrev pub outcome_of_booking : Config → ℕ → List RunRow → Class → ℤ → ℕ → ℕ → Outcome
 outcome_of_booking c m rows class priority start len =
     let last = last_number c.number rows in
-    if last == LAST_NUMBER then denied (Full Numbers last) else decided_booking c m rows (booking c.number c.name (last + 1) class priority start len)
+    let p = booking c.number c.name (last + 1) class priority start len in
+    if last == last_booking then denied (Full Numbers last) else decided_booking c p (fitted m rows p)
 
 -- over rows that are settled at m
 abbrev pub outcome_of : Config → ℕ → List RunRow → Input → Outcome

@@ -21,6 +21,15 @@ const OWN_ADDRESS: &str = "127.0.0.1";
 /// How long before its start a run is on deck and can't be preempted any more, in seconds.
 const DECK: u64 = 10;
 
+/// What a booking asks for.
+#[derive(Clone, Copy, Debug, PartialEq, Eq)]
+pub(crate) struct Wish {
+    pub(crate) class: Class,
+    pub(crate) priority: i16,
+    pub(crate) start: Moment,
+    pub(crate) length: Length,
+}
+
 /// The greatest number of this host's bookings; 0 where it has none.
 pub(crate) fn last_number(rows: &[RunRow], host: u16) -> u32
     ensures { result ≡ last_number host rows.now }
@@ -102,18 +111,15 @@ pub(crate) fn booking(
     alloc: Global,
     config: &Config,
     number: u32,
-    class: Class,
-    priority: i16,
-    start: Moment,
-    length: Length,
+    wish: Wish,
 ) -> Result<Proposal, Memory>
-    ensures { IfOk result (λ p. p ≡ booking config.now.number config.now.name number class priority start length) }
+    ensures { IfOk result (λ p. p ≡ booking config.now.number config.now.name number wish.class wish.priority wish.start wish.length) }
 {
     let asker = Asker {
         requester: Text::new(alloc, OWN_ADDRESS)?,
         server: config.name.copy(alloc)?,
     };
-    let tool = Text::new(alloc, tool_name(booking_tool(class)))?;
+    let tool = Text::new(alloc, tool_name(booking_tool(wish.class)))?;
     Ok(Proposal {
         key: RunKey {
             lead: config.number,
@@ -121,10 +127,10 @@ pub(crate) fn booking(
             number,
             attempt: 0,
         },
-        test: booking_test(alloc, &config.name, class, length)?,
+        test: booking_test(alloc, &config.name, wish.class, wish.length)?,
         tool,
-        start,
-        priority,
+        start: wish.start,
+        priority: wish.priority,
         asker,
     })
 }

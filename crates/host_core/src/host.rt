@@ -1,21 +1,24 @@
 //! A host: its book, kept so that a step costs what it touches.
-ghost use Rattle.std.specs.Prelude.{◌≡◌, ◌≤◌, ◌<◌, ◌+◌, ◌×◌, ℕ, List, [], All, IfOk, OnOk, OnErr, Some};
+ghost use Rattle.std.specs.Prelude.{◌≡◌, ◌≤◌, ◌<◌, ◌+◌, ℕ, List, [], ◌∷◌, All, IfOk, OnOk, OnErr, Some, Ok};
+ghost use Rattle.ps_time.specs.Span.{span_of};
 ghost use Rattle.ps_time.specs.declared.moment.TheConstants.{MAX_MOMENT, MAX_LENGTH};
+ghost use Rattle.plugin_core.specs.TestSpec.{test_length};
 ghost use Rattle.run_states.specs.Life.{settled_rows, HasMoments};
-ghost use Rattle.run_states.specs.Rows.{IsAscendingRows};
 ghost use Rattle.host_core.specs.Book.{Book, MayFollow, CanApply, IsInBounds, empty_book, book_after, added};
-ghost use Rattle.host_core.specs.Change.{apply, apply_all};
-ghost use Rattle.host_core.specs.Reservations.{bookings_of, lapses, sorted_out, released};
-ghost use Rattle.host_core.specs.Step.{step_reply, step_changes, step_book};
-ghost use Rattle.host_core.specs.declared.change.Change.TheVariants.{Accepted as AcceptedChange, Confirmed as ConfirmedChange};
+ghost use Rattle.host_core.specs.Booking.{conflicts, fitted, sorted_conflicts};
+ghost use Rattle.host_core.specs.Change.{apply, accepted_row};
+ghost use Rattle.host_core.specs.Reservations.{released, sorted_out};
+ghost use Rattle.host_core.specs.Step.{denied, decided_booking, outcome_of_booking, step_reply, step_changes, step_book};
+ghost use Rattle.host_core.specs.declared.change.Change.TheVariants.{Accepted as AcceptedChange};
 
-use crate::booking::{booking, last_number, yields};
+use crate::booking::{booking, last_number, yields, Wish};
 use crate::change::{Change, Changes};
 use crate::config::Config;
-use crate::step::{Input, Reply};
+use crate::step::{Input, Outcome, Reply};
 use host_timeline::booking::{firm_from, Booking};
 use host_timeline::timeline::Timeline;
 use plugin_core::test_spec::{class_of, length_of};
+use ps_time::class::Class;
 use ps_time::interval::Interval;
 use ps_time::items::Items;
 use ps_time::key::RunKey;
@@ -95,14 +98,26 @@ impl Host {
         ensures may_follow { IfOk result (λ r. MayFollow self.now.book r.1) }
     {
         let moment = self.moment.max(clock);
-        match input {
+        let outcome = match input {
             Input::Book {
                 class,
                 priority,
                 start,
                 length,
-            } => self.decide_booking(alloc, config, moment, class, priority, start, length),
-        }
+            } => self.decide_booking(
+                alloc,
+                config,
+                moment,
+                Wish {
+                    class,
+                    priority,
+                    start,
+                    length,
+                },
+            )?,
+        };
+        let Outcome { reply, list } = outcome;
+        Ok((reply, Changes { moment, list }))
     }
 
     /// Makes room for changes, so that they can be absorbed.
@@ -120,8 +135,8 @@ impl Host {
         self.timeline.reserve(count)
     }
 
-    /// Makes the changes. They were decided over this book, or may follow it.
-    pub fn absorb(&mut self, changes: Changes)
+    /// Makes the changes, which were decided over this book or may follow it. Takes no memory.
+    pub fn absorb(&mut self, alloc: Global, changes: Changes)
         requires room { added changes.list ≤ self.old.room }
         requires may_follow { MayFollow self.old.book changes }
         ensures book { self.new.book ≡ book_after self.old.book changes }
@@ -133,7 +148,7 @@ impl Host {
         }
         self.settle(moment);
         for change in list.into_vec() {
-            self.make(moment, change);
+            self.make(alloc, moment, change);
         }
         self.moment = moment;
     }
@@ -154,7 +169,244 @@ impl Host {
     {
         let (reply, changes) = self.decide(alloc, config, clock, input)?;
         self.reserve(&changes)?;
-        self.absorb(changes);
+        self.absorb(alloc, changes);
         Ok(reply)
+    }
+
+    // A booking gets the next number.
+    fn decide_booking(
+        &self,
+        alloc: Global,
+        config: &Config,
+        moment: Moment,
+        wish: Wish,
+    ) -> Result<Outcome, Memory>
+        requires moment { moment ≤ MAX_MOMENT }
+        requires bounds { (wish.start ≤ MAX_MOMENT) × (1 ≤ wish.length) × (wish.length ≤ MAX_LENGTH) }
+        ensures { IfOk result (λ o. o ≡ outcome_of_booking config.now moment (settled_rows moment self.now.book.rows) wish.class wish.priority wish.start wish.length) }
+    {
+        let last = last_number(self.rows.list(), config.number);
+        if last == u32::MAX {
+            return Ok(denied(alloc, Denial::Full(What::Numbers, u64::from(last))));
+        }
+        let proposal = booking(alloc, config, last + 1, wish)?;
+        match self.fit(alloc, moment, &proposal)? {
+            Err(denial) => Ok(denied(alloc, denial)),
+            Ok(preempted) => booked(alloc, config, proposal, preempted),
+        }
+    }
+
+    // Whether the proposal fits: the keys of the rows that it preempts, or the first reason against it.
+    fn fit(&self, alloc: Global, moment: Moment, proposal: &Proposal) -> Result<Result<Items<RunKey>, Denial>, Memory>
+        requires moment { moment ≤ MAX_MOMENT }
+        requires bounds { (proposal.now.start ≤ MAX_MOMENT) × (1 ≤ test_length proposal.now.test) × (test_length proposal.now.test ≤ MAX_LENGTH) }
+        ensures { IfOk result (λ r. r ≡ fitted moment (settled_rows moment self.now.book.rows) proposal.now) }
+    {
+        if proposal.start < moment {
+            return Ok(Err(Denial::Past(moment, proposal.start)));
+        }
+        let class = class_of(&proposal.test);
+        let interval = interval_of(proposal);
+        let rows = self.rows.list().len();
+        match self.sort_conflicts(alloc, class, &interval, proposal.priority, moment)? {
+            Err(key) => Ok(Err(Denial::Conflict(key))),
+            Ok(_) if MOST_RUNS <= rows => Ok(Err(Denial::Full(What::Runs, rows as u64))),
+            Ok(preempted) => Ok(Ok(preempted)),
+        }
+    }
+
+    // The keys of the rows that a run would preempt, or the first that it can't preempt.
+    fn sort_conflicts(
+        &self,
+        alloc: Global,
+        class: Class,
+        interval: &Interval,
+        priority: i16,
+        moment: Moment,
+    ) -> Result<Result<Items<RunKey>, RunKey>, Memory>
+        requires { moment ≤ MAX_MOMENT }
+        ensures { IfOk result (λ r. r ≡ sorted_conflicts priority moment (conflicts class interval.now (settled_rows moment self.now.book.rows))) }
+    {
+        let keys = self.timeline.conflicts(alloc, class, interval)?;
+        sort_out(alloc, &self.rows, keys.as_slice(), priority, moment)
+    }
+
+    // Closes what lapses by the moment.
+    fn settle(&mut self, moment: Moment)
+        requires { moment ≤ MAX_MOMENT }
+        ensures moment { self.new.book.moment ≡ self.old.book.moment }
+        ensures rows { self.new.book.rows ≡ settled_rows moment self.old.book.rows }
+        ensures room { self.old.room ≤ self.new.room }
+    {
+        release_lapsed(&mut self.timeline, self.rows.list(), moment);
+        self.rows.settle(moment);
+    }
+
+    // Makes one change at the moment.
+    fn make(&mut self, alloc: Global, moment: Moment, change: Change)
+        requires moment { moment ≤ MAX_MOMENT }
+        requires room { added (change ∷ []) ≤ self.old.room }
+        requires can { CanApply moment self.old.book.rows change }
+        ensures moment { self.new.book.moment ≡ self.old.book.moment }
+        ensures rows { self.new.book.rows ≡ apply moment change self.old.book.rows }
+        ensures room { self.old.room ≤ self.new.room + added (change ∷ []) }
+    {
+        match change {
+            Change::Accepted {
+                proposal,
+                participants,
+            } => self.accept(alloc, moment, proposal, participants),
+            Change::Confirmed(key) => self.rows.confirm(key, moment),
+        }
+    }
+
+    fn accept(
+        &mut self,
+        alloc: Global,
+        moment: Moment,
+        proposal: Proposal,
+        participants: Items<Text>,
+    )
+        requires moment { moment ≤ MAX_MOMENT }
+        requires room { 0 < self.old.room }
+        requires can { CanApply moment self.old.book.rows (AcceptedChange proposal participants) }
+        ensures moment { self.new.book.moment ≡ self.old.book.moment }
+        ensures rows { self.new.book.rows ≡ apply moment (AcceptedChange proposal participants) self.old.book.rows }
+        ensures room { self.old.room ≤ self.new.room + 1 }
+    {
+        let class = class_of(&proposal.test);
+        let interval = interval_of(&proposal);
+        self.rows.preempt(proposal.key, class, &interval, moment);
+        self.timeline.release_conflicts(class, &interval);
+        self.timeline.book(Booking {
+            key: proposal.key,
+            class,
+            interval,
+            priority: proposal.priority,
+            firm_from: firm_from(interval.start, false),
+        });
+        self.rows
+            .put(accepted_row(alloc, moment, proposal, participants, interval));
+    }
+}
+
+fn denied(alloc: Global, denial: Denial) -> Outcome
+    ensures { result ≡ denied denial }
+{
+    Outcome {
+        reply: Reply::Denied(denial),
+        list: Items::new(alloc),
+    }
+}
+
+fn booked(
+    alloc: Global,
+    config: &Config,
+    proposal: Proposal,
+    preempted: Items<RunKey>,
+) -> Result<Outcome, Memory>
+    ensures { IfOk result (λ o. o ≡ decided_booking config.now proposal (Ok preempted)) }
+{
+    let key = proposal.key;
+    let mut participants = Items::new(alloc);
+    participants.push(config.name.copy(alloc)?)?;
+    let mut list = Items::new(alloc);
+    list.push(Change::Accepted {
+        proposal,
+        participants,
+    })?;
+    list.push(Change::Confirmed(key))?;
+    let reply = Reply::Booked { key, preempted };
+    Ok(Outcome { reply, list })
+}
+
+/// What the proposed run reserves.
+fn interval_of(proposal: &Proposal) -> Interval
+    requires { (proposal.now.start ≤ MAX_MOMENT) × (1 ≤ test_length proposal.now.test) × (test_length proposal.now.test ≤ MAX_LENGTH) }
+    ensures { result ≡ span_of proposal.now.start (test_length proposal.now.test) }
+{
+    Interval {
+        start: proposal.start,
+        end: proposal.start + length_of(&proposal.test),
+    }
+}
+
+fn accepted_row(
+    alloc: Global,
+    moment: Moment,
+    proposal: Proposal,
+    participants: Items<Text>,
+    interval: Interval,
+) -> RunRow
+    requires { interval ≡ span_of proposal.start (test_length proposal.test) }
+    ensures { result ≡ accepted_row moment proposal participants }
+{
+    let Proposal {
+        key,
+        test,
+        tool,
+        start: _,
+        priority,
+        asker,
+    } = proposal;
+    RunRow {
+        key,
+        test,
+        tool: Some(tool),
+        interval: Some(interval),
+        priority,
+        participants,
+        asker,
+        accepted: Some(moment),
+        confirmed: None,
+        started: None,
+        ended: None,
+        material: None,
+        closed: None,
+        question: None,
+        asked: None,
+        others: Items::new(alloc),
+        merged: None,
+        archives: Items::new(alloc),
+    }
+}
+
+// The keys of rows in conflict, in order: those that yield, or the first that doesn't.
+fn sort_out(
+    alloc: Global,
+    rows: &Rows,
+    keys: &[RunKey],
+    priority: i16,
+    moment: Moment,
+) -> Result<Result<Items<RunKey>, RunKey>, Memory>
+    requires bounds { (moment ≤ MAX_MOMENT) × All HasMoments rows.now.list }
+    ensures { IfOk result (λ r. r ≡ sorted_out priority moment rows.now.list [] keys.now) }
+{
+    let mut preempted = Vec::new(alloc);
+    for key in keys {
+        let Some(row) = rows.find(*key) else {
+            continue;
+        };
+        if row.lapse(moment).is_some() {
+            continue;
+        }
+        if !yields(row, priority, moment) {
+            return Ok(Err(*key));
+        }
+        preempted.push(*key)?;
+    }
+    Ok(Ok(Items::from_vec(preempted)))
+}
+
+// Takes the reservations of the rows out that lapse by the moment.
+fn release_lapsed(timeline: &mut Timeline, rows: &[RunRow], moment: Moment)
+    requires { All HasMoments rows.now }
+    ensures list { timeline.new.list ≡ released moment rows.now timeline.old.list }
+    ensures room { timeline.old.room ≤ timeline.new.room }
+{
+    for row in rows {
+        if row.lapse(moment).is_some() {
+            timeline.release(row.key);
+        }
     }
 }

@@ -4,4 +4,5 @@
 pub mod booking;
 pub mod change;
 pub mod config;
+pub mod host;
 pub mod step;

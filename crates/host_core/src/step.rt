@@ -1,5 +1,6 @@
 //! What a host is asked, and what it answers.
 
+use crate::change::Change;
 use ps_time::class::Class;
 use ps_time::items::Items;
 use ps_time::key::RunKey;
@@ -31,4 +32,12 @@ pub enum Reply {
     },
     /// The booking was denied, and nothing changed.
     Denied(Denial),
+}
+
+/// What a step comes to.
+#[derive(Drop)]
+pub struct Outcome {
+    pub reply: Reply,
+    /// What changes in the book, in order.
+    pub list: Items<Change>,
 }
