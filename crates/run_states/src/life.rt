@@ -1,5 +1,5 @@
 //! The life of a row: its steps, how it lapses, and its state at a moment.
-ghost use Rattle.std.specs.Prelude.{◌≡◌, ◌≤◌, Some, None, OnOk, OnErr};
+ghost use Rattle.std.specs.Prelude.{◌≡◌, ℕ, ◌≤◌, Some, None, OnOk, OnErr};
 ghost use Rattle.ps_time.specs.declared.moment.TheConstants.{MAX_MOMENT};
 ghost use Rattle.run_states.specs.Life.{is_booked, is_active, confirm_row, start_row, end_row, close_row, marked_row, may_take, advanced, lapse_of, settled_row, closed_state, started_state, state_of, IsInTime, HasMoments};
 
@@ -171,7 +171,11 @@ impl RunRow {
     /// Closes the row where it has lapsed by the moment.
     pub fn settle(&mut self, moment: Moment)
         requires { HasMoments self.old }
-        ensures { self.new ≡ settled_row moment self.old }
+        ensures settled { self.new ≡ settled_row moment self.old }
+
+        // An earlier settling makes no difference.
+        ensures whenever { (m : ℕ) → m ≤ moment → settled_row moment (settled_row m self.old) ≡ self.new }
+        ensures moments { HasMoments self.new }
     {
         if let Some(closing) = self.lapse(moment) {
             self.close(closing);

@@ -1,5 +1,5 @@
 //! The run rows of a host: ascending by key, with reserved places.
-ghost use Rattle.std.specs.Prelude.{◌≡◌, ◌+◌, ◌<◌, ◌≤◌, [], None, IfOk, IfErr, OnOk, is_some, if◌then◌else◌, All};
+ghost use Rattle.std.specs.Prelude.{◌≡◌, ℕ, ◌+◌, ◌<◌, ◌≤◌, [], None, IfOk, IfErr, OnOk, is_some, if◌then◌else◌, All};
 ghost use Rattle.std.specs.Option.{option_copied};
 ghost use Rattle.run_states.specs.Life.{confirm_row, close_row, marked_row, settled_rows, HasMoments};
 ghost use Rattle.run_states.specs.Conflict.{preempted_rows};
@@ -129,6 +129,10 @@ impl Rows {
     pub fn settle(&mut self, moment: Moment)
         requires { All HasMoments self.old.list }
         ensures rows { self.new.list ≡ settled_rows moment self.old.list }
+
+        // An earlier settling makes no difference.
+        ensures whenever { (m : ℕ) → m ≤ moment → settled_rows moment (settled_rows m self.old.list) ≡ self.new.list }
+        ensures moments { All HasMoments self.new.list }
         ensures room { self.new.room ≡ self.old.room }
     {
         settle_all(&mut self.rows, moment);
