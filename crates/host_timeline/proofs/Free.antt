@@ -12,7 +12,7 @@ use Rattle.ps_time.specs.Key.{key_cmp}
 use Rattle.ps_time.specs.Span.{Span}
 use Rattle.host_timeline.specs.declared.booking.Booking.{Booking}
 use Rattle.host_timeline.specs.Booking.{conflicts_with, conflicting}
-use Rattle.host_timeline.specs.Timeline.{with_booking, without_booking, with_started, started_booking, IsConflictFree}
+use Rattle.host_timeline.specs.Timeline.{with_booking, with_started, started_booking, IsConflictFree}
 
 module _ {X : Type 0} (q : X → Bool) where
   -- where a test lets none through, it lets neither the first through nor one of the others

@@ -1,3 +1,3 @@
-mod Free
-mod Least
+pub mod Free
+pub mod Least
 mod Place

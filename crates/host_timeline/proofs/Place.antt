@@ -9,35 +9,35 @@ use Rattle.ps_time.proofs.SortedLemmas.{searchable, find_in_gap, insert_in_gap, 
 use Rattle.host_timeline.proofs.Free.{free_filter, free_insert, free_start}
 use Rattle.host_timeline.specs.declared.booking.Booking.{Booking}
 use Rattle.host_timeline.specs.Booking.{conflicting}
-use Rattle.host_timeline.specs.Timeline.{find_booking, with_booking, without_booking, with_started, started_booking, IsBook, IsPlaceOf, IsGapFor}
+use Rattle.host_timeline.specs.Timeline.{find_booking, with_booking, without_booking, with_started, started_booking, IsInOrder, IsPlaceOf, IsGapFor}
 
-module _ (bookings : List Booking) (book : IsBook bookings) (k : RunKey) where
+module _ (bookings : List Booking) (ordered : IsInOrder bookings) (k : RunKey) where
   pub searched : (r : Result ℕ ℕ) → IsSearchInRange r (length bookings) → IsBinarySearchResult (λ b. key_cmp b.key k) bookings r → record { found : IfOk r (IsPlaceOf bookings k); absent : IfErr r (IsGapFor bookings k) }
   searched (Ok at) within equal = record { found = record { within = within; same = equal }; absent = tt }
-  searched (Err at) within parted = record { found = tt; absent = record { within = within; parted = parted (searchable key_cmp_total (λ b. b.key) bookings book.ascending k) } }
+  searched (Err at) within parted = record { found = tt; absent = record { within = within; parted = parted (searchable key_cmp_total (λ b. b.key) bookings ordered.ascending k) } }
 
   module _ (i : ℕ) (d : Booking) (place : IsPlaceOf bookings k i) where
     pub find_place : find_booking bookings k ≡ Some (get_or bookings i d)
-    find_place = find_at key_cmp_total (λ b. b.key) bookings k i d book.ascending place.within (place.same d)
+    find_place = find_at key_cmp_total (λ b. b.key) bookings k i d ordered.ascending place.within (place.same d)
 
     pub release_place : without_booking bookings k ≡ remove bookings i
-    release_place = without_at key_cmp_total (λ b. b.key) bookings k i d book.ascending place.within (place.same d)
+    release_place = without_at key_cmp_total (λ b. b.key) bookings k i d ordered.ascending place.within (place.same d)
 
-    pub book_after_release : IsBook (remove bookings i)
-    book_after_release =
-        subst IsBook release_place (record {
-          ascending = ascending-without key_cmp_total (λ b. b.key) bookings k book.ascending;
-          conflict_free = free_filter _ bookings book.conflict_free;
+    pub in_order_after_release : IsInOrder (remove bookings i)
+    in_order_after_release =
+        subst IsInOrder release_place (record {
+          ascending = ascending-without key_cmp_total (λ b. b.key) bookings k ordered.ascending;
+          conflict_free = free_filter _ bookings ordered.conflict_free;
         })
 
     -- a write over the booking that has the key changes that booking alone
     pub start_place : set bookings i (started_booking (get_or bookings i d)) ≡ with_started bookings k
-    start_place = set_changes key_cmp_total (λ b. b.key) started_booking bookings k i d book.ascending place.within (place.same d)
+    start_place = set_changes key_cmp_total (λ b. b.key) started_booking bookings k i d ordered.ascending place.within (place.same d)
 
-  pub book_after_start : IsBook (with_started bookings k)
-  book_after_start = record {
-    ascending = ascending-change key_cmp_total (λ b. b.key) started_booking (λ b. refl) bookings k book.ascending;
-    conflict_free = free_start bookings k book.conflict_free;
+  pub in_order_after_start : IsInOrder (with_started bookings k)
+  in_order_after_start = record {
+    ascending = ascending-change key_cmp_total (λ b. b.key) started_booking (λ b. refl) bookings k ordered.ascending;
+    conflict_free = free_start bookings k ordered.conflict_free;
   }
 
 module _ (bookings : List Booking) (k : RunKey) (i : ℕ) (gap : IsGapFor bookings k i) where
@@ -54,9 +54,9 @@ module _ (bookings : List Booking) (b : Booking) (i : ℕ) (gap : IsGapFor booki
   pub book_gap : with_booking bookings b ≡ insert bookings i b
   book_gap = insert_in_gap key_cmp_total (λ b. b.key) bookings b i gap.within gap.parted
 
-  pub book_after_book : IsBook bookings → conflicting b.class b.interval bookings ≡ [] → IsBook (insert bookings i b)
-  book_after_book book free =
-      subst IsBook book_gap (record {
-        ascending = ascending-insert key_cmp_total (λ b. b.key) bookings b book.ascending (find_gap bookings b.key i gap);
-        conflict_free = free_insert bookings b book.conflict_free free;
+  pub in_order_after_book : IsInOrder bookings → conflicting b.class b.interval bookings ≡ [] → IsInOrder (insert bookings i b)
+  in_order_after_book ordered free =
+      subst IsInOrder book_gap (record {
+        ascending = ascending-insert key_cmp_total (λ b. b.key) bookings b ordered.ascending (find_gap bookings b.key i gap);
+        conflict_free = free_insert bookings b ordered.conflict_free free;
       })

@@ -42,8 +42,8 @@ abbrev pub IsConflictFree : List Booking → Type 0
 IsConflictFree [] = Unit {0}
 IsConflictFree (b ∷ bs) = (conflicting b.class b.interval bs ≡ []) × IsConflictFree bs
 
--- what every timeline keeps of its bookings
-pub record IsBook (bookings : List Booking) : Type 0 where
+-- what every timeline keeps: its order by key, and that no two conflict
+pub record IsInOrder (bookings : List Booking) : Type 0 where
   pub ascending : IsAscendingBookings bookings
   pub conflict_free : IsConflictFree bookings
 

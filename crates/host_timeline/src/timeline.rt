@@ -25,13 +25,13 @@ pub struct Timeline {
 
 impl Model for Timeline {
     ghost use Rattle.std.specs.Prelude.{◌-◌, vec_len, vec_capacity};
-    ghost use Rattle.host_timeline.specs.Timeline.{Timeline as Seen, IsBook};
+    ghost use Rattle.host_timeline.specs.Timeline.{Timeline as Seen, IsInOrder};
 
     ghost Value = { Seen };
 
     ghost view = { λ t. record { list = t.bookings.items; room = vec_capacity t.bookings - vec_len t.bookings } };
 
-    ghost invariant = { λ t. IsBook t.bookings.items };
+    ghost invariant = { λ t. IsInOrder t.bookings.items };
 }
 
 impl Timeline {

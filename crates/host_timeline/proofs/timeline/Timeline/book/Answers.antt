@@ -1,7 +1,7 @@
 use Rattle.std.proofs.Common.{◌≡◌, [], sym, ap}
 use Rattle.host_timeline.specs.Booking.{conflicting}
 use Rattle.host_timeline.specs.Timeline.{Timeline, IsPlaceOf, IsGapFor}
-use Rattle.host_timeline.proofs.Place.{find_place, book_gap, book_after_book}
+use Rattle.host_timeline.proofs.Place.{find_place, book_gap, in_order_after_book}
 use Rattle.host_timeline.proofs.timeline.Timeline.book.Goals as goal
 
 -- the key is new, so no place has it
@@ -18,7 +18,7 @@ invariant_of-self c =
     let seen : c.self.inside.bookings.items ≡ c.args.self.now.list = ap (λ (t : Timeline). t.list) c.self.view_is in
     let gap : IsGapFor c.self.inside.bookings.items c.args.booking.key c.in-Err.at = rw seen c.in-Err.ensures.absent in
     let free : conflicting c.args.booking.class c.args.booking.interval c.self.inside.bookings.items ≡ [] = rw seen c.requires.no_conflict in
-    rw (c.insert.ensures.items, c.unwrap.ensures) (book_after_book _ _ _ gap c.self.invariant free)
+    rw (c.insert.ensures.items, c.unwrap.ensures) (in_order_after_book _ _ _ gap c.self.invariant free)
 
 pub returns-clause-list : goal.returns-clause-list
 returns-clause-list c =

@@ -1,6 +1,6 @@
 use Rattle.std.proofs.Common.{◌≡◌, ◌∙◌, sym, ap, subst, set}
-use Rattle.host_timeline.specs.Timeline.{Timeline, IsPlaceOf, IsBook, started_booking}
-use Rattle.host_timeline.proofs.Place.{start_place, book_after_start, start_gap}
+use Rattle.host_timeline.specs.Timeline.{Timeline, IsPlaceOf, IsInOrder, started_booking}
+use Rattle.host_timeline.proofs.Place.{start_place, in_order_after_start, start_gap}
 use Rattle.host_timeline.proofs.timeline.Timeline.mark_started.Goals as goal
 
 -- the booking at the place is changed, and keeps its key
@@ -9,7 +9,7 @@ invariant_of-self c =
     let seen : c.self.inside.bookings.items ≡ c.args.self.now.list = ap (λ (t : Timeline). t.list) c.self.view_is in
     let place : IsPlaceOf c.self.inside.bookings.items c.args.key c.in-Ok.at = rw seen c.in-Ok.ensures.found in
     let written = ap (λ b. set c.self.inside.bookings.items c.in-Ok.at (started_booking b)) c.index_mut.ensures.value in
-    subst IsBook (sym (written ∙ start_place _ c.self.invariant _ _ _ place)) (book_after_start _ c.self.invariant _)
+    subst IsInOrder (sym (written ∙ start_place _ c.self.invariant _ _ _ place)) (in_order_after_start _ c.self.invariant _)
 
 pub returns-in-Ok-clause-list : goal.returns-in-Ok-clause-list
 returns-in-Ok-clause-list c =

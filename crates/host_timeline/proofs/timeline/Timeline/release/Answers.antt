@@ -1,6 +1,6 @@
 use Rattle.std.proofs.Common.{◌≡◌, refl, sym, ap}
 use Rattle.host_timeline.specs.Timeline.{Timeline, IsPlaceOf}
-use Rattle.host_timeline.proofs.Place.{find_place, release_place, book_after_release, find_gap, release_gap}
+use Rattle.host_timeline.proofs.Place.{find_place, release_place, in_order_after_release, find_gap, release_gap}
 use Rattle.host_timeline.proofs.timeline.Timeline.release.Goals as goal
 
 -- the booking at the place goes, and the order stays
@@ -8,7 +8,7 @@ pub invariant_of-self : goal.invariant_of-self
 invariant_of-self c =
     let seen : c.self.inside.bookings.items ≡ c.args.self.now.list = ap (λ (t : Timeline). t.list) c.self.view_is in
     let place : IsPlaceOf c.self.inside.bookings.items c.args.key c.in-Ok.at = rw seen c.in-Ok.ensures.found in
-    rw c.remove.ensures.items (book_after_release _ c.self.invariant _ _ c.remove.result place)
+    rw c.remove.ensures.items (in_order_after_release _ c.self.invariant _ _ c.remove.result place)
 
 pub returns-in-Ok-clause-found : goal.returns-in-Ok-clause-found
 returns-in-Ok-clause-found c =
