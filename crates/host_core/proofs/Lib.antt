@@ -1,0 +1,5 @@
+pub mod AcceptLemmas
+pub mod FollowLemmas
+pub mod IndexLemmas
+pub mod RowLemmas
+pub mod SortLemmas

@@ -65,13 +65,13 @@ conflicts class interval rows = filter (in_conflict class interval) rows
 abbrev pub keys_of_rows : List RunRow → List RunKey
 keys_of_rows rows = map (λ r. r.key) rows
 
+abbrev pub unless_firm : Option RunRow → List RunRow → Result (List RunKey) RunKey
+unless_firm (Some r) rows = Err r.key
+unless_firm None rows = Ok (keys_of_rows rows)
+
 -- the keys of the conflicts where each can be preempted at m, or the first, in the order of keys, that can't
 abbrev pub sorted_conflicts : ℤ → ℕ → List RunRow → Result (List RunKey) RunKey
-sorted_conflicts priority m rows = unless (find (λ r. not (yields priority m r)) rows)
-  where
-    unless : Option RunRow → Result (List RunKey) RunKey
-    unless (Some r) = Err r.key
-    unless None = Ok (keys_of_rows rows)
+sorted_conflicts priority m rows = unless_firm (find (λ r. not (yields priority m r)) rows) rows
 
 -- the run preempts these, or can't preempt this one
 abbrev pub preempted_by : Proposal → ℕ → List RunRow → Result (List RunKey) RunKey
@@ -81,10 +81,10 @@ preempted_by p m rows = sorted_conflicts p.priority m (conflicts (test_class p.t
 abbrev pub most_runs : ℕ
 most_runs = 50000
 
+abbrev pub unless_full : ℕ → Result (List RunKey) RunKey → Result (List RunKey) Denial
+unless_full count (Err key) = Err (Conflict key)
+unless_full count (Ok keys) = if nat_le most_runs count then Err (Full Runs count) else Ok keys
+
 -- whether the proposal fits into these rows, settled at m: the keys of those that it preempts, or the first reason that speaks against it
 abbrev pub fitted : ℕ → List RunRow → Proposal → Result (List RunKey) Denial
-fitted m rows p = if nat_lt p.start m then Err (Past m p.start) else with_conflicts (preempted_by p m rows)
-  where
-    with_conflicts : Result (List RunKey) RunKey → Result (List RunKey) Denial
-    with_conflicts (Err key) = Err (Conflict key)
-    with_conflicts (Ok keys) = if nat_le most_runs (length rows) then Err (Full Runs (length rows)) else Ok keys
+fitted m rows p = if nat_lt p.start m then Err (Past m p.start) else unless_full (length rows) (preempted_by p m rows)

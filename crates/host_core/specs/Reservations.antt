@@ -1,8 +1,9 @@
 -- The reservations for which the rows of a book stand.
-use Rattle.std.specs.Prelude.{◌≡◌, ℕ, ℤ, Bool, not, List, [], ◌∷◌, ◌++◌, map, filter, Option, Some, None, is_some, Result, Ok, Err, if◌then◌else◌, All}
-use Rattle.ps_time.specs.Span.{Span}
+use Rattle.std.specs.Prelude.{◌≡◌, ℕ, ℤ, Bool, false, not, List, [], ◌∷◌, ◌++◌, map, filter, Option, Some, None, is_some, Result, Ok, Err, if◌then◌else◌, All}
+use Rattle.ps_time.specs.Span.{Span, span_of}
 use Rattle.ps_time.specs.declared.key.RunKey.{RunKey}
-use Rattle.plugin_core.specs.TestSpec.{test_class}
+use Rattle.plugin_core.specs.TestSpec.{test_class, test_length}
+use Rattle.run_states.specs.declared.proposal.Proposal.{Proposal}
 use Rattle.run_states.specs.declared.row.RunRow.{RunRow}
 use Rattle.run_states.specs.Life.{is_booked, lapse_of}
 use Rattle.run_states.specs.Rows.{find_row}
@@ -33,6 +34,16 @@ with_some (Some b) bs = b ∷ bs
 abbrev pub bookings_of : List RunRow → List Booking
 bookings_of [] = []
 bookings_of (r ∷ rs) = with_some (booking_of r) (bookings_of rs)
+
+-- what a proposal reserves once it is accepted
+abbrev pub reservation_of : Proposal → Booking
+reservation_of p = record {
+  key = p.key;
+  class = test_class p.test;
+  interval = span_of p.start (test_length p.test);
+  priority = p.priority;
+  firm_from = firm_from_of p.start false;
+}
 
 -- the row lapses by m
 abbrev pub lapses : ℕ → RunRow → Bool

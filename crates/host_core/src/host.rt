@@ -7,7 +7,7 @@ ghost use Rattle.run_states.specs.Life.{settled_rows, HasMoments};
 ghost use Rattle.host_core.specs.Book.{Book, MayFollow, CanApply, IsInBounds, empty_book, book_after, added};
 ghost use Rattle.host_core.specs.Booking.{conflicts, fitted, sorted_conflicts};
 ghost use Rattle.host_core.specs.Change.{apply, accepted_row};
-ghost use Rattle.host_core.specs.Reservations.{released, sorted_out};
+ghost use Rattle.host_core.specs.Reservations.{released, reservation_of, sorted_out};
 ghost use Rattle.host_core.specs.Step.{denied, decided_booking, outcome_of_booking, step_reply, step_changes, step_book};
 ghost use Rattle.host_core.specs.declared.change.Change.TheVariants.{Accepted as AcceptedChange};
 
@@ -190,10 +190,8 @@ impl Host {
             return Ok(denied(alloc, Denial::Full(What::Numbers, u64::from(last))));
         }
         let proposal = booking(alloc, config, last + 1, wish)?;
-        match self.fit(alloc, moment, &proposal)? {
-            Err(denial) => Ok(denied(alloc, denial)),
-            Ok(preempted) => booked(alloc, config, proposal, preempted),
-        }
+        let fitted = self.fit(alloc, moment, &proposal)?;
+        decided(alloc, config, proposal, fitted)
     }
 
     // Whether the proposal fits: the keys of the rows that it preempts, or the first reason against it.
@@ -205,10 +203,9 @@ impl Host {
         if proposal.start < moment {
             return Ok(Err(Denial::Past(moment, proposal.start)));
         }
-        let class = class_of(&proposal.test);
-        let interval = interval_of(proposal);
         let rows = self.rows.list().len();
-        match self.sort_conflicts(alloc, class, &interval, proposal.priority, moment)? {
+        let run = reservation_of(proposal);
+        match self.sort_conflicts(alloc, run.class, &run.interval, proposal.priority, moment)? {
             Err(key) => Ok(Err(Denial::Conflict(key))),
             Ok(_) if MOST_RUNS <= rows => Ok(Err(Denial::Full(What::Runs, rows as u64))),
             Ok(preempted) => Ok(Ok(preempted)),
@@ -274,19 +271,13 @@ impl Host {
         ensures rows { self.new.book.rows ≡ apply moment (AcceptedChange proposal participants) self.old.book.rows }
         ensures room { self.old.room ≤ self.new.room + 1 }
     {
-        let class = class_of(&proposal.test);
-        let interval = interval_of(&proposal);
-        self.rows.preempt(proposal.key, class, &interval, moment);
-        self.timeline.release_conflicts(class, &interval);
-        self.timeline.book(Booking {
-            key: proposal.key,
-            class,
-            interval,
-            priority: proposal.priority,
-            firm_from: firm_from(interval.start, false),
-        });
+        let run = reservation_of(&proposal);
         self.rows
-            .put(accepted_row(alloc, moment, proposal, participants, interval));
+            .preempt(run.key, run.class, &run.interval, moment);
+        self.timeline.release_conflicts(run.class, &run.interval);
+        self.timeline.book(run);
+        self.rows
+            .put(accepted_row(alloc, moment, proposal, participants));
     }
 }
 
@@ -296,6 +287,21 @@ fn denied(alloc: Global, denial: Denial) -> Outcome
     Outcome {
         reply: Reply::Denied(denial),
         list: Items::new(alloc),
+    }
+}
+
+// A booking that fits is accepted and confirmed at once.
+fn decided(
+    alloc: Global,
+    config: &Config,
+    proposal: Proposal,
+    fitted: Result<Items<RunKey>, Denial>,
+) -> Result<Outcome, Memory>
+    ensures { IfOk result (λ o. o ≡ decided_booking config.now proposal fitted) }
+{
+    match fitted {
+        Err(denial) => Ok(denied(alloc, denial)),
+        Ok(preempted) => booked(alloc, config, proposal, preempted),
     }
 }
 
@@ -320,7 +326,20 @@ fn booked(
     Ok(Outcome { reply, list })
 }
 
-/// What the proposed run reserves.
+// What the run reserves once it is accepted.
+fn reservation_of(proposal: &Proposal) -> Booking
+    requires { (proposal.now.start ≤ MAX_MOMENT) × (1 ≤ test_length proposal.now.test) × (test_length proposal.now.test ≤ MAX_LENGTH) }
+    ensures { result ≡ reservation_of proposal.now }
+{
+    Booking {
+        key: proposal.key,
+        class: class_of(&proposal.test),
+        interval: interval_of(proposal),
+        priority: proposal.priority,
+        firm_from: firm_from(proposal.start, false),
+    }
+}
+
 fn interval_of(proposal: &Proposal) -> Interval
     requires { (proposal.now.start ≤ MAX_MOMENT) × (1 ≤ test_length proposal.now.test) × (test_length proposal.now.test ≤ MAX_LENGTH) }
     ensures { result ≡ span_of proposal.now.start (test_length proposal.now.test) }
@@ -336,11 +355,11 @@ fn accepted_row(
     moment: Moment,
     proposal: Proposal,
     participants: Items<Text>,
-    interval: Interval,
 ) -> RunRow
-    requires { interval ≡ span_of proposal.start (test_length proposal.test) }
+    requires { (proposal.start ≤ MAX_MOMENT) × (1 ≤ test_length proposal.test) × (test_length proposal.test ≤ MAX_LENGTH) }
     ensures { result ≡ accepted_row moment proposal participants }
 {
+    let interval = interval_of(&proposal);
     let Proposal {
         key,
         test,

@@ -106,7 +106,7 @@ module _ {K X : Type 0} {cmp : K → K → Ordering} (o : IsTotalOrder cmp) (key
       ]
 
   -- a key below the first is below all
-  below_all : (xs : List X) (a b : K) → cmp a b ≡ Less → AllByRecursion (λ y. cmp b (key y) ≡ Less) xs → AllByRecursion (λ y. cmp a (key y) ≡ Less) xs
+  pub below_all : (xs : List X) (a b : K) → cmp a b ≡ Less → AllByRecursion (λ y. cmp b (key y) ≡ Less) xs → AllByRecursion (λ y. cmp a (key y) ≡ Less) xs
   below_all [] a b below all = tt
   below_all (x ∷ xs) a b below all = (o.trans a b (key x) below all.0, below_all xs a b below all.1)
 
