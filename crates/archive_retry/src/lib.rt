@@ -3,3 +3,6 @@
 
 pub mod policy;
 pub mod state;
+
+#[cfg(test)]
+mod tests;

@@ -3,3 +3,6 @@
 
 pub mod test_spec;
 pub mod tool;
+
+#[cfg(test)]
+mod tests;

@@ -1,4 +1,12 @@
+pub mod CalendarLemmas
+pub mod DigitLemmas
 pub mod KeyLemmas
+pub mod KnownTimes
+pub mod LengthTextLemmas
 pub mod MapLemmas
+pub mod MomentLemmas
+pub mod MomentTextLemmas
 pub mod NumberLemmas
+pub mod PictureLemmas
 pub mod SortedLemmas
+pub mod StartLemmas

@@ -1,7 +1,12 @@
+pub mod Calendar
 pub mod Class
 pub mod Id
 pub mod Key
+pub mod Length
+pub mod Moment
 pub mod Name
 pub mod Number
+pub mod Picture
 pub mod Sorted
 pub mod Span
+pub mod Start

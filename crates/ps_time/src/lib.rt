@@ -2,18 +2,27 @@
 #![tactic(auto)]
 
 pub mod asker;
+pub mod calendar;
 pub mod class;
 pub mod duplicate;
 pub mod id;
 pub mod interval;
 pub mod items;
 pub mod key;
+pub mod length_text;
 pub mod memory;
 pub mod moment;
+pub mod moment_text;
 pub mod name;
 pub mod number;
+pub mod picture;
+pub mod read_length;
+pub mod read_moment;
+pub mod read_start;
 pub mod same;
 #[cfg(test)]
 mod tests;
 pub mod text;
 pub mod tiers;
+#[cfg(test)]
+mod time_tests;

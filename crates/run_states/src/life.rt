@@ -168,6 +168,14 @@ impl RunRow {
         None
     }
 
+    /// Whether the row is booked once it is settled at the moment.
+    pub fn is_booked_at(&self, moment: Moment) -> bool
+        requires { HasMoments self.now }
+        ensures { result ≡ is_booked (settled_row moment self.now) }
+    {
+        self.is_booked() && self.lapse(moment).is_none()
+    }
+
     /// Closes the row where it has lapsed by the moment.
     pub fn settle(&mut self, moment: Moment)
         requires { HasMoments self.old }

@@ -1,0 +1,128 @@
+//! The tables of docs/specification/tests-and-tools.md.
+ghost use Rattle.std.specs.Prelude.{◌≤◌, IfOk};
+ghost use Rattle.ps_time.specs.declared.moment.TheConstants.{MAX_LENGTH};
+ghost use Rattle.plugin_core.specs.TestSpec.{test_length};
+
+use crate::test_spec::{class_of, length_of, TestSpec};
+use crate::tool::{tool_name, Tool};
+use ps_time::class::Class;
+use ps_time::items::Items;
+use ps_time::memory::Memory;
+use ps_time::same::Same;
+use ps_time::text::Text;
+use std::alloc::Global;
+use std::test::Fail;
+
+fn idle(alloc: Global) -> Result<TestSpec, Memory>
+    ensures { IfOk result (λ test. test_length test ≤ MAX_LENGTH) }
+{
+    let starting_comment = Some(Text::new(alloc, "begins")?);
+    Ok(TestSpec::Idle {
+        duration: 10,
+        starting_comment,
+        parting_comment: None,
+    })
+}
+
+fn idleex(alloc: Global) -> Result<TestSpec, Memory>
+    ensures { IfOk result (λ test. test_length test ≤ MAX_LENGTH) }
+{
+    let parting_comment = Some(Text::new(alloc, "is over")?);
+    Ok(TestSpec::Idleex {
+        duration: 20,
+        starting_comment: None,
+        parting_comment,
+    })
+}
+
+fn idlebgm() -> TestSpec
+    ensures { test_length result ≤ MAX_LENGTH }
+{
+    TestSpec::Idlebgm {
+        duration: 30,
+        starting_comment: None,
+        parting_comment: None,
+        interval: 7,
+    }
+}
+
+fn idlemany(alloc: Global) -> Result<TestSpec, Memory>
+    ensures { IfOk result (λ test. test_length test ≤ MAX_LENGTH) }
+{
+    let mut hosts = Items::new(alloc);
+    hosts.push(Text::new(alloc, "a")?)?;
+    hosts.push(Text::new(alloc, "b")?)?;
+    Ok(TestSpec::Idlemany {
+        duration: 40,
+        starting_comment: None,
+        parting_comment: None,
+        hosts,
+    })
+}
+
+fn simplestream(alloc: Global) -> Result<TestSpec, Memory>
+    ensures { IfOk result (λ test. test_length test ≤ MAX_LENGTH) }
+{
+    let dest = Text::new(alloc, "b")?;
+    Ok(TestSpec::Simplestream {
+        dest,
+        test_material: Text::new(alloc, "")?,
+        dawdle: 45,
+        timeout: 5,
+    })
+}
+
+#[test]
+fn has_class_and_length(rt: HostRuntime) -> Result<(), Fail> {
+    let test = idle(rt.alloc())?;
+    assert_eq!(rt; class_of(&test), Class::Background);
+    assert_eq!(rt; length_of(&test), 10);
+    let test = idleex(rt.alloc())?;
+    assert_eq!(rt; class_of(&test), Class::Exclusive);
+    assert_eq!(rt; length_of(&test), 20);
+    let test = idlebgm();
+    assert_eq!(rt; class_of(&test), Class::BackgroundMulti);
+    assert_eq!(rt; length_of(&test), 30);
+    let test = idlemany(rt.alloc())?;
+    assert_eq!(rt; class_of(&test), Class::Exclusive);
+    assert_eq!(rt; length_of(&test), 40);
+    let test = simplestream(rt.alloc())?;
+    assert_eq!(rt; class_of(&test), Class::Normal);
+    assert_eq!(rt; length_of(&test), 50);
+    Ok(())
+}
+
+#[test]
+fn copies(rt: HostRuntime) -> Result<(), Fail> {
+    let alloc = rt.alloc();
+    let tests = [
+        idle(alloc)?,
+        idleex(alloc)?,
+        idlebgm(),
+        idlemany(alloc)?,
+        simplestream(alloc)?,
+    ];
+    for test in tests.iter() {
+        let copy = test.copy(alloc)?;
+        assert!(rt; copy.same(test));
+        let alike = tests.iter().filter(|other| copy.same(other)).count();
+        assert_eq!(rt; alike, 1);
+    }
+    Ok(())
+}
+
+#[test]
+fn names(rt: HostRuntime) -> Result<(), Fail> {
+    let names = [
+        (Tool::Sleep, "sleep"),
+        (Tool::Snooze, "snooze"),
+        (Tool::Sleepbgm, "sleepbgm"),
+        (Tool::Simplestreamer, "simplestreamer"),
+    ];
+    for (tool, name) in names {
+        assert!(rt; tool_name(tool) == name);
+        let text = format!(in rt.alloc(); "{tool}")?;
+        assert!(rt; text.as_str() == name);
+    }
+    Ok(())
+}

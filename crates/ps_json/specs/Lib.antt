@@ -1,0 +1,6 @@
+pub mod Answer
+pub mod Coding
+pub mod Fault
+pub mod Fields
+pub mod Kinds
+pub mod Tree

@@ -1,0 +1,80 @@
+//! The members of an object, each taken once.
+ghost use Rattle.std.specs.Prelude.{◌≡◌, option_map};
+ghost use Rattle.serde_json.specs.Find.{get_member};
+ghost use Rattle.serde_json.specs.View.{view};
+ghost use Rattle.ps_json.specs.Answer.{GivesUnless, seen_as};
+ghost use Rattle.ps_json.specs.Fields.{without_member, need_of, end_of, is_comment};
+ghost use Rattle.ps_json.specs.Kinds.{members_of};
+
+use crate::fault::JsonFault;
+use serde_json::{Map, Value};
+use std::alloc::Global;
+use std::marker::Model;
+
+/// The members of an object that are left to be taken.
+#[derive(Drop)]
+pub struct Fields {
+    members: Map<String, Value>,
+}
+
+impl Model for Fields {
+    ghost use Rattle.serde_json.specs.Data.{Members};
+    ghost use Rattle.serde_json.specs.View.{members_view};
+    ghost use Rattle.ps_json.specs.Coding.{coded_members};
+
+    ghost Value = { Members };
+
+    ghost coded = { coded_members };
+
+    ghost view = { λ f. members_view f.members.entries };
+}
+
+impl Fields {
+    /// Opens the object that is the value of the member `name`.
+    pub fn open(alloc: Global, value: Value, name: &str) -> Result<Fields, JsonFault>
+        ensures { GivesUnless JsonFault.Memory result (members_of name.now (view value)) }
+    {
+        match value {
+            Value::Object(members) => Ok(Fields { members }),
+            _ => Err(JsonFault::wrong_kind(alloc, name)),
+        }
+    }
+
+    /// Takes a member out, if it is left.
+    pub fn take(&mut self, name: &str) -> Option<Value>
+        ensures value { option_map view result ≡ get_member name.now self.old }
+        ensures rest { self.new ≡ without_member name.now self.old }
+    {
+        self.members.remove(name)
+    }
+
+    /// Takes a member out that has to be there.
+    pub fn need(&mut self, alloc: Global, name: &str) -> Result<Value, JsonFault>
+        ensures value { GivesUnless JsonFault.Memory (seen_as view result) (need_of name.now self.old) }
+        ensures rest { self.new ≡ without_member name.now self.old }
+    {
+        match self.take(name) {
+            Some(value) => Ok(value),
+            None => Err(JsonFault::missing(alloc, name)),
+        }
+    }
+
+    /// Nothing may be left but comments, whose names begin with `#`.
+    pub fn end(self, alloc: Global) -> Result<(), JsonFault>
+        ensures { GivesUnless JsonFault.Memory result (end_of self) }
+    {
+        for (name, _) in self.members.iter() {
+            let name = name.as_str();
+            if !is_comment(name) {
+                return Err(JsonFault::unknown(alloc, name));
+            }
+        }
+        Ok(())
+    }
+}
+
+fn is_comment(name: &str) -> bool
+    ensures { result ≡ is_comment name.now }
+{
+    matches!(name.as_bytes(), [b'#', ..])
+}

@@ -1,0 +1,13 @@
+//! JSON trees whole: read, written, copied, measured, and taken apart member by member.
+#![tactic(auto)]
+
+pub mod fault;
+pub mod fields;
+pub mod kinds;
+pub mod law;
+pub mod memory;
+pub mod name;
+pub mod shape;
+#[cfg(test)]
+mod tests;
+pub mod tree;

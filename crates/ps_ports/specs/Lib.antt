@@ -1,0 +1,3 @@
+pub mod All
+pub mod Causes
+pub mod Memory

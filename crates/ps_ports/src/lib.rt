@@ -1,0 +1,18 @@
+//! What psched reads and writes: sources and sinks of bytes, streams that are both, the same in
+//! memory, and adapters over readers and writers of std.
+#![tactic(auto)]
+
+pub mod adapters;
+pub mod all;
+mod failing_calls;
+pub mod fault;
+pub mod memory_sink;
+pub mod memory_source;
+pub mod memory_stream;
+pub mod sink;
+pub mod source;
+pub mod stream;
+#[cfg(test)]
+mod tests;
+mod unread;
+mod written;

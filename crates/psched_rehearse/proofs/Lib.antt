@@ -1,0 +1,4 @@
+pub mod LawfulLemmas
+pub mod LineLemmas
+pub mod TextLemmas
+pub mod Worked

@@ -1,0 +1,4 @@
+pub mod Lawful
+pub mod Read
+pub mod Refusal
+pub mod Script

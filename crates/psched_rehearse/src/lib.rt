@@ -1,0 +1,7 @@
+//! Rehearsals: scripts of what happens on some hosts, read and run.
+#![tactic(auto)]
+
+mod fields;
+pub mod read;
+pub mod script;
+mod words;

@@ -1,0 +1,4 @@
+//! Schedules: at which moments each run of a repeated task may start.
+#![tactic(auto)]
+
+pub mod rule;
