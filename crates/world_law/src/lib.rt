@@ -1,0 +1,2 @@
+//! The laws of a world of hosts.
+#![tactic(auto)]
