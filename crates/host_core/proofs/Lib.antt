@@ -1,0 +1,4 @@
+pub mod Evolve
+pub mod Placed
+pub mod Standing
+pub mod Clashes
