@@ -1,13 +1,11 @@
 -- A small world, computed: bookings that are accepted, denied and preempted, a cut step, an opening.
-use Rattle.std.proofs.Common.{◌≡◌, ℕ, Bool, true, false, List, [], ◌∷◌, map, option_map, Option, Some, None, ℤ, pos, refl}
-use Rattle.ps_time.specs.declared.class.Class.TheVariants.{Exclusive, Normal}
-use Rattle.ps_time.specs.declared.key.RunKey.{RunKey}
+use Rattle.std.proofs.Common.{◌≡◌, ℕ, Bool, true, false, List, [], ◌∷◌, map, option_map, Option, Some, pos, refl}
+use Rattle.ps_time.specs.declared.class.Class.TheVariants.{Exclusive}
 use Rattle.run_states.specs.declared.why.Denial.TheVariants.{Conflict}
 use Rattle.run_states.specs.Life.{is_booked}
 use Rattle.host_core.specs.declared.config.Config.{Config}
 use Rattle.host_core.specs.declared.step.Input.{Input}
 use Rattle.host_core.specs.declared.step.Input.TheVariants.{Book}
-use Rattle.host_core.specs.declared.step.Reply.{Reply}
 use Rattle.host_core.specs.declared.step.Reply.TheVariants.{Booked, Denied}
 use Rattle.host_core.specs.Booking.{booking_key}
 use Rattle.world_law.specs.World.{World, Event.Client, Event.Cut, Event.Reopen, Cause.ByClient, aged, stages, run, start}
