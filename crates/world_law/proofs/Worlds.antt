@@ -1,14 +1,18 @@
 -- What every world keeps, whatever happens.
-use Rattle.std.proofs.Common.{◌≡◌, ◌⊎◌, inl, inr, ◌==◌, ℕ, zero, suc, Bool, true, false, cond, List, [], ◌∷◌, length, Option, Some, None, slice_get, refl, sym, ap, subst, arith}
+use Rattle.std.proofs.Common.{◌≡◌, ◌⊎◌, inl, inr, ◌==◌, ℕ, zero, suc, Bool, true, false, cond, List, [], ◌∷◌, length, Option, Some, None, slice_get, refl, sym, ap, ◌∙◌, subst, arith}
 use Rattle.std.proofs.lemmas.Bool.Decides.{nat_tests}
+use Rattle.run_states.specs.declared.row.RunRow.{RunRow}
+use Rattle.run_states.specs.Life.{settled_rows}
 use Rattle.host_core.specs.declared.config.Config.{Config}
 use Rattle.host_core.specs.declared.step.Input.{Input}
-use Rattle.host_core.specs.Book.{Book, empty_book}
+use Rattle.host_core.specs.declared.step.Input.TheVariants.{Book as BookInput}
+use Rattle.host_core.specs.Book.{Book, empty_book, moment_at}
 use Rattle.host_core.specs.Step.{step_reply, step_book}
 use Rattle.host_core.proofs.Clashes.{step_clash}
 use Rattle.host_core.proofs.Standing.{step_grown}
 use Rattle.world_law.specs.World.{Stage, Host, Answer, World, Event, Event.Client, Event.Reopen, Event.Reconfigure, Event.Cut, Event.Lose, Event.Refuse, Cause, Cause.ByOpening, stages, aged, push, is_client, input_of, config_of, step_stage, idle_stage, stage_after, stepped, answer_of, answered, caused, happens, run, start}
-use Rattle.world_law.specs.Laws.{Booked, AllGrown}
+use Rattle.world_law.specs.Laws.{Booked, AllGrown, FitAnswers, ExactBooking, next_booking}
+use Rattle.world_law.proofs.Bookings.{exact_booking}
 use Rattle.world_law.proofs.Stages.{StepOk, StepOk-refl, Line, line_push, line_one, aged_up, aged_last}
 
 -- the answer is that of its host's stage before it
@@ -113,3 +117,12 @@ booked_law names configs es h i s e = ((always names configs es).lines h).clash 
 
 pub grown_law : (names : ℕ → List ℕ) (configs : ℕ → Config) (es : List Event) → AllGrown (run es (start names configs))
 grown_law names configs es h i j s t le e f = ((always names configs es).lines h).grown i j s t le e f
+
+pub fit_law : (names : ℕ → List ℕ) (configs : ℕ → Config) (es : List Event) → FitAnswers (run es (start names configs))
+fit_law names configs es j a e class priority start len asked =
+    let x = (always names configs es).answers j a e in
+    let s : Stage = x.0 in
+    let told : a.reply ≡ step_reply s.config s.book a.clock (BookInput class priority start len) = x.2 ∙ ap (λ i. step_reply s.config s.book a.clock i) asked in
+    let m : ℕ = moment_at s.book a.clock in
+    let rows : List RunRow = settled_rows m s.book.rows in
+    (s, x.1, subst (λ r. ExactBooking s.config m rows (next_booking s.config rows class priority start len) r) (sym told) (exact_booking s.config s.book a.clock class priority start len))
