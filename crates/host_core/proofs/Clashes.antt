@@ -1,5 +1,5 @@
 -- No two rows come into conflict: a run that is accepted closes what it conflicts with, and nothing that is booked moves.
-use Rattle.std.proofs.Common.{◌≡◌, ◌⊎◌, inl, inr, ℕ, Bool, true, false, cond, not, ◌&&◌, nat_lt, List, [], ◌∷◌, map, Option, Some, None, is_some, option_map, refl, sym, ap, ap₂, ◌∙◌, subst}
+use Rattle.std.proofs.Common.{◌≡◌, ◌≢◌, ◌⊎◌, inl, inr, ℕ, Bool, true, false, cond, not, ◌&&◌, nat_lt, List, [], ◌∷◌, map, Option, Some, None, is_some, option_map, refl, sym, ap, ap₂, ◌∙◌, subst}
 use Rattle.std.proofs.Math.Bool.{and_comm}
 use Rattle.std.specs.Ordering.{is_eq}
 use Rattle.ps_time.specs.Class.{conflicting_classes, clash}
@@ -38,6 +38,22 @@ classes_same _ _ = refl
 
 clash_same : (a : Class) (s : Span) (b : Class) (t : Span) → clash a s b t ≡ clash b t a s
 clash_same a s b t = ap₂ (λ x y. x && y) (classes_same a b) (and_comm (nat_lt s.start t.end) (nat_lt t.start s.end))
+
+-- no booked row is in conflict with another: the same, in the word of a change
+abbrev Free : List RunRow → Type 0
+Free rows = (j k : RunKey) (r s : RunRow) (i : Span) → j ≢ k → find_row rows j ≡ Some r → find_row rows k ≡ Some s → is_booked r ≡ true → r.interval ≡ Some i → in_conflict (test_class r.test) i s ≡ false
+
+free_from : (rows : List RunRow) → NoClash rows → Free rows
+free_from rows none j k r s i apart e g booked at = go (is_booked s) s.interval refl refl
+  where
+    go : (b : Bool) (o : Option Span) → is_booked s ≡ b → s.interval ≡ o → (b && clashes (test_class r.test) i (test_class s.test) o) ≡ false
+    go false o f h = refl
+    go true None f h = refl
+    go true (Some l) f h = none j k r s i l apart e g booked f at h
+
+none_from : (rows : List RunRow) → Free rows → NoClash rows
+none_from rows free j k r s i l apart e g booked other at there =
+    ap₂ (λ b o. b && clashes (test_class r.test) i (test_class s.test) o) (sym other) (sym there) ∙ free j k r s i apart e g booked at
 
 -- ---- what is booked after was booked before, with its class and interval ----
 pub record Calm (q r : RunRow) : Type 0 where
@@ -108,8 +124,8 @@ found_map f same rows k r e = go (find_row rows k) refl (sym (find_row-map f sam
     go None h g = cc
     go (Some q) h g = (q, h, cc)
 
-calm_clash : (f : RunRow → RunRow) → ((r : RunRow) → (f r).key ≡ r.key) → ((r : RunRow) → Calm r (f r)) → (rows : List RunRow) → NoClash rows → NoClash (map f rows)
-calm_clash f same calm rows free j k r s i apart e g booked at =
+map_free : (f : RunRow → RunRow) → ((r : RunRow) → (f r).key ≡ r.key) → ((r : RunRow) → Calm r (f r)) → (rows : List RunRow) → Free rows → Free (map f rows)
+map_free f same calm rows free j k r s i apart e g booked at =
     let x = found_map f same rows j r e in
     let y = found_map f same rows k s g in
     let a : Calm x.0 r = subst (λ z. Calm x.0 z) x.2 (calm x.0) in
@@ -129,8 +145,8 @@ turned n r i l at booked there free =
     go true e = e
     go false e = refl
 
-put_clash : (n : RunRow) (i : Span) → n.interval ≡ Some i → (rows : List RunRow) → ((k : RunKey) (s : RunRow) → find_row rows k ≡ Some s → in_conflict (test_class n.test) i s ≡ false) → NoClash rows → NoClash (put_new (Some n) rows)
-put_clash n i at rows clear free j k r s l apart e g booked there = go (put_from n rows j r e) (put_from n rows k s g)
+put_free : (n : RunRow) (i : Span) → n.interval ≡ Some i → (rows : List RunRow) → ((k : RunKey) (s : RunRow) → find_row rows k ≡ Some s → in_conflict (test_class n.test) i s ≡ false) → Free rows → Free (put_new (Some n) rows)
+put_free n i at rows clear free j k r s l apart e g booked there = go (put_from n rows j r e) (put_from n rows k s g)
   where
     new : (n ≡ r) → find_row rows k ≡ Some s → in_conflict (test_class r.test) l s ≡ false
     new is f =
@@ -156,8 +172,8 @@ gave_way m i q = go (in_conflict i.class i.interval q) refl
 changed_key : (m : ℕ) (c : Change) (r : RunRow) → (own m c (give_way m (incoming c) r)).key ≡ r.key
 changed_key m c r = (changed_evolves m c r).key
 
-changed_clash : (m : ℕ) (c : Change) (rows : List RunRow) → NoClash rows → NoClash (map (λ r. own m c (give_way m (incoming c) r)) rows)
-changed_clash m c rows free = calm_clash _ (changed_key m c) (changed_calm m c) rows free
+changed_free : (m : ℕ) (c : Change) (rows : List RunRow) → Free rows → Free (map (λ r. own m c (give_way m (incoming c) r)) rows)
+changed_free m c rows free = map_free _ (changed_key m c) (changed_calm m c) rows free
 
 -- so no row is, once they have all given way
 cleared : (m : ℕ) (c : Change) (i : Incoming) → incoming c ≡ Some i → (rows : List RunRow) (k : RunKey) (s : RunRow) → find_row (map (λ r. own m c (give_way m (incoming c) r)) rows) k ≡ Some s → in_conflict i.class i.interval s ≡ false
@@ -167,28 +183,28 @@ cleared m c i comes rows k s e =
     let after : in_conflict i.class i.interval (own m c (give_way m (incoming c) x.0)) ≡ false = calm_free i.class i.interval (give_way m (incoming c) x.0) _ (own_calm m c (give_way m (incoming c) x.0)) gone in
     subst (λ z. in_conflict i.class i.interval z ≡ false) x.2 after
 
-comes_clash : (m : ℕ) (p : Proposal) (participants : List (List ℕ)) (rows : List RunRow) → NoClash rows → NoClash (apply m (Accepted p participants) rows)
-comes_clash m p participants rows free =
+comes_free : (m : ℕ) (p : Proposal) (participants : List (List ℕ)) (rows : List RunRow) → Free rows → Free (apply m (Accepted p participants) rows)
+comes_free m p participants rows free =
     let c : Change = Accepted p participants in
     let i : Incoming = record { key = p.key; class = test_class p.test; interval = span_of p.start (test_length p.test) } in
-    put_clash (accepted_row m p participants) i.interval refl (map (λ r. own m c (give_way m (incoming c) r)) rows) (cleared m c i refl rows) (changed_clash m c rows free)
+    put_free (accepted_row m p participants) i.interval refl (map (λ r. own m c (give_way m (incoming c) r)) rows) (cleared m c i refl rows) (changed_free m c rows free)
 
 -- one line a change
-pub apply_clash : (m : ℕ) (c : Change) (rows : List RunRow) → NoClash rows → NoClash (apply m c rows)
-apply_clash m (Accepted p participants) rows free = comes_clash m p participants rows free
-apply_clash m (Confirmed k) rows free = changed_clash m (Confirmed k) rows free
+pub apply_free : (m : ℕ) (c : Change) (rows : List RunRow) → Free rows → Free (apply m c rows)
+apply_free m (Accepted p participants) rows free = comes_free m p participants rows free
+apply_free m (Confirmed k) rows free = changed_free m (Confirmed k) rows free
 
-pub apply_all_clash : (m : ℕ) (cs : List Change) (rows : List RunRow) → NoClash rows → NoClash (apply_all m cs rows)
-apply_all_clash m [] rows free = free
-apply_all_clash m (c ∷ cs) rows free = apply_all_clash m cs (apply m c rows) (apply_clash m c rows free)
+pub apply_all_free : (m : ℕ) (cs : List Change) (rows : List RunRow) → Free rows → Free (apply_all m cs rows)
+apply_all_free m [] rows free = free
+apply_all_free m (c ∷ cs) rows free = apply_all_free m cs (apply m c rows) (apply_free m c rows free)
 
-pub settled_clash : (m : ℕ) (rows : List RunRow) → NoClash rows → NoClash (settled_rows m rows)
-settled_clash m rows free = calm_clash (settled_row m) (λ r. (settled_evolves m r).key) (settled_calm m) rows free
+pub settled_free : (m : ℕ) (rows : List RunRow) → Free rows → Free (settled_rows m rows)
+settled_free m rows free = map_free (settled_row m) (λ r. (settled_evolves m r).key) (settled_calm m) rows free
 
 -- ---- a step ----
-after_clash : (b : Book) (m : ℕ) (cs : List Change) → NoClash b.rows → NoClash (book_after b (record { moment = m; list = cs })).rows
-after_clash b m [] free = free
-after_clash b m (c ∷ cs) free = apply_all_clash m (c ∷ cs) (settled_rows m b.rows) (settled_clash m b.rows free)
+after_free : (b : Book) (m : ℕ) (cs : List Change) → Free b.rows → Free (book_after b (record { moment = m; list = cs })).rows
+after_free b m [] free = free
+after_free b m (c ∷ cs) free = apply_all_free m (c ∷ cs) (settled_rows m b.rows) (settled_free m b.rows free)
 
 pub step_clash : (c : Config) (b : Book) (clock : ℕ) (input : Input) → NoClash b.rows → NoClash (step_book c b clock input).rows
-step_clash c b clock input free = after_clash b (moment_at b clock) (step c b clock input).list free
+step_clash c b clock input none = none_from (step_book c b clock input).rows (after_free b (moment_at b clock) (step c b clock input).list (free_from b.rows none))

@@ -105,7 +105,7 @@ run_ok (e ∷ es) w inv = run_ok es (happens w e) (happens_ok w e inv)
 
 start_ok : (names : ℕ → List ℕ) (configs : ℕ → Config) → Inv (start names configs)
 start_ok names configs = record {
-  lines = λ h. line_one (record { config = configs h; book = empty_book }) (λ j k r s i apart e f booked at. cc);
+  lines = λ h. line_one (record { config = configs h; book = empty_book }) (λ j k r s a b apart e f booked other at there. cc);
   answers = λ j a e. cc;
 }
 

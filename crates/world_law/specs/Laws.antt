@@ -19,7 +19,7 @@ use Rattle.host_core.specs.Grown.{Grown, NoClash}
 use Rattle.host_core.specs.Step.{last_booking}
 use Rattle.world_law.specs.World.{Stage, Answer, World, stages, aged}
 
--- no booked row of a host is in conflict with another, in any stage
+-- no two booked rows of a host clash, in any stage
 abbrev pub Booked : World → Type 0
 Booked w = (h i : ℕ) (s : Stage) → aged (stages w h) i ≡ Some s → NoClash s.book.rows
 
