@@ -1,5 +1,9 @@
 pub mod AcceptLemmas
+pub mod Clashes
+pub mod Evolve
 pub mod FollowLemmas
 pub mod IndexLemmas
+pub mod Placed
 pub mod RowLemmas
 pub mod SortLemmas
+pub mod Standing

@@ -1,0 +1,4 @@
+pub mod Bookings
+pub mod Sample
+pub mod Stages
+pub mod Worlds

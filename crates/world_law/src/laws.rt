@@ -1,0 +1,20 @@
+//! The laws of the world, over every list of events.
+ghost use Rattle.std.specs.Prelude.{ℕ, List};
+ghost use Rattle.host_core.specs.declared.config.Config.{Config};
+ghost use Rattle.world_law.specs.World.{Event, run, start};
+ghost use Rattle.world_law.specs.Laws.{Booked, AllGrown, FitAnswers};
+
+/// No two booked rows of a host conflict, in any stage.
+pub fn law_booked()
+    ensures { (names : ℕ → List ℕ) (configs : ℕ → Config) (events : List Event) → Booked (run events (start names configs)) }
+{}
+
+/// Each stage has grown from each earlier stage of its host.
+pub fn law_grown()
+    ensures { (names : ℕ → List ℕ) (configs : ℕ → Config) (events : List Event) → AllGrown (run events (start names configs)) }
+{}
+
+/// Each booking was accepted exactly where it has a number and fits.
+pub fn law_fit()
+    ensures { (names : ℕ → List ℕ) (configs : ℕ → Config) (events : List Event) → FitAnswers (run events (start names configs)) }
+{}
