@@ -14,10 +14,11 @@ use Rattle.host_core.specs.Book.{Book, empty_book, moment_at}
 use Rattle.host_core.specs.declared.step.Reply.TheVariants.{Booked as BookedReply}
 use Rattle.host_core.specs.Grown.{Grown, keeping}
 use Rattle.host_core.specs.Step.{step_reply, step_book}
+use Rattle.host_core.proofs.Ascending.{step_ascending}
 use Rattle.host_core.proofs.Clashes.{step_clash}
 use Rattle.host_core.proofs.Standing.{step_grown}
 use Rattle.world_law.specs.World.{Stage, Host, Answer, World, Event, Event.Client, Event.Reopen, Event.Reconfigure, Event.Cut, Event.Lose, Event.Refuse, Cause, Cause.ByOpening, stages, aged, push, is_client, input_of, config_of, step_stage, idle_stage, stage_after, stepped, answer_of, answered, caused, happens, run, start}
-use Rattle.world_law.specs.Laws.{Booked, AllGrown, FitAnswers, KeptAnswers, ExactBooking, HasBooking, next_booking, wanted}
+use Rattle.world_law.specs.Laws.{Keyed, Booked, AllGrown, FitAnswers, KeptAnswers, ExactBooking, HasBooking, next_booking, wanted}
 use Rattle.world_law.proofs.Bookings.{exact_booking}
 use Rattle.world_law.proofs.Kept.{booked_row, booked_stands, booked_rest, has_booking}
 use Rattle.world_law.proofs.Stages.{StepOk, StepOk-refl, Line, line_push, line_one, aged_up, aged_last}
@@ -87,7 +88,7 @@ module _ (w : World) (h : ℕ) (s : Stage) where
 
 -- ---- each input ----
 pub step_ok : (c : Config) (b : Book) (clock : ℕ) (i : Input) → StepOk b (step_book c b clock i)
-step_ok c b clock i = record { grown = step_grown c b clock i; clash = step_clash c b clock i }
+step_ok c b clock i = record { grown = step_grown c b clock i; keyed = step_ascending c b clock i; clash = step_clash c b clock i }
 
 -- ---- each event ----
 module _ (w : World) (inv : Inv w) (h : ℕ) where
@@ -142,12 +143,15 @@ run_ok (e ∷ es) w inv = run_ok es (happens w e) (happens_ok w e inv)
 
 start_ok : (names : ℕ → List ℕ) (configs : ℕ → Config) → Inv (start names configs)
 start_ok names configs = record {
-  lines = λ h. line_one (record { config = configs h; book = empty_book }) (λ j k r s a b apart e f booked other at there. cc);
+  lines = λ h. line_one (record { config = configs h; book = empty_book }) tt (λ j k r s a b apart e f booked other at there. cc);
   answers = λ j a e. cc;
 }
 
 pub always : (names : ℕ → List ℕ) (configs : ℕ → Config) (es : List Event) → Inv (run es (start names configs))
 always names configs es = run_ok es (start names configs) (start_ok names configs)
+
+pub keyed_law : (names : ℕ → List ℕ) (configs : ℕ → Config) (es : List Event) → Keyed (run es (start names configs))
+keyed_law names configs es h i s e = ((always names configs es).lines h).keyed i s e
 
 pub booked_law : (names : ℕ → List ℕ) (configs : ℕ → Config) (es : List Event) → Booked (run es (start names configs))
 booked_law names configs es h i s e = ((always names configs es).lines h).clash i s e

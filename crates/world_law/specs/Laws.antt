@@ -8,7 +8,7 @@ use Rattle.run_states.specs.declared.proposal.Proposal.{Proposal}
 use Rattle.run_states.specs.declared.row.RunRow.{RunRow}
 use Rattle.run_states.specs.Conflict.{in_conflict}
 use Rattle.run_states.specs.Life.{settled_rows}
-use Rattle.run_states.specs.Rows.{find_row}
+use Rattle.run_states.specs.Rows.{find_row, IsAscendingRows}
 use Rattle.host_core.specs.declared.config.Config.{Config}
 use Rattle.host_core.specs.declared.step.Input.TheVariants.{Book as BookInput}
 use Rattle.host_core.specs.declared.step.Reply.{Reply}
@@ -18,6 +18,10 @@ use Rattle.host_core.specs.Booking.{last_number, booking, conflicts, keys_of_row
 use Rattle.host_core.specs.Grown.{Grown, NoClash, keeping}
 use Rattle.host_core.specs.Step.{last_booking}
 use Rattle.world_law.specs.World.{Stage, Answer, World, stages, aged}
+
+-- the rows of each stage ascend by key: no two have one key, and each is found by its own
+abbrev pub Keyed : World → Type 0
+Keyed w = (h i : ℕ) (s : Stage) → aged (stages w h) i ≡ Some s → IsAscendingRows s.book.rows
 
 -- no two booked rows of a host clash, in any stage
 abbrev pub Booked : World → Type 0

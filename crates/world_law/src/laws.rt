@@ -2,7 +2,12 @@
 ghost use Rattle.std.specs.Prelude.{ℕ, List};
 ghost use Rattle.host_core.specs.declared.config.Config.{Config};
 ghost use Rattle.world_law.specs.World.{Event, run, start};
-ghost use Rattle.world_law.specs.Laws.{Booked, AllGrown, FitAnswers, KeptAnswers};
+ghost use Rattle.world_law.specs.Laws.{Keyed, Booked, AllGrown, FitAnswers, KeptAnswers};
+
+/// The rows of each stage ascend by key, so no two have one key, and each is found by its own.
+pub fn law_keyed()
+    ensures { (names : ℕ → List ℕ) (configs : ℕ → Config) (events : List Event) → Keyed (run events (start names configs)) }
+{}
 
 /// No two booked rows of a host conflict, in any stage.
 pub fn law_booked()
