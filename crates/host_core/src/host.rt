@@ -7,6 +7,7 @@ ghost use Rattle.run_states.specs.Life.{settled_rows, HasMoments};
 ghost use Rattle.run_states.specs.Rows.{IsAscendingRows};
 ghost use Rattle.host_core.specs.Book.{Book, MayFollow, CanApply, CanApplyAll, IsInBounds, empty_book, book_after, added};
 ghost use Rattle.host_core.specs.Booking.{conflicts, fitted, sorted_conflicts};
+ghost use Rattle.host_core.specs.Grown.{Grown, AllStand};
 ghost use Rattle.host_core.specs.Change.{apply, apply_all, accepted_row};
 ghost use Rattle.host_core.specs.Reservations.{released, reservation_of, sorted_out};
 ghost use Rattle.host_core.specs.Step.{denied, decided_booking, outcome_of_booking, step_reply, step_changes, step_book};
@@ -166,6 +167,8 @@ impl Host {
         requires input { IsInBounds input }
         ensures reply { IfOk result (λ reply. reply ≡ step_reply config.now self.old.book clock input) }
         ensures book { OnOk result (self.new.book ≡ step_book config.now self.old.book clock input) }
+        ensures grown { OnOk result (Grown self.old.book self.new.book) }
+        ensures stand { OnOk result (AllStand self.old.book.rows self.new.book.rows) }
         ensures err { OnErr result (self.new.book ≡ self.old.book) }
     {
         let (reply, changes) = self.decide(alloc, config, clock, input)?;
