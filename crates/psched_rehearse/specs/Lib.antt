@@ -1,4 +1,5 @@
 pub mod Lawful
 pub mod Read
 pub mod Refusal
+pub mod Report
 pub mod Script

@@ -3,5 +3,7 @@
 
 mod fields;
 pub mod read;
+mod report;
 pub mod script;
+mod table;
 mod words;
