@@ -1,4 +1,5 @@
 pub mod LawfulLemmas
 pub mod LineLemmas
+pub mod SeatLemmas
 pub mod TextLemmas
 pub mod Worked

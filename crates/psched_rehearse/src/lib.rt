@@ -3,5 +3,7 @@
 
 mod fields;
 pub mod read;
+pub mod rehearse;
+mod report;
 pub mod script;
 mod words;
