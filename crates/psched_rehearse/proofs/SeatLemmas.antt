@@ -1,5 +1,5 @@
 -- The seats of a rehearsal show the present stages of the world.
-use Rattle.std.proofs.Common.{◌≡◌, ◌≢◌, ◌≤◌, ◌<◌, ◌+◌, ◌==◌, ◌⊎◌, inl, inr, ℕ, zero, suc, Bool, true, false, cond, max, List, [], ◌∷◌, ◌++◌, map, length, get_or, refl, sym, ap, ◌∙◌, arith}
+use Rattle.std.proofs.Common.{◌≡◌, ◌≢◌, ◌≤◌, ◌<◌, ◌==◌, ◌⊎◌, inl, inr, ℕ, ℤ, zero, suc, Bool, true, false, cond, List, [], ◌∷◌, ◌++◌, map, length, get_or, refl, sym, ap, ◌∙◌, arith}
 use Rattle.std.specs.List.{All, AllPairs, flat_map}
 use Rattle.std.specs.Prelude.{set}
 use Rattle.std.proofs.lemmas.Bool.Decides.{nat_tests}
@@ -12,6 +12,7 @@ use Rattle.ps_time.specs.declared.moment.TheConstants.{MAX_MOMENT}
 use Rattle.host_core.specs.declared.step.Input.{Input}
 use Rattle.host_core.specs.declared.step.Input.TheVariants.{Book as BookInput}
 use Rattle.world_law.specs.World.{Stage, World, Event, stages, push, run}
+use Rattle.ps_time.specs.declared.class.Class.{Class}
 use Rattle.psched_rehearse.specs.declared.rehearse.Seat.{Seat}
 use Rattle.psched_rehearse.specs.declared.script.ScriptHost.{ScriptHost}
 use Rattle.psched_rehearse.specs.declared.script.ScriptLine.{ScriptLine}
@@ -107,7 +108,7 @@ reports_shown hosts differ [] w lawful = refl
 reports_shown hosts differ (l ∷ ls) w lawful =
     let first : IsLawfulOver hosts l = All-head (IsLawfulOver hosts) l ls lawful in
     let rest : reports_from (stages_after (present_stages hosts w) l.line) ls ≡ report_from hosts (run (events_at hosts l.line) w) ls =
-        ap (λ stages. reports_from stages ls) (line_shown hosts differ w l.line first) ∙ reports_shown hosts differ ls (run (events_at hosts l.line) w) (All-tail (IsLawfulOver hosts) l ls lawful) in
+    ap (λ stages. reports_from stages ls) (line_shown hosts differ w l.line first) ∙ reports_shown hosts differ ls (run (events_at hosts l.line) w) (All-tail (IsLawfulOver hosts) l ls lawful) in
     ap (λ told. told ++ reports_from (stages_after (present_stages hosts w) l.line) ls) (told_shown hosts w l.number l.line first) ∙ ap (λ more. line_report (present_at hosts w) l.number l.line ++ more) rest
 
 after_shown : (hosts : List ScriptHost) → Differ hosts → (ls : List Numbered) (w : World) → All (IsLawfulOver hosts) ls → stages_after_all (present_stages hosts w) ls ≡ present_stages hosts (run (flat_map (λ l. events_at hosts l.line) ls) w)
@@ -141,9 +142,10 @@ last_within hosts [] lawful = omega arith
 last_within hosts (l ∷ ls) lawful =
     omega (arith, moment_within hosts l.line (All-head (λ x. IsLawfulLine hosts x.line) l ls lawful), last_within hosts ls (All-tail (λ x. IsLawfulLine hosts x.line) l ls lawful))
 
--- the seats after a write to one
-pub seat_set : (seats : List Seat) (place : ℕ) (seat : Seat) → stages_of (set seats place seat) ≡ set (stages_of seats) place (stage_of seat)
-seat_set seats place seat = map-set stage_of seats place seat
-
-pub seat_at : (seats : List Seat) (place : ℕ) (seat : Seat) → place < length seats → seat ≡ get_or seats place seat → stage_at (stages_of seats) place ≡ stage_of seat
-seat_at seats place seat lt is = get_or-map stage_of seats place seat (first_stage nobody) lt ∙ ap stage_of (sym is)
+-- ---- a step of one seat ----
+pub step_shown : (seats : List Seat) (at place : ℕ) (class : Class) (priority : ℤ) (start len : ℕ) (d new : Seat) → place < length seats
+    → stage_of new ≡ acted (stage_of (get_or seats place d)) at (BookInput class priority start len)
+    → stages_of (set seats place new) ≡ stages_after (stages_of seats) (Book at place class priority start len)
+step_shown seats at place class priority start len d new lt stepped =
+    let read : stage_at (stages_of seats) place ≡ stage_of (get_or seats place d) = get_or-map stage_of seats place d (first_stage nobody) lt in
+    map-set stage_of seats place new ∙ ap (set (stages_of seats) place) (stepped ∙ ap (λ s. acted s at (BookInput class priority start len)) (sym read))

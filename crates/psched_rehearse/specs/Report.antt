@@ -1,5 +1,5 @@
 -- STUB until the report's own definitions come.
-use Rattle.std.specs.Prelude.{ℕ, List, [], ◌++◌, decimal}
+use Rattle.std.specs.Prelude.{ℕ, List, decimal}
 use Rattle.run_states.specs.declared.row.RunRow.{RunRow}
 use Rattle.host_core.specs.declared.step.Reply.{Reply}
 
