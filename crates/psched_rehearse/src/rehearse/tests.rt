@@ -14,7 +14,7 @@ host a 1
 # late, and then early again
 90 a book exclusive 5 105 10
 10 b book exclusive 5 110 20
-100 a book background-multi -1000 99 10
+116 a book background-multi -1000 99 10
 100 a book background-multi -1000 110 315360000";
 
 const REPORT: &str = "\
@@ -30,7 +30,7 @@ const REPORT: &str = "\
 b 100 150 normal 0 preempted 00020000-0000-8001-8000-000000010000
 b 110 130 exclusive 5 on-deck 00020000-0000-8001-8000-000000030000
 b 120 170 normal 1 preempted 00020000-0000-8001-8000-000000020000
-a 100 110 exclusive 0 on-deck 00010000-0000-8001-8000-000000010000
+a 100 110 exclusive 0 missed 00010000-0000-8001-8000-000000010000
 a 110 315360110 background-multi -1000 on-deck 00010000-0000-8001-8000-000000020000
 ";
 
