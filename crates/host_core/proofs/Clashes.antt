@@ -1,5 +1,5 @@
 -- No two rows come into conflict: a run that is accepted closes what it conflicts with, and nothing that is booked moves.
-use Rattle.std.proofs.Common.{◌≡◌, ◌≢◌, ◌⊎◌, inl, inr, ℕ, Bool, true, false, cond, not, ◌&&◌, nat_lt, List, [], ◌∷◌, map, Option, Some, None, is_some, option_map, refl, sym, ap, ap₂, ◌∙◌, subst}
+use Rattle.std.proofs.Common.{◌≡◌, ◌≢◌, ◌⊎◌, inl, inr, ℕ, Bool, true, false, cond, ◌&&◌, nat_lt, List, [], ◌∷◌, map, Option, Some, None, option_map, refl, sym, ap, ap₂, ◌∙◌, subst}
 use Rattle.std.proofs.Math.Bool.{and_comm}
 use Rattle.std.specs.Ordering.{is_eq}
 use Rattle.ps_time.specs.Class.{conflicting_classes, clash}
@@ -14,7 +14,7 @@ use Rattle.run_states.specs.declared.row.RunRow.{RunRow}
 use Rattle.run_states.specs.declared.why.Closing.{Closing}
 use Rattle.run_states.specs.declared.why.Why.TheVariants.{Preempted}
 use Rattle.run_states.specs.Conflict.{clashes, in_conflict}
-use Rattle.run_states.specs.Life.{first, is_booked, close_row, closed_by, lapse_of, settled_row, settled_rows}
+use Rattle.run_states.specs.Life.{is_booked, close_row, closed_by, lapse_of, settled_row, settled_rows}
 use Rattle.run_states.specs.Rows.{find_row}
 use Rattle.host_core.specs.declared.change.Change.{Change}
 use Rattle.host_core.specs.declared.change.Change.TheVariants.{Accepted, Confirmed}
@@ -24,6 +24,7 @@ use Rattle.host_core.specs.Book.{Book, moment_at, book_after}
 use Rattle.host_core.specs.Change.{accepted_row, Incoming, incoming, give_way, effect, own, change_key, put_new, apply, apply_all}
 use Rattle.host_core.specs.Grown.{NoClash}
 use Rattle.host_core.specs.Step.{step, step_book}
+use Rattle.host_core.proofs.IndexLemmas.{closed_not_booked, closed_no_conflict}
 use Rattle.host_core.proofs.Placed.{put_from}
 use Rattle.host_core.proofs.RowLemmas.{find_row-map}
 use Rattle.host_core.proofs.Standing.{changed_evolves, settled_evolves}
@@ -67,16 +68,8 @@ Calm-refl q = record { class = refl; interval = refl; booked = λ e. e }
 Calm-trans : (q r s : RunRow) → Calm q r → Calm r s → Calm q s
 Calm-trans q r s f g = record { class = g.class ∙ f.class; interval = g.interval ∙ f.interval; booked = λ e. f.booked (g.booked e) }
 
-closed_not : (c : Closing) (q : RunRow) → is_booked (close_row c q) ≡ false
-closed_not c q = go (is_some q.accepted) q.closed
-  where
-    go : (a : Bool) (o : Option Closing) → (a && not (is_some (first o (Some c)))) ≡ false
-    go true None = refl
-    go true (Some d) = refl
-    go false o = refl
-
 close_calm : (c : Closing) (q : RunRow) → Calm q (close_row c q)
-close_calm c q = record { class = refl; interval = refl; booked = λ e. let not_so = closed_not c q in cc }
+close_calm c q = record { class = refl; interval = refl; booked = λ e. let gone = closed_not_booked c q in cc }
 
 either_calm : (b : Bool) (q r s : RunRow) → Calm q r → Calm q s → Calm q (cond b r s)
 either_calm true q r s f g = f
@@ -166,7 +159,7 @@ gave_way : (m : ℕ) (i : Incoming) (q : RunRow) → in_conflict i.class i.inter
 gave_way m i q = go (in_conflict i.class i.interval q) refl
   where
     go : (b : Bool) → in_conflict i.class i.interval q ≡ b → in_conflict i.class i.interval (cond b (close_row (record { moment = m; why = Preempted i.key }) q) q) ≡ false
-    go true e = ap (λ x. x && clashes i.class i.interval (test_class q.test) q.interval) (closed_not (record { moment = m; why = Preempted i.key }) q)
+    go true e = closed_no_conflict i.class i.interval (record { moment = m; why = Preempted i.key }) q
     go false e = e
 
 changed_key : (m : ℕ) (c : Change) (r : RunRow) → (own m c (give_way m (incoming c) r)).key ≡ r.key

@@ -1,4 +1,5 @@
 pub mod AcceptLemmas
+pub mod Ascending
 pub mod Clashes
 pub mod Evolve
 pub mod FollowLemmas

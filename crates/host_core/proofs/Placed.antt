@@ -85,3 +85,8 @@ put_keeps (Some n) rows k r e = go (find_row rows n.key) refl
     go : (f : Option RunRow) → find_row rows n.key ≡ f → find_row (cond (is_some f) rows (put_row rows n)) k ≡ Some r
     go (Some x) h = e
     go None h = find_row-put n rows k h ∙ at (is_eq (key_cmp n.key k)) h refl
+
+-- a new row is found where its key was free
+pub put_adds : (n : RunRow) (rows : List RunRow) → find_row rows n.key ≡ None → find_row (put_new (Some n) rows) n.key ≡ Some n
+put_adds n rows free =
+    ap (λ o. find_row (cond (is_some o) rows (put_row rows n)) n.key) free ∙ find_row-put n rows n.key free ∙ ap (λ b. cond b (Some n) (find_row rows n.key)) (key_same n.key)

@@ -1,6 +1,7 @@
 -- The stages of a host: their numbers stay, and what every new stage keeps.
 use Rattle.std.proofs.Common.{◌≡◌, ◌≤◌, ◌<◌, ◌⊎◌, inl, inr, ◌==◌, ℕ, Bool, true, false, cond, List, [], ◌∷◌, length, Some, None, refl, ap, ◌∙◌, subst, arith}
 use Rattle.std.proofs.lemmas.Bool.Decides.{nat_tests}
+use Rattle.run_states.specs.Rows.{IsAscendingRows}
 use Rattle.host_core.specs.Grown.{Grown, NoClash}
 use Rattle.host_core.specs.Book.{Book}
 use Rattle.host_core.proofs.Standing.{Grown-refl, Grown-trans}
@@ -33,17 +34,25 @@ aged_last x xs = let same : (length xs == length xs) ≡ true = grind (arith, na
 -- what a step does to a book: the one fact that is proved of each input
 pub record StepOk (b c : Book) : Type 0 where
   pub grown : Grown b c
+  pub keyed : IsAscendingRows b.rows → IsAscendingRows c.rows
   pub clash : NoClash b.rows → NoClash c.rows
 
 pub StepOk-refl : (b : Book) → StepOk b b
-StepOk-refl b = record { grown = Grown-refl b; clash = λ free. free }
+StepOk-refl b = record { grown = Grown-refl b; keyed = λ up. up; clash = λ free. free }
 
 -- what holds of all stages of a host
 pub record Line (xs : List Stage) : Type 0 where
+  pub keyed : (i : ℕ) (s : Stage) → aged xs i ≡ Some s → IsAscendingRows s.book.rows
   pub clash : (i : ℕ) (s : Stage) → aged xs i ≡ Some s → NoClash s.book.rows
   pub grown : (i j : ℕ) (s t : Stage) → i ≤ j → aged xs i ≡ Some s → aged xs j ≡ Some t → Grown s.book t.book
 
 module _ (x s : Stage) (xs : List Stage) (line : Line (x ∷ xs)) (ok : StepOk x.book s.book) where
+  line_keyed : (i : ℕ) (t : Stage) → aged (s ∷ x ∷ xs) i ≡ Some t → IsAscendingRows t.book.rows
+  line_keyed i t e = elim (aged_cases s (x ∷ xs) i t e) [
+    | inl h ↦ subst (λ y. IsAscendingRows y.book.rows) h.1 (ok.keyed (line.keyed (length xs) x (aged_last x xs)))
+    | inr h ↦ line.keyed i t h
+  ]
+
   line_clash : (i : ℕ) (t : Stage) → aged (s ∷ x ∷ xs) i ≡ Some t → NoClash t.book.rows
   line_clash i t e = elim (aged_cases s (x ∷ xs) i t e) [
     | inl h ↦ subst (λ y. NoClash y.book.rows) h.1 (ok.clash (line.clash (length xs) x (aged_last x xs)))
@@ -63,10 +72,14 @@ module _ (x s : Stage) (xs : List Stage) (line : Line (x ∷ xs)) (ok : StepOk x
       go (inr a) (inr b) = line.grown i j r t le a b
 
   pub line_push : Line (s ∷ x ∷ xs)
-  line_push = record { clash = line_clash; grown = line_grown }
+  line_push = record { keyed = line_keyed; clash = line_clash; grown = line_grown }
 
-pub line_one : (x : Stage) → NoClash x.book.rows → Line (x ∷ [])
-line_one x free = record {
+pub line_one : (x : Stage) → IsAscendingRows x.book.rows → NoClash x.book.rows → Line (x ∷ [])
+line_one x up free = record {
+  keyed = λ i s e. elim (aged_cases x [] i s e) [
+    | inl h ↦ subst (λ y. IsAscendingRows y.book.rows) h.1 up
+    | inr h ↦ cc
+  ];
   clash = λ i s e. elim (aged_cases x [] i s e) [
     | inl h ↦ subst (λ y. NoClash y.book.rows) h.1 free
     | inr h ↦ cc

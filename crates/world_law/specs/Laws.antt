@@ -8,16 +8,20 @@ use Rattle.run_states.specs.declared.proposal.Proposal.{Proposal}
 use Rattle.run_states.specs.declared.row.RunRow.{RunRow}
 use Rattle.run_states.specs.Conflict.{in_conflict}
 use Rattle.run_states.specs.Life.{settled_rows}
-use Rattle.run_states.specs.Rows.{find_row}
+use Rattle.run_states.specs.Rows.{find_row, IsAscendingRows}
 use Rattle.host_core.specs.declared.config.Config.{Config}
 use Rattle.host_core.specs.declared.step.Input.TheVariants.{Book as BookInput}
 use Rattle.host_core.specs.declared.step.Reply.{Reply}
 use Rattle.host_core.specs.declared.step.Reply.TheVariants.{Booked as BookedReply, Denied}
 use Rattle.host_core.specs.Book.{moment_at}
 use Rattle.host_core.specs.Booking.{last_number, booking, conflicts, keys_of_rows, yields, most_runs}
-use Rattle.host_core.specs.Grown.{Grown, NoClash}
+use Rattle.host_core.specs.Grown.{Grown, NoClash, keeping}
 use Rattle.host_core.specs.Step.{last_booking}
 use Rattle.world_law.specs.World.{Stage, Answer, World, stages, aged}
+
+-- the rows of each stage ascend by key: no two have one key, and each is found by its own
+abbrev pub Keyed : World → Type 0
+Keyed w = (h i : ℕ) (s : Stage) → aged (stages w h) i ≡ Some s → IsAscendingRows s.book.rows
 
 -- no two booked rows of a host clash, in any stage
 abbrev pub Booked : World → Type 0
@@ -60,3 +64,18 @@ abbrev pub FitAnswers : World → Type 0
 FitAnswers w = (j : ℕ) (a : Answer) → slice_get w.answers j ≡ Some a → (class : Class) (priority : ℤ) (start len : ℕ) → a.input ≡ BookInput class priority start len →
     (s : Stage) × (aged (stages w a.host) a.stage ≡ Some s) × (let m = moment_at s.book a.clock in let rows = settled_rows m s.book.rows in
     ExactBooking s.config m rows (next_booking s.config rows class priority start len) a.reply)
+
+-- what was booked at m
+pub record HasBooking (m : ℕ) (p : Proposal) (r : RunRow) : Type 0 where
+  pub test : r.test ≡ p.test
+  pub priority : r.priority ≡ p.priority
+  pub interval : r.interval ≡ Some (wanted p)
+  pub accepted : r.accepted ≡ Some m
+  pub confirmed : r.confirmed ≡ Some m
+
+-- each booking that was acknowledged stands in all later stages, for seven days after its end at least
+abbrev pub KeptAnswers : World → Type 0
+KeptAnswers w = (j : ℕ) (a : Answer) → slice_get w.answers j ≡ Some a → (class : Class) (priority : ℤ) (start len : ℕ) → a.input ≡ BookInput class priority start len →
+    (key : RunKey) (preempted : List RunKey) → a.reply ≡ BookedReply key preempted → (s : Stage) → aged (stages w a.host) a.stage ≡ Some s →
+    (i : ℕ) (t : Stage) → a.stage < i → aged (stages w a.host) i ≡ Some t → let m = moment_at s.book a.clock in let p = next_booking s.config (settled_rows m s.book.rows) class priority start len in
+    t.book.moment < (wanted p).end + keeping → (r : RunRow) × (find_row t.book.rows key ≡ Some r) × HasBooking m p r
