@@ -6,4 +6,5 @@ pub mod read;
 pub mod rehearse;
 mod report;
 pub mod script;
+mod table;
 mod words;

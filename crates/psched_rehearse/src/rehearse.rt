@@ -10,8 +10,9 @@ ghost use Rattle.psched_rehearse.specs.Rehearsal.{line_report, last_moment, mome
 ghost use Rattle.psched_rehearse.specs.Seats.{stage_of, stages_of, first_stage, stage_at, acted, stages_after, stages_after_all, reports_from, seat_tables};
 ghost use Rattle.psched_rehearse.specs.World.{world_of};
 
-use crate::report::{add_ok, add_reply, add_table};
+use crate::report::{add_ok, add_reply};
 use crate::script::{Numbered, Script, ScriptHost, ScriptLine};
+use crate::table::add_table;
 use host_core::config::Config;
 use host_core::host::Host;
 use host_core::step::{Input, Reply};
