@@ -3,6 +3,7 @@
 
 mod fields;
 pub mod read;
+pub mod rehearse;
 mod report;
 pub mod script;
 mod table;
