@@ -83,7 +83,7 @@ module _ (m : ℕ) (p : Proposal) (ps : List (List ℕ)) (rows : List RunRow) (c
   pub accepted_moments : m ≤ MAX_MOMENT → All HasMoments rows → All HasMoments (put_row given (accepted_row m p ps))
   accepted_moments low within =
       let kept = All-map HasMoments (preempted_row m p.key (test_class p.test) (span_of p.start (test_length p.test))) rows
-          (λ i d lt. preempted_moments m p.key (test_class p.test) (span_of p.start (test_length p.test)) (get_or rows i d) (within i d lt)) in
+      (λ i d lt. preempted_moments m p.key (test_class p.test) (span_of p.start (test_length p.test)) (get_or rows i d) (within i d lt)) in
       All-put HasMoments (accepted_row m p ps) given (record { asked = tt; accepted = low; interval = (can.3, omega (arith, can.2, can.3)) }) kept
 
   -- ---- the same of values that are equal to these ----

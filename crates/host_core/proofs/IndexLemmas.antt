@@ -68,6 +68,7 @@ module _ (m : ℕ) (key : RunKey) (class : Class) (s : Span) where
     where
       own : (b : Bool) (o : Option Span) → is_booked r ≡ b → r.interval ≡ o → booking_of r ≡ cond b (reserved r o) None
       own b o booked at = ap₂ (λ x y. cond x (reserved r y) None) booked at
+
       go : (b : Bool) (o : Option Span) → is_booked r ≡ b → r.interval ≡ o
           → booking_of (cond (b && clashes class s (test_class r.test) o) (close_row closing r) r) ≡ gone (cond b (reserved r o) None)
       go false o booked at = own false o booked at
@@ -141,6 +142,7 @@ module _ (r : RunRow) (b : Booking) (is : booking_of r ≡ Some b) (same : b.key
       behind : match_ordering (key_cmp x.key r.key) true true false ≡ true → bookings_of (put_row xs r) ≡ with_booking (bookings_of xs) b
           → with_some (booking_of x) (bookings_of (put_row xs r)) ≡ with_booking (with_some (booking_of x) (bookings_of xs)) b
       behind low later = ap (with_some (booking_of x)) later ∙ insert_after x.key (booking_of x) (bookings_of xs) (booking_has_key x) low
+
       go : (c : Ordering) → key_cmp x.key r.key ≡ c → bookings_of (put_row xs r) ≡ with_booking (bookings_of xs) b
           → bookings_of (match_ordering c (x ∷ put_row xs r) (x ∷ put_row xs r) (r ∷ x ∷ xs)) ≡ with_booking (bookings_of (x ∷ xs)) b
       go Less order later = behind (ap (λ c. match_ordering c true true false) order) later
@@ -209,10 +211,10 @@ module _ (m : ℕ) where
       let later : released m rs bs ≡ bookings_of (settled_rows m rs) = bookings_settled rs up.1 in
       let others = all_bookings (λ k. is_eq (key_cmp k r.key) ≡ false) rs (above_is_other r.key rs up.0) in
       let here : released m rs (cond (lapses m r) (without_booking (with_some (booking_of r) bs) r.key) (with_some (booking_of r) bs)) ≡ with_some (cond (lapses m r) None (booking_of r)) (bookings_of (settled_rows m rs)) =
-          elim (lapses m r) as (λ x. released m rs (cond x (without_booking (with_some (booking_of r) bs) r.key) (with_some (booking_of r) bs)) ≡ with_some (cond x None (booking_of r)) (bookings_of (settled_rows m rs))) [
-            | true ↦ ap (released m rs) (without_own r.key (booking_of r) bs (booking_has_key r) others) ∙ later
-            | false ↦ open_settled r (booking_of r) rs (booking_has_key r) up.0 later
-          ] in
+      elim (lapses m r) as (λ x. released m rs (cond x (without_booking (with_some (booking_of r) bs) r.key) (with_some (booking_of r) bs)) ≡ with_some (cond x None (booking_of r)) (bookings_of (settled_rows m rs))) [
+        | true ↦ ap (released m rs) (without_own r.key (booking_of r) bs (booking_has_key r) others) ∙ later
+        | false ↦ open_settled r (booking_of r) rs (booking_has_key r) up.0 later
+      ] in
       here ∙ ap (λ o. with_some o (bookings_of (settled_rows m rs))) (sym (settled_booking r))
 
 -- ---- conflicts ----

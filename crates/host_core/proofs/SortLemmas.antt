@@ -45,12 +45,12 @@ module _ (class : Class) (s : Span) (priority : ℤ) (m : ℕ) (rows : List RunR
       → next (keys_of_rows (cond b (x ∷ xs) xs)) done ≡ after done (cond (in_conflict class s (closed_by o x)) (closed_by o x ∷ ys) ys)
   one_row x done xs ys found later (Some c) b lapsed conflict =
       let right : after done (cond (in_conflict class s (closed_by (Some c) x)) (closed_by (Some c) x ∷ ys) ys) ≡ after done ys =
-          ap (λ z. after done (cond z (closed_by (Some c) x ∷ ys) ys)) (closed_no_conflict class s c x) in
+      ap (λ z. after done (cond z (closed_by (Some c) x ∷ ys) ys)) (closed_no_conflict class s c x) in
       let skipped : sort_one priority m x.key (find_row rows x.key) done (next (keys_of_rows xs)) ≡ next (keys_of_rows xs) done =
-          ap (λ z. sort_one priority m x.key z done (next (keys_of_rows xs))) found
-          ∙ ap (λ z. cond (is_some z) (next (keys_of_rows xs) done) (cond (yields priority m x) (next (keys_of_rows xs) (done ++ x.key ∷ [])) (Err x.key))) lapsed in
+      ap (λ z. sort_one priority m x.key z done (next (keys_of_rows xs))) found
+      ∙ ap (λ z. cond (is_some z) (next (keys_of_rows xs) done) (cond (yields priority m x) (next (keys_of_rows xs) (done ++ x.key ∷ [])) (Err x.key))) lapsed in
       let left : next (keys_of_rows (cond b (x ∷ xs) xs)) done ≡ next (keys_of_rows xs) done =
-          elim b as (λ z. next (keys_of_rows (cond z (x ∷ xs) xs)) done ≡ next (keys_of_rows xs) done) [ true ↦ skipped | false ↦ refl ] in
+      elim b as (λ z. next (keys_of_rows (cond z (x ∷ xs) xs)) done ≡ next (keys_of_rows xs) done) [ true ↦ skipped | false ↦ refl ] in
       left ∙ (later done ∙ sym right)
   one_row x done xs ys found later None true lapsed conflict =
       ap (λ z. sort_one priority m x.key z done (next (keys_of_rows xs))) found

@@ -4,7 +4,7 @@ ghost use Rattle.host_core.specs.Booking.{last_number, booking_test, booking_too
 
 use crate::config::Config;
 use plugin_core::test_spec::TestSpec;
-use plugin_core::tool::{tool_name, Tool};
+use plugin_core::tool::{Tool, tool_name};
 use ps_time::asker::Asker;
 use ps_time::class::Class;
 use ps_time::key::RunKey;

@@ -4,18 +4,19 @@ ghost use Rattle.ps_time.specs.Span.{span_of};
 ghost use Rattle.ps_time.specs.declared.moment.TheConstants.{MAX_MOMENT, MAX_LENGTH};
 ghost use Rattle.plugin_core.specs.TestSpec.{test_length};
 ghost use Rattle.run_states.specs.Life.{settled_rows, HasMoments};
-ghost use Rattle.host_core.specs.Book.{Book, MayFollow, CanApply, IsInBounds, empty_book, book_after, added};
+ghost use Rattle.run_states.specs.Rows.{IsAscendingRows};
+ghost use Rattle.host_core.specs.Book.{Book, MayFollow, CanApply, CanApplyAll, IsInBounds, empty_book, book_after, added};
 ghost use Rattle.host_core.specs.Booking.{conflicts, fitted, sorted_conflicts};
-ghost use Rattle.host_core.specs.Change.{apply, accepted_row};
+ghost use Rattle.host_core.specs.Change.{apply, apply_all, accepted_row};
 ghost use Rattle.host_core.specs.Reservations.{released, reservation_of, sorted_out};
 ghost use Rattle.host_core.specs.Step.{denied, decided_booking, outcome_of_booking, step_reply, step_changes, step_book};
 ghost use Rattle.host_core.specs.declared.change.Change.TheVariants.{Accepted as AcceptedChange};
 
-use crate::booking::{booking, last_number, yields, Wish};
+use crate::booking::{Wish, booking, last_number, yields};
 use crate::change::{Change, Changes};
 use crate::config::Config;
 use crate::step::{Input, Outcome, Reply};
-use host_timeline::booking::{firm_from, Booking};
+use host_timeline::booking::{Booking, firm_from};
 use host_timeline::timeline::Timeline;
 use plugin_core::test_spec::{class_of, length_of};
 use ps_time::class::Class;
@@ -70,7 +71,9 @@ impl Host {
 
     /// The book's rows.
     pub fn rows(&self) -> &Rows
-        ensures { result.now.list ≡ self.now.book.rows }
+        ensures list { result.now.list ≡ self.now.book.rows }
+        ensures ascending { IsAscendingRows self.now.book.rows }
+        ensures moments { All HasMoments self.now.book.rows }
     {
         &self.rows
     }
@@ -147,9 +150,7 @@ impl Host {
             return;
         }
         self.settle(moment);
-        for change in list.into_vec() {
-            self.make(alloc, moment, change);
-        }
+        self.make_all(alloc, moment, list);
         self.moment = moment;
     }
 
@@ -183,7 +184,8 @@ impl Host {
     ) -> Result<Outcome, Memory>
         requires moment { moment ≤ MAX_MOMENT }
         requires bounds { (wish.start ≤ MAX_MOMENT) × (1 ≤ wish.length) × (wish.length ≤ MAX_LENGTH) }
-        ensures { IfOk result (λ o. o ≡ outcome_of_booking config.now moment (settled_rows moment self.now.book.rows) wish.class wish.priority wish.start wish.length) }
+        ensures outcome { IfOk result (λ o. o ≡ outcome_of_booking config.now moment (settled_rows moment self.now.book.rows) wish.class wish.priority wish.start wish.length) }
+        ensures can { IfOk result (λ o. CanApplyAll moment (settled_rows moment self.now.book.rows) o.list) }
     {
         let last = last_number(self.rows.list(), config.number);
         if last == u32::MAX {
@@ -195,7 +197,12 @@ impl Host {
     }
 
     // Whether the proposal fits: the keys of the rows that it preempts, or the first reason against it.
-    fn fit(&self, alloc: Global, moment: Moment, proposal: &Proposal) -> Result<Result<Items<RunKey>, Denial>, Memory>
+    fn fit(
+        &self,
+        alloc: Global,
+        moment: Moment,
+        proposal: &Proposal,
+    ) -> Result<Result<Items<RunKey>, Denial>, Memory>
         requires moment { moment ≤ MAX_MOMENT }
         requires bounds { (proposal.now.start ≤ MAX_MOMENT) × (1 ≤ test_length proposal.now.test) × (test_length proposal.now.test ≤ MAX_LENGTH) }
         ensures { IfOk result (λ r. r ≡ fitted moment (settled_rows moment self.now.book.rows) proposal.now) }
@@ -239,6 +246,20 @@ impl Host {
         self.rows.settle(moment);
     }
 
+    // Makes the changes at the moment, in order.
+    fn make_all(&mut self, alloc: Global, moment: Moment, list: Items<Change>)
+        requires moment { moment ≤ MAX_MOMENT }
+        requires room { added list ≤ self.old.room }
+        requires can { CanApplyAll moment self.old.book.rows list }
+        ensures moment { self.new.book.moment ≡ self.old.book.moment }
+        ensures rows { self.new.book.rows ≡ apply_all moment list self.old.book.rows }
+        ensures room { self.old.room ≤ self.new.room + added list }
+    {
+        for change in list.into_vec() {
+            self.make(alloc, moment, change);
+        }
+    }
+
     // Makes one change at the moment.
     fn make(&mut self, alloc: Global, moment: Moment, change: Change)
         requires moment { moment ≤ MAX_MOMENT }
@@ -272,8 +293,7 @@ impl Host {
         ensures room { self.old.room ≤ self.new.room + 1 }
     {
         let run = reservation_of(&proposal);
-        self.rows
-            .preempt(run.key, run.class, &run.interval, moment);
+        self.rows.preempt(run.key, run.class, &run.interval, moment);
         self.timeline.release_conflicts(run.class, &run.interval);
         self.timeline.book(run);
         self.rows

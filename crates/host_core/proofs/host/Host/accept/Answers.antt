@@ -25,7 +25,7 @@ put-requires-clause-new_key c =
     let seen : rows ≡ c.args.self.now.book.rows = ap (λ (h : Host). h.book.rows) c.self.view_is in
     let can = subst (λ l. CanApply c.args.moment l (Accepted c.args.proposal c.args.participants)) (sym seen) c.requires.can in
     accept_row c.args.moment c.args.proposal c.args.participants rows can c.self.inside.timeline.list c.self.invariant.index c.reservation_of-run.result c.reservation_of-run.ensures _ c.release_conflicts.ensures.list
-        _ c.preempt.ensures.rows _ c.accepted_row.ensures
+    _ c.preempt.ensures.rows _ c.accepted_row.ensures
 
 pub invariant_of-self : goal.invariant_of-self
 invariant_of-self c =
@@ -33,8 +33,8 @@ invariant_of-self c =
     let seen : rows ≡ c.args.self.now.book.rows = ap (λ (h : Host). h.book.rows) c.self.view_is in
     let can = subst (λ l. CanApply c.args.moment l (Accepted c.args.proposal c.args.participants)) (sym seen) c.requires.can in
     rw (c.put.ensures.rows, c.book.ensures.list)
-        (accept_sound c.args.moment c.args.proposal c.args.participants rows can c.self.inside.timeline.list c.self.invariant.index c.reservation_of-run.result c.reservation_of-run.ensures _ c.release_conflicts.ensures.list
-        _ c.preempt.ensures.rows _ c.accepted_row.ensures c.self.inside.moment c.self.invariant.moment c.requires.moment c.self.invariant.moments c.self.invariant.ascending)
+    (accept_sound c.args.moment c.args.proposal c.args.participants rows can c.self.inside.timeline.list c.self.invariant.index c.reservation_of-run.result c.reservation_of-run.ensures _ c.release_conflicts.ensures.list
+    _ c.preempt.ensures.rows _ c.accepted_row.ensures c.self.inside.moment c.self.invariant.moment c.requires.moment c.self.invariant.moments c.self.invariant.ascending)
 
 pub returns-clause-rows : goal.returns-clause-rows
 returns-clause-rows c =
@@ -43,5 +43,5 @@ returns-clause-rows c =
     let can = subst (λ l. CanApply c.args.moment l (Accepted c.args.proposal c.args.participants)) (sym seen) c.requires.can in
     c.put.ensures.rows
     ∙ (accept_rows c.args.moment c.args.proposal c.args.participants rows can c.self.inside.timeline.list c.self.invariant.index c.reservation_of-run.result c.reservation_of-run.ensures _ c.release_conflicts.ensures.list
-        _ c.preempt.ensures.rows _ c.accepted_row.ensures
+    _ c.preempt.ensures.rows _ c.accepted_row.ensures
     ∙ ap (apply c.args.moment (Accepted c.args.proposal c.args.participants)) seen)

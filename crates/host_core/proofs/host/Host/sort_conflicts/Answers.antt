@@ -17,7 +17,7 @@ returns c =
     let seen : rows ≡ c.args.self.now.book.rows = ap (λ (h : Host). h.book.rows) c.self.view_is in
     let keys = c.as_slice.ensures ∙ (c.in_ok-keys.ensures.keys ∙ (ap (λ l. keys_of (conflicting c.args.class c.args.interval.now l)) c.self.invariant.index ∙ keys_in_conflict c.args.class c.args.interval.now rows)) in
     let path = ap (λ z. sorted_out z c.args.moment rows [] c.as_slice.result.now) (to_z-of_z c.ranges.priority)
-        ∙ (ap (sorted_out c.args.priority c.args.moment rows []) keys
-        ∙ (sorted_settled c.args.class c.args.interval.now c.args.priority c.args.moment rows (each_found rows c.self.invariant.ascending)
-        ∙ ap (λ l. sorted_conflicts c.args.priority c.args.moment (conflicts c.args.class c.args.interval.now (settled_rows c.args.moment l))) seen)) in
+    ∙ (ap (sorted_out c.args.priority c.args.moment rows []) keys
+    ∙ (sorted_settled c.args.class c.args.interval.now c.args.priority c.args.moment rows (each_found rows c.self.invariant.ascending)
+    ∙ ap (λ l. sorted_conflicts c.args.priority c.args.moment (conflicts c.args.class c.args.interval.now (settled_rows c.args.moment l))) seen)) in
     subst (λ x. IfOk c.sort_out.result (λ r. r ≡ x)) path c.sort_out.ensures
