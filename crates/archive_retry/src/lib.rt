@@ -3,6 +3,5 @@
 
 pub mod policy;
 pub mod state;
-
 #[cfg(test)]
 mod tests;

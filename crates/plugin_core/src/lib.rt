@@ -2,7 +2,6 @@
 #![tactic(auto)]
 
 pub mod test_spec;
-pub mod tool;
-
 #[cfg(test)]
 mod tests;
+pub mod tool;

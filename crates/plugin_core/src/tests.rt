@@ -3,8 +3,8 @@ ghost use Rattle.std.specs.Prelude.{◌≤◌, IfOk};
 ghost use Rattle.ps_time.specs.declared.moment.TheConstants.{MAX_LENGTH};
 ghost use Rattle.plugin_core.specs.TestSpec.{test_length};
 
-use crate::test_spec::{class_of, length_of, TestSpec};
-use crate::tool::{tool_name, Tool};
+use crate::test_spec::{TestSpec, class_of, length_of};
+use crate::tool::{Tool, tool_name};
 use ps_time::class::Class;
 use ps_time::items::Items;
 use ps_time::memory::Memory;

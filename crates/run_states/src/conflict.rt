@@ -5,7 +5,7 @@ ghost use Rattle.run_states.specs.Conflict.{in_conflict, preempted_row};
 use crate::row::RunRow;
 use crate::why::{Closing, Why};
 use plugin_core::test_spec::class_of;
-use ps_time::class::{classes_conflict, Class};
+use ps_time::class::{Class, classes_conflict};
 use ps_time::interval::Interval;
 use ps_time::key::RunKey;
 use ps_time::moment::Moment;

@@ -25,7 +25,7 @@ pub struct Rows {
 impl Model for Rows {
     ghost use Rattle.std.specs.Prelude.{◌-◌, vec_len, vec_capacity};
     ghost use Rattle.run_states.specs.Conflict.{preempted_rows};
-ghost use Rattle.run_states.specs.Rows.{Rows as Table, IsAscendingRows};
+    ghost use Rattle.run_states.specs.Rows.{Rows as Table, IsAscendingRows};
 
     ghost Value = { Table };
 
@@ -173,13 +173,7 @@ fn settle_all(rows: &mut [RunRow], moment: Moment)
     }
 }
 
-fn all_give_way(
-    rows: &mut [RunRow],
-    key: RunKey,
-    class: Class,
-    interval: &Interval,
-    moment: Moment,
-)
+fn all_give_way(rows: &mut [RunRow], key: RunKey, class: Class, interval: &Interval, moment: Moment)
     ensures { rows.new ≡ preempted_rows moment key class interval.now rows.old }
 {
     for row in rows.iter_mut() {

@@ -1,18 +1,16 @@
 //! Rows made by hand, against the tables of docs/specification/run-rows.md.
-ghost use Rattle.std.specs.Prelude.{◌≤◌, IfOk, IfSome};
-ghost use Rattle.ps_time.specs.declared.moment.TheConstants.{MAX_MOMENT};
+ghost use Rattle.std.specs.Prelude.{IfOk};
 ghost use Rattle.run_states.specs.Life.{HasMoments};
 
 use crate::answer::{FreeAnswer, Other};
 use crate::life::{LifeStep, Wrong, state_name};
-use crate::proposal::{Proposal, Question};
 use crate::row::{Ending, RunRow};
 use crate::rows::Rows;
 use crate::state::State;
-use crate::why::{Cause, Closing, Denial, What, Why};
+use crate::why::{Cause, Closing, Denial, Why};
 use archive_retry::state::ArchiveState;
 use plugin_core::test_spec::TestSpec;
-use ps_time::asker::{Asker, Verdict};
+use ps_time::asker::Asker;
 use ps_time::interval::{Interval, Window};
 use ps_time::items::Items;
 use ps_time::key::RunKey;
@@ -23,64 +21,20 @@ use ps_time::tiers::Tiers;
 use std::alloc::Global;
 use std::test::Fail;
 
-/// The moments of a row's life.
+/// How far the life of a row has come.
 #[derive(Clone, Copy)]
-struct Life {
-    asked: Option<u16>,
-    accepted: Option<u16>,
-    confirmed: Option<u16>,
-    started: Option<u16>,
-}
-
-const NEW: Life = Life {
-    asked: None,
-    accepted: None,
-    confirmed: None,
-    started: None,
-};
-
-const ASKED: Life = Life {
-    asked: Some(10),
-    accepted: None,
-    confirmed: None,
-    started: None,
-};
-
-const EARLY: Life = Life {
-    asked: Some(10),
-    accepted: Some(10),
-    confirmed: None,
-    started: None,
-};
-
-const LATE: Life = Life {
-    asked: None,
-    accepted: Some(50),
-    confirmed: None,
-    started: None,
-};
-
-const CONFIRMED: Life = Life {
-    asked: None,
-    accepted: Some(50),
-    confirmed: Some(60),
-    started: None,
-};
-
-const STARTED: Life = Life {
-    asked: None,
-    accepted: Some(50),
-    confirmed: Some(60),
-    started: Some(100),
-};
-
-fn moment(m: Option<u16>) -> Option<u64>
-    ensures { IfSome result (λ m. m ≤ MAX_MOMENT) }
-{
-    match m {
-        None => None,
-        Some(m) => Some(u64::from(m)),
-    }
+enum Stage {
+    New,
+    /// Asked at 10.
+    Asked,
+    /// Asked and accepted at 10.
+    Early,
+    /// Accepted at 50.
+    Late,
+    /// Confirmed at 60.
+    Confirmed,
+    /// Started at 100.
+    Started,
 }
 
 fn key(number: u32) -> RunKey {
@@ -100,10 +54,21 @@ fn asker(alloc: Global) -> Result<Asker, Memory> {
 }
 
 // A row over the seconds 100 to 150.
-fn row(alloc: Global, number: u32, life: Life) -> Result<RunRow, Memory>
+fn row(alloc: Global, number: u32, stage: Stage) -> Result<RunRow, Memory>
     ensures { IfOk result (λ r. HasMoments r) }
 {
     let asker = asker(alloc)?;
+    let (asked, accepted) = match stage {
+        Stage::New => (None, None),
+        Stage::Asked => (Some(10), None),
+        Stage::Early => (Some(10), Some(10)),
+        _ => (None, Some(50)),
+    };
+    let (confirmed, started) = match stage {
+        Stage::Confirmed => (Some(60), None),
+        Stage::Started => (Some(60), Some(100)),
+        _ => (None, None),
+    };
     Ok(RunRow {
         key: key(number),
         test: TestSpec::Idleex {
@@ -119,103 +84,80 @@ fn row(alloc: Global, number: u32, life: Life) -> Result<RunRow, Memory>
         priority: 0,
         participants: Items::new(alloc),
         asker,
-        accepted: moment(life.accepted),
-        confirmed: moment(life.confirmed),
-        started: moment(life.started),
+        accepted,
+        confirmed,
+        started,
         ended: None,
         material: None,
         closed: None,
         question: None,
-        asked: moment(life.asked),
+        asked,
         others: Items::new(alloc),
         merged: None,
         archives: Items::new(alloc),
     })
 }
 
-fn reason(why: &Why) -> &'static str {
-    match why {
-        Why::Nonstart(Cause::Silent) => "silent",
-        Why::Nonstart(Cause::HoldEnded) => "hold ended",
-        Why::Missed => "missed",
-        _ => "another",
-    }
-}
-
-// When and why the row of this life is closed, settled at the moment; 0 where it isn't.
-fn closing(alloc: Global, life: Life, moment: u64) -> Result<(u64, &'static str), Memory> {
-    let mut row = row(alloc, 1, life)?;
+// When the row is closed, settled at the moment; 0 where it isn't.
+fn closing(alloc: Global, stage: Stage, moment: u64) -> Result<u64, Memory> {
+    let mut row = row(alloc, 1, stage)?;
     row.settle(moment);
     Ok(match &row.closed {
-        None => (0, "open"),
-        Some(closing) => (closing.moment, reason(&closing.why)),
+        None => 0,
+        Some(closing) => closing.moment,
     })
-}
-
-fn is_booked(alloc: Global, life: Life, moment: u64) -> Result<bool, Memory> {
-    let row = row(alloc, 1, life)?;
-    Ok(row.is_booked_at(moment))
 }
 
 #[test]
 fn lapses(rt: HostRuntime) -> Result<(), Fail> {
     let cases = [
-        (ASKED, 69, 0, "open", false),
-        (ASKED, 70, 70, "silent", false),
-        (ASKED, 9_999, 70, "silent", false),
-        (EARLY, 69, 0, "open", true),
-        (EARLY, 71, 70, "hold ended", false),
-        (LATE, 99, 0, "open", true),
-        (LATE, 120, 100, "hold ended", false),
-        (CONFIRMED, 115, 0, "open", true),
-        (CONFIRMED, 116, 116, "missed", false),
-        (CONFIRMED, 9_999, 116, "missed", false),
-        (STARTED, 9_999, 0, "open", true),
+        (Stage::Asked, 69, 0),
+        (Stage::Asked, 70, 70),
+        (Stage::Early, 69, 0),
+        (Stage::Early, 71, 70),
+        (Stage::Late, 99, 0),
+        (Stage::Late, 120, 100),
+        (Stage::Confirmed, 115, 0),
+        (Stage::Confirmed, 9_999, 116),
+        (Stage::Started, 9_999, 0),
     ];
-    for (life, moment, closed, reason, booked) in cases {
-        let (at, why) = closing(rt.alloc(), life, moment)?;
-        assert!(rt; at == closed && why == reason, "at {moment}");
-        assert!(rt;
-            is_booked(rt.alloc(), life, moment)? == booked,
-            "at {moment}"
-        );
+    for (stage, moment, closed) in cases {
+        assert!(rt; closing(rt.alloc(), stage, moment)? == closed);
     }
     Ok(())
 }
 
-fn state(alloc: Global, life: Life, moment: u16) -> Result<State, Memory> {
-    let row = row(alloc, 1, life)?;
+fn state(alloc: Global, stage: Stage, moment: u16) -> Result<State, Memory> {
+    let row = row(alloc, 1, stage)?;
     Ok(state_name(&row, u64::from(moment)))
 }
 
 #[test]
 fn states(rt: HostRuntime) -> Result<(), Fail> {
     let cases = [
-        (NEW, 100, State::Pending),
-        (LATE, 95, State::Pending),
-        (CONFIRMED, 89, State::Pending),
-        (CONFIRMED, 90, State::OnDeck),
-        (STARTED, 149, State::Running),
-        (STARTED, 150, State::Cleanup),
-        (STARTED, 164, State::Cleanup),
-        (STARTED, 165, State::Overdue),
+        (Stage::Late, 95, State::Pending),
+        (Stage::Confirmed, 89, State::Pending),
+        (Stage::Confirmed, 90, State::OnDeck),
+        (Stage::Started, 149, State::Running),
+        (Stage::Started, 150, State::Cleanup),
+        (Stage::Started, 164, State::Cleanup),
+        (Stage::Started, 165, State::Overdue),
     ];
-    for (life, moment, want) in cases {
-        let state = state(rt.alloc(), life, moment)?;
-        assert_eq!(rt; state, want, "at {moment}");
+    for (stage, moment, want) in cases {
+        assert!(rt; state(rt.alloc(), stage, moment)? == want);
     }
     Ok(())
 }
 
 fn closed_state(alloc: Global, why: Why) -> Result<State, Memory> {
-    let mut row = row(alloc, 1, STARTED)?;
+    let mut row = row(alloc, 1, Stage::Started)?;
     row.closed = Some(Closing { moment: 1, why });
     Ok(state_name(&row, 9_999))
 }
 
 fn ended_state(alloc: Global, good: bool) -> Result<State, Memory> {
     let body = Text::new(alloc, "{}")?;
-    let mut row = row(alloc, 1, STARTED)?;
+    let mut row = row(alloc, 1, Stage::Started)?;
     row.ended = Some(Ending {
         moment: 110,
         good,
@@ -241,29 +183,36 @@ fn last_states(rt: HostRuntime) -> Result<(), Fail> {
 
 #[test]
 fn names(rt: HostRuntime) -> Result<(), Fail> {
-    let names = [
+    let ended = [
         (State::Missed, "missed"),
         (State::Preempted, "preempted"),
         (State::Nonstart, "nonstart"),
         (State::Canceled, "canceled"),
         (State::Finished, "finished"),
         (State::Failed, "failed"),
+    ];
+    for (state, name) in ended {
+        assert!(rt; state.name() == name);
+    }
+    let open = [
         (State::Running, "running"),
         (State::Cleanup, "cleanup"),
         (State::Overdue, "overdue"),
         (State::OnDeck, "on-deck"),
         (State::Pending, "pending"),
     ];
-    for (state, name) in names {
-        let text = format!(in rt.alloc(); "{state}")?;
-        assert!(rt; text.as_str() == name);
+    for (state, name) in open {
+        assert!(rt; state.name() == name);
     }
+    let state = State::OnDeck;
+    let text = format!(in rt.alloc(); "{state}")?;
+    assert!(rt; text.as_str() == "on-deck");
     Ok(())
 }
 
 #[test]
 fn lives(rt: HostRuntime) -> Result<(), Fail> {
-    let mut row = row(rt.alloc(), 1, LATE)?;
+    let mut row = row(rt.alloc(), 1, Stage::Late)?;
     assert!(rt; row.advance(LifeStep::Start, 100) == Err(Wrong));
     assert!(rt; row.advance(LifeStep::Confirm, 60).is_ok());
     assert!(rt; row.advance(LifeStep::Start, 100).is_ok());
@@ -272,21 +221,18 @@ fn lives(rt: HostRuntime) -> Result<(), Fail> {
     Ok(())
 }
 
-#[test]
-fn ends(rt: HostRuntime) -> Result<(), Fail> {
-    let body = Text::new(rt.alloc(), "{}")?;
-    let mut row = row(rt.alloc(), 1, STARTED)?;
-    let end = LifeStep::End { good: true, body };
-    assert!(rt; row.advance(end, 140).is_ok());
-    assert!(rt; row.is_booked() && !row.is_active());
-    Ok(())
+fn canceled() -> Closing {
+    Closing {
+        moment: 8,
+        why: Why::Canceled,
+    }
 }
 
 fn three_rows(alloc: Global) -> Result<Rows, Memory> {
     let mut rows = Rows::new(alloc);
     for number in [2, 1, 3] {
         rows.reserve(1)?;
-        let row = row(alloc, number, NEW)?;
+        let row = row(alloc, number, Stage::New)?;
         if rows.find(row.key).is_none() {
             rows.put(row);
         }
@@ -302,107 +248,15 @@ fn keeps_rows_in_order(rt: HostRuntime) -> Result<(), Fail> {
         assert!(rt; row.key.number == number);
     }
     assert!(rt; rows.find(key(4)).is_none());
-    assert!(rt; rows.lift(key(1)).is_some());
-    assert!(rt; rows.lift(key(1)).is_none());
-    Ok(())
-}
-
-#[test]
-fn changes_one_row(rt: HostRuntime) -> Result<(), Fail> {
-    let mut rows = three_rows(rt.alloc())?;
     rows.confirm(key(2), 7);
-    let closing = Closing {
-        moment: 8,
-        why: Why::Canceled,
-    };
-    rows.close(key(3), closing);
+    rows.close(key(3), canceled());
     let copy = rows.copy(rt.alloc())?;
     for row in copy.list() {
         assert!(rt; row.confirmed.is_some() == (row.key.number == 2));
         assert!(rt; row.closed.is_some() == (row.key.number == 3));
     }
-    Ok(())
-}
-
-#[test]
-fn settles_rows(rt: HostRuntime) -> Result<(), Fail> {
-    let row = row(rt.alloc(), 1, ASKED)?;
-    let mut rows = Rows::new(rt.alloc());
-    if rows.reserve(1).is_ok() {
-        rows.put(row);
-        rows.settle(70);
-    }
-    for row in rows.list() {
-        assert!(rt; row.closed.is_some());
-    }
-    assert!(rt; rows.list().len() == 1);
-    Ok(())
-}
-
-fn proposal(alloc: Global, start: u64) -> Result<Proposal, Memory> {
-    let tool = Text::new(alloc, "sleep")?;
-    let asker = asker(alloc)?;
-    Ok(Proposal {
-        key: key(1),
-        test: TestSpec::Idle {
-            duration: 50,
-            starting_comment: None,
-            parting_comment: None,
-        },
-        tool,
-        start,
-        priority: -5,
-        asker,
-    })
-}
-
-// One of each kind.
-fn denial(alloc: Global, which: u8) -> Result<Denial, Memory> {
-    match which {
-        0 => Ok(Denial::Limits(Verdict::AboveCeiling(-7))),
-        1 => Ok(Denial::Past(10, 9)),
-        2 => Ok(Denial::Conflict(key(2))),
-        3 => Ok(Denial::Full(What::Numbers, 4_294_967_295)),
-        4 => Ok(Denial::Differs(proposal(alloc, 100)?, proposal(alloc, 101)?)),
-        5 => Ok(Denial::Closed(State::Missed)),
-        6 => Ok(Denial::NotParticipant),
-        _ => Ok(Denial::NoTool(Text::new(alloc, "snooze")?)),
-    }
-}
-
-fn denied(alloc: Global, which: u8) -> Result<Why, Memory> {
-    let host = Text::new(alloc, "b")?;
-    Ok(Why::Nonstart(Cause::Denied(host, denial(alloc, which)?)))
-}
-
-#[test]
-fn copies_reasons(rt: HostRuntime) -> Result<(), Fail> {
-    for which in 0..8 {
-        let why = denied(rt.alloc(), which)?;
-        let copy = why.copy(rt.alloc())?;
-        assert!(rt; copy.same(&why), "denial {which}");
-        assert!(rt; !copy.same(&Why::Canceled));
-    }
-    Ok(())
-}
-
-#[test]
-fn copies_a_question(rt: HostRuntime) -> Result<(), Fail> {
-    let question = Question {
-        key: key(1),
-        test: TestSpec::Idle {
-            duration: 1,
-            starting_comment: None,
-            parting_comment: None,
-        },
-        priority: 0,
-        window: Window {
-            first: 100,
-            last: 160,
-        },
-    };
-    let copy = question.copy(rt.alloc())?;
-    assert!(rt; copy.same(&question));
+    assert!(rt; rows.lift(key(1)).is_some());
+    assert!(rt; rows.lift(key(1)).is_none());
     Ok(())
 }
 
@@ -446,23 +300,28 @@ fn archives(alloc: Global) -> Result<Items<ArchiveState>, Memory> {
     Ok(archives)
 }
 
-// The lead's row of a run that is merged.
-fn merged_row(alloc: Global) -> Result<RunRow, Memory> {
+// A row with something in each of its fields.
+fn full_row(alloc: Global) -> Result<RunRow, Memory> {
     let tool = Text::new(alloc, "sleep")?;
     let merged = Text::new(alloc, "{}")?;
+    let host = Text::new(alloc, "b")?;
     let archives = archives(alloc)?;
     let others = others(alloc)?;
-    let mut row = row(alloc, 1, STARTED)?;
+    let mut row = row(alloc, 1, Stage::Started)?;
     row.tool = Some(tool);
     row.merged = Some(merged);
     row.archives = archives;
     row.others = others;
+    row.closed = Some(Closing {
+        moment: 1,
+        why: Why::Nonstart(Cause::Denied(host, Denial::Past(10, 9))),
+    });
     Ok(row)
 }
 
 #[test]
 fn copies_rows(rt: HostRuntime) -> Result<(), Fail> {
-    let row = merged_row(rt.alloc())?;
+    let row = full_row(rt.alloc())?;
     let mut copy = row.copy(rt.alloc())?;
     assert!(rt; copy.same(&row));
     copy.priority = 1;
