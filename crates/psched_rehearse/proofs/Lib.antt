@@ -1,4 +1,9 @@
 pub mod LawfulLemmas
 pub mod LineLemmas
+pub mod OrderLemmas
+pub mod SeatLemmas
+pub mod TableLemmas
 pub mod TextLemmas
 pub mod Worked
+pub mod WorkedRehearsals
+pub mod WorkedReport

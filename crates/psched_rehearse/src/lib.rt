@@ -3,5 +3,8 @@
 
 mod fields;
 pub mod read;
+pub mod rehearse;
+mod report;
 pub mod script;
+mod table;
 mod words;

@@ -1,0 +1,10 @@
+pub mod AcceptLemmas
+pub mod Ascending
+pub mod Clashes
+pub mod Evolve
+pub mod FollowLemmas
+pub mod IndexLemmas
+pub mod Placed
+pub mod RowLemmas
+pub mod SortLemmas
+pub mod Standing

@@ -1,0 +1,43 @@
+//! What a host is asked, and what it answers.
+
+use crate::change::Change;
+use ps_time::class::Class;
+use ps_time::items::Items;
+use ps_time::key::RunKey;
+use ps_time::moment::{Length, Moment};
+use run_states::why::Denial;
+
+/// What a step of a host is asked to do.
+#[derive(Clone, Copy, Debug, PartialEq, Eq)]
+pub enum Input {
+    /// A run of this host for itself.
+    Book {
+        class: Class,
+        priority: i16,
+        /// In seconds since 1970 UTC.
+        start: Moment,
+        /// At least 1 s.
+        length: Length,
+    },
+}
+
+/// What a step answers.
+#[derive(Drop)]
+pub enum Reply {
+    /// The booking was accepted and confirmed.
+    Booked {
+        key: RunKey,
+        /// The runs that it preempted, ascending.
+        preempted: Items<RunKey>,
+    },
+    /// The booking was denied, and nothing changed.
+    Denied(Denial),
+}
+
+/// What a step comes to.
+#[derive(Drop)]
+pub struct Outcome {
+    pub reply: Reply,
+    /// What changes in the book, in order.
+    pub list: Items<Change>,
+}

@@ -1,0 +1,5 @@
+pub mod Bookings
+pub mod Kept
+pub mod Sample
+pub mod Stages
+pub mod Worlds

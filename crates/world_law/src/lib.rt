@@ -1,0 +1,4 @@
+//! The laws of a world of hosts.
+#![tactic(auto)]
+
+pub mod laws;
