@@ -11,6 +11,8 @@ use std::{env, io};
 mod command;
 mod outcome;
 mod psched;
+#[cfg(test)]
+mod tests;
 
 fn words_of(rt: &HostRuntime, alloc: Global) -> io::Result<Vec<String>> {
     match env::args(rt) {
