@@ -1,0 +1,24 @@
+# make rehearse SCRIPT=FILE  writes the report on a script
+# make build                 proves psched and the crates below it, and leaves it at build/psched
+# make examples              runs examples/ on build/psched
+# make test                  the gate: every proof and test, then the examples
+# make bench                 times build/psched
+.PHONY: rehearse build examples test bench
+
+rehearse:
+	@bin/rehearse "$(SCRIPT)"
+
+# Built by its first run, which tells its version.
+build:
+	cd crates/psched_cli && rt run -- --version
+	mkdir -p build
+	cp crates/psched_cli/out/psched_cli build/psched
+
+examples:
+	@bin/examples
+
+test:
+	.ci/run
+
+bench: build
+	python3 bench/run.py build/psched

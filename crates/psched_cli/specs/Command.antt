@@ -1,0 +1,17 @@
+-- The grammar of the words.
+use Rattle.std.specs.Prelude.{ℕ, List, [], ◌∷◌, Option, Some, None, if◌then◌else◌, codes}
+use Rattle.std.specs.Str.{bytes_eq}
+use Rattle.psched_cli.specs.declared.command.Command.{Command}
+use Rattle.psched_cli.specs.declared.command.Command.TheVariants.{Rehearse, Help, Version}
+
+abbrev pub command_of_word : List ℕ → Option Command
+command_of_word word =
+    if bytes_eq word (codes "rehearse") then Some Rehearse
+    else if bytes_eq word (codes "--help") then Some Help
+    else if bytes_eq word (codes "--version") then Some Version
+    else None
+
+-- the command that the words name: there is one word, and no more
+abbrev pub command_of : List (List ℕ) → Option Command
+command_of (word ∷ []) = command_of_word word
+command_of _ = None

@@ -1,0 +1,53 @@
+-- What psched comes to, by its words and its input, and its status and text then.
+use Rattle.std.specs.Prelude.{ℕ, List, [], ◌∷◌, ◌++◌, length, nat_lt, Option, Some, None, Result, Ok, Err, if◌then◌else◌, codes}
+use Rattle.psched_rehearse.specs.declared.script.Script.{Script}
+use Rattle.psched_rehearse.specs.declared.script.ScriptFault.{ScriptFault}
+use Rattle.psched_rehearse.specs.Refusal.{fault_text}
+use Rattle.psched_rehearse.specs.Rehearsal.{report_of}
+use Rattle.psched_rehearse.specs.Script.{script_of}
+use Rattle.psched_cli.specs.declared.command.Command.{Command}
+use Rattle.psched_cli.specs.declared.command.Command.TheVariants.{Rehearse, Help, Version as VersionWord}
+use Rattle.psched_cli.specs.declared.outcome.Outcome.{Outcome}
+use Rattle.psched_cli.specs.declared.outcome.Outcome.TheVariants.{Usage, Version, Report, WrongWords, Refused, TooLong, CannotRead}
+use Rattle.psched_cli.specs.declared.psched.TheConstants.{MAX_INPUT}
+
+abbrev pub status_of : Outcome → ℕ
+status_of Usage = 0
+status_of Version = 0
+status_of (Report text) = 0
+status_of WrongWords = 1
+status_of (Refused text) = 2
+status_of TooLong = 2
+status_of CannotRead = 3
+
+-- a line feed ends it
+abbrev pub line : List ℕ → List ℕ
+line text = text ++ 10 ∷ []
+
+abbrev pub usage_line : List ℕ
+usage_line = line (codes "usage: psched rehearse | validate-limits | generate N | daemon OPTIONS PEER... | task URL | result URL | cancel URL | clock URL | schedule URL [START END]")
+
+abbrev pub text_of : Outcome → List ℕ
+text_of Usage = usage_line
+text_of Version = line (codes "psched 0.1.0")
+text_of (Report text) = text
+text_of WrongWords = usage_line
+text_of (Refused text) = text
+text_of TooLong = line (codes "input too long")
+text_of CannotRead = line (codes "cannot read")
+
+-- what the grammar makes of an input: the report on its script, or its first refusal
+abbrev pub outcome_of_script : Result Script ScriptFault → Outcome
+outcome_of_script (Ok script) = Report (report_of script)
+outcome_of_script (Err fault) = Refused (line (fault_text fault))
+
+-- what the input of a rehearsal comes to
+abbrev pub outcome_of_input : List ℕ → Outcome
+outcome_of_input input = if nat_lt MAX_INPUT (length input) then TooLong else outcome_of_script (script_of input)
+
+-- what psched comes to by its words and its whole input, where reading meets no fault; only a rehearsal reads
+abbrev pub outcome_of : Option Command → List ℕ → Outcome
+outcome_of None input = WrongWords
+outcome_of (Some Help) input = Usage
+outcome_of (Some VersionWord) input = Version
+outcome_of (Some Rehearse) input = outcome_of_input input
