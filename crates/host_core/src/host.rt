@@ -1,4 +1,4 @@
-//! A host: its book, kept so that a step costs what it touches.
+//! A host: its book, with an index of what its rows reserve.
 ghost use Rattle.std.specs.Prelude.{◌≡◌, ◌≤◌, ◌<◌, ◌+◌, ℕ, List, [], ◌∷◌, All, IfOk, OnOk, OnErr, Some, Ok};
 ghost use Rattle.ps_time.specs.Span.{span_of};
 ghost use Rattle.ps_time.specs.declared.moment.TheConstants.{MAX_MOMENT, MAX_LENGTH};
