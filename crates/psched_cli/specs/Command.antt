@@ -1,6 +1,7 @@
 -- The grammar of the words.
-use Rattle.std.specs.Prelude.{ℕ, List, [], ◌∷◌, Option, Some, None, if◌then◌else◌, codes}
+use Rattle.std.specs.Prelude.{ℕ, List, [], ◌∷◌, map, String, Option, Some, None, if◌then◌else◌, codes}
 use Rattle.std.specs.Str.{bytes_eq}
+use Rattle.std.specs.String.{string_bytes}
 use Rattle.psched_cli.specs.declared.command.Command.{Command}
 use Rattle.psched_cli.specs.declared.command.Command.TheVariants.{Rehearse, Help, Version}
 
@@ -15,3 +16,6 @@ command_of_word word =
 abbrev pub command_of : List (List ℕ) → Option Command
 command_of (word ∷ []) = command_of_word word
 command_of _ = None
+
+abbrev pub asked : {Z : Type 0} → List (String Z) → Option Command
+asked words = command_of (map string_bytes words)

@@ -9,7 +9,6 @@ use Rattle.psched_cli.specs.declared.command.Command.{Command}
 use Rattle.psched_cli.specs.declared.command.Command.TheVariants.{Rehearse, Help, Version as VersionWord}
 use Rattle.psched_cli.specs.declared.outcome.Outcome.{Outcome}
 use Rattle.psched_cli.specs.declared.outcome.Outcome.TheVariants.{Usage, Version, Report, WrongWords, Refused, TooLong, CannotRead}
-use Rattle.psched_cli.specs.declared.psched.TheConstants.{MAX_INPUT}
 
 abbrev pub status_of : Outcome → ℕ
 status_of Usage = 0
@@ -41,9 +40,13 @@ abbrev pub outcome_of_script : Result Script ScriptFault → Outcome
 outcome_of_script (Ok script) = Report (report_of script)
 outcome_of_script (Err fault) = Refused (line (fault_text fault))
 
+-- the most bytes of an input: 64 MiB
+abbrev pub most_bytes : ℕ
+most_bytes = 67108864
+
 -- what the input of a rehearsal comes to
 abbrev pub outcome_of_input : List ℕ → Outcome
-outcome_of_input input = if nat_lt MAX_INPUT (length input) then TooLong else outcome_of_script (script_of input)
+outcome_of_input input = if nat_lt most_bytes (length input) then TooLong else outcome_of_script (script_of input)
 
 -- what psched comes to by its words and its whole input, where reading meets no fault; only a rehearsal reads
 abbrev pub outcome_of : Option Command → List ℕ → Outcome

@@ -58,12 +58,16 @@ pub record IsSafeReport (input : List ℕ) (outcome : Outcome) : Type 0 where
   pub safe : Booked (world_of script)
   pub report : outcome ≡ Report (report_of script)
 
--- the status of the outcome that comes, whose text was written
+-- the status of the outcome that comes, whose text was written whole
 pub record Told (command : Option Command) (held : Option (List ℕ)) (before now : ℕ) (old new : Option (List ℕ)) (status : ℕ) : Type 0 where
   pub outcome : Outcome
   pub comes : Comes command held before now outcome
   pub status_is : status ≡ status_of outcome
   pub written : Appends old new (text_of outcome)
+
+-- the status of this outcome, whose text was written
+abbrev pub Exactly : Outcome → Option (List ℕ) → Option (List ℕ) → ℕ → Type 0
+Exactly outcome old new status = (status ≡ status_of outcome) × Appends old new (text_of outcome)
 
 -- a part of the front of the text of the outcome that comes was written
 pub record CutShort (command : Option Command) (held : Option (List ℕ)) (before now : ℕ) (old new : Option (List ℕ)) : Type 0 where

@@ -1,13 +1,12 @@
 //! The top call: psched over any source and sink.
-ghost use Rattle.std.specs.Prelude.{◌≡◌, ◌≢◌, ◌≤◌, ◌<◌, Some, None, IfOk, IsErr, map};
+ghost use Rattle.std.specs.Prelude.{◌≡◌, ◌≢◌, ◌≤◌, ◌<◌, Some, None, IfOk, IfSome, IsErr};
 ghost use Rattle.std.specs.Io.KnownBytes.{Appends};
-ghost use Rattle.std.specs.String.{string_bytes};
 ghost use Rattle.ps_ports.specs.All.{WrotePrefix};
 ghost use Rattle.ps_ports.specs.Causes.{Rose};
 ghost use Rattle.psched_rehearse.specs.Script.{script_of};
-ghost use Rattle.psched_cli.specs.Command.{command_of};
-ghost use Rattle.psched_cli.specs.Outcome.{outcome_of_script, status_of, text_of};
-ghost use Rattle.psched_cli.specs.Psched.{Comes, CutShort, IsRehearsed, IsSafeReport, Reported, Told};
+ghost use Rattle.psched_cli.specs.Command.{asked};
+ghost use Rattle.psched_cli.specs.Outcome.{outcome_of, outcome_of_script, status_of, text_of};
+ghost use Rattle.psched_cli.specs.Psched.{Comes, CutShort, Exactly, IsRehearsed, IsSafeReport, Reported, Told};
 
 use crate::command::{Command, read_command};
 use crate::outcome::Outcome;
@@ -22,8 +21,8 @@ use psched_rehearse::rehearse::rehearse;
 use psched_rehearse::script::ScriptFault;
 use std::alloc::Global;
 
-/// The most bytes of an input.
-pub const MAX_INPUT: u64 = 67_108_864;
+// The most bytes of an input.
+const MAX_INPUT: u64 = 67_108_864;
 
 /// The status where the sink failed.
 pub const WRITE_FAULT: u8 = 4;
@@ -60,10 +59,10 @@ fn rehearse_source<S: Source>(alloc: Global, source: &mut S) -> Result<Outcome, 
 }
 
 fn run<S: Source>(alloc: Global, words: &[String], source: &mut S) -> Result<Outcome, Memory>
-    ensures comes { IfOk result (Comes (command_of (map string_bytes words.now)) (S.left source.old) (S.read_faults source.old) (S.read_faults source.new)) }
-    ensures rehearsed { IfOk result (λ outcome. status_of outcome ≡ 0 → command_of (map string_bytes words.now) ≡ Some Command.Rehearse → IsRehearsed (S.left source.old) (S.left source.new) outcome) }
-    ensures memory { IsErr result → command_of (map string_bytes words.now) ≡ Some Command.Rehearse }
-    ensures unread { command_of (map string_bytes words.now) ≢ Some Command.Rehearse → source.new ≡ source.old }
+    ensures comes { IfOk result (Comes (asked words.now) (S.left source.old) (S.read_faults source.old) (S.read_faults source.new)) }
+    ensures rehearsed { IfOk result (λ outcome. status_of outcome ≡ 0 → asked words.now ≡ Some Command.Rehearse → IsRehearsed (S.left source.old) (S.left source.new) outcome) }
+    ensures memory { IsErr result → asked words.now ≡ Some Command.Rehearse }
+    ensures unread { asked words.now ≢ Some Command.Rehearse → source.new ≡ source.old }
     ensures later { S.read_faults source.old ≤ S.read_faults source.new }
     ensures kept { S.kept source.old source.new }
 {
@@ -100,25 +99,28 @@ pub fn psched<S: Source, K: Sink>(
     sink: &mut K,
 ) -> u8
     // The text of what it comes to was written whole, with that status.
-    ensures done { result ≤ 3 → Told (command_of (map string_bytes words.now)) (S.left source.old) (S.read_faults source.old) (S.read_faults source.new) (K.written sink.old) (K.written sink.new) result }
+    ensures done { result ≤ 3 → Told (asked words.now) (S.left source.old) (S.read_faults source.old) (S.read_faults source.new) (K.written sink.old) (K.written sink.new) result }
 
-    // A rehearsal that succeeds: the report on the script that the input is, and on nothing else.
-    ensures rehearsed { result ≡ 0 → command_of (map string_bytes words.now) ≡ Some Command.Rehearse → Reported (S.left source.old) (S.left source.new) (K.written sink.old) (K.written sink.new) }
+    // Status and text are these functions of the words and the whole input.
+    ensures exact { result ≤ 2 → IfSome (S.left source.old) (λ held. Exactly (outcome_of (asked words.now) held) (K.written sink.old) (K.written sink.new) result) }
 
-    ensures wrong_words { result ≡ 1 → command_of (map string_bytes words.now) ≡ None }
+    // A rehearsal that succeeds wrote the report on its script, and no two booked runs of a host conflict.
+    ensures rehearsed { result ≡ 0 → asked words.now ≡ Some Command.Rehearse → Reported (S.left source.old) (S.left source.new) (K.written sink.old) (K.written sink.new) }
+
+    ensures wrong_words { result ≡ 1 → asked words.now ≡ None }
     ensures read_fault { result ≡ 3 → Rose (S.read_faults source.old) (S.read_faults source.new) }
     ensures write_fault { result ≡ 4 → Rose (K.write_faults sink.old) (K.write_faults sink.new) }
 
     // A part of the front of the text that was due went out.
-    ensures prefix { result ≡ 4 → CutShort (command_of (map string_bytes words.now)) (S.left source.old) (S.read_faults source.old) (S.read_faults source.new) (K.written sink.old) (K.written sink.new) }
+    ensures prefix { result ≡ 4 → CutShort (asked words.now) (S.left source.old) (S.read_faults source.old) (S.read_faults source.new) (K.written sink.old) (K.written sink.new) }
 
     // Want of memory, in a rehearsal alone. Nothing was written.
     ensures memory { 4 < result → result ≡ 10 }
-    ensures memory_wanted { result ≡ 10 → command_of (map string_bytes words.now) ≡ Some Command.Rehearse }
+    ensures memory_wanted { result ≡ 10 → asked words.now ≡ Some Command.Rehearse }
     ensures memory_unsaid { result ≡ 10 → sink.new ≡ sink.old }
 
     // Only a rehearsal reads.
-    ensures unread { command_of (map string_bytes words.now) ≢ Some Command.Rehearse → source.new ≡ source.old }
+    ensures unread { asked words.now ≢ Some Command.Rehearse → source.new ≡ source.old }
 
     ensures read_later { S.read_faults source.old ≤ S.read_faults source.new }
     ensures write_later { K.write_faults sink.old ≤ K.write_faults sink.new }

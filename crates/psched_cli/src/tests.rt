@@ -7,7 +7,8 @@ use std::alloc::{AllocError, Global};
 use std::process::Abort;
 use std::test::Fail;
 
-const USAGE: &str = "usage: psched rehearse | validate-limits | generate N | daemon OPTIONS PEER... | task URL | result URL | cancel URL | clock URL | schedule URL [START END]\n";
+const USAGE: &str =
+    "usage: psched rehearse | validate-limits | generate N | daemon OPTIONS PEER... | task URL | result URL | cancel URL | clock URL | schedule URL [START END]\n";
 
 const TOUCHING: &str = "\
 host a 1
@@ -65,7 +66,11 @@ fn expect(
     let ran = run(alloc, words, input, &[], &[])?;
     assert_eq!(rt; ran.status, status, "{words}: {text}");
     assert!(rt; ran.sink.written() == text.as_bytes(), "{words}: {text}");
-    assert_eq!(rt; ran.sink.faults() + ran.source.faults(), 0, "{words}: {text}");
+    assert_eq!(rt;
+        ran.sink.faults() + ran.source.faults(),
+        0,
+        "{words}: {text}"
+    );
     Ok(())
 }
 
@@ -74,7 +79,14 @@ fn words(rt: HostRuntime) -> Result<(), Fail> {
     let alloc = rt.alloc();
     expect(&rt, alloc, "--help", b"", 0, USAGE)?;
     expect(&rt, alloc, "--version", b"", 0, "psched 0.1.0\n")?;
-    for words in ["", "Rehearse", "rehearse rehearse", "--help --version", "-h", "generate 1"] {
+    for words in [
+        "",
+        "Rehearse",
+        "rehearse rehearse",
+        "--help --version",
+        "-h",
+        "generate 1",
+    ] {
         expect(&rt, alloc, words, TOUCHING.as_bytes(), 1, USAGE)?;
     }
     Ok(())
@@ -84,7 +96,14 @@ fn words(rt: HostRuntime) -> Result<(), Fail> {
 fn scripts(rt: HostRuntime) -> Result<(), Fail> {
     let alloc = rt.alloc();
     expect(&rt, alloc, "rehearse", b"", 0, "")?;
-    expect(&rt, alloc, "rehearse", TOUCHING.as_bytes(), 0, TOUCHING_REPORT)?;
+    expect(
+        &rt,
+        alloc,
+        "rehearse",
+        TOUCHING.as_bytes(),
+        0,
+        TOUCHING_REPORT,
+    )?;
     // The last line feed is optional.
     let rest = TOUCHING.trim_end();
     expect(&rt, alloc, "rehearse", rest.as_bytes(), 0, TOUCHING_REPORT)?;
@@ -179,13 +198,23 @@ fn conflicts(rt: HostRuntime) -> Result<(), Fail> {
 #[test]
 fn refusals(rt: HostRuntime) -> Result<(), Fail> {
     let alloc = rt.alloc();
-    let hosts = b"host a 1\nhost b 2\nhost c 3\nhost d 4\nhost e 5\nhost f 6\nhost g 7\nhost h 8\nhost i 9\nhost j 10\nhost k 11\nhost l 12\nhost m 13\nhost n 14\nhost o 15\nhost p 16\nhost q 17\n";
+    let hosts =
+        b"host a 1\nhost b 2\nhost c 3\nhost d 4\nhost e 5\nhost f 6\nhost g 7\nhost h 8\nhost i 9\nhost j 10\nhost k 11\nhost l 12\nhost m 13\nhost n 14\nhost o 15\nhost p 16\nhost q 17\n";
     for (script, line) in [
-        (b"0 a book exclusive 0 100 10".as_slice(), "line 1: no such host\n"),
+        (
+            b"0 a book exclusive 0 100 10".as_slice(),
+            "line 1: no such host\n",
+        ),
         (b"host a 1\n0 a book loud 0 100 10\n", "line 2: bad class\n"),
-        (b"host a 1\n0 b book loud 0 100 10\n", "line 2: no such host\n"),
+        (
+            b"host a 1\n0 b book loud 0 100 10\n",
+            "line 2: no such host\n",
+        ),
         (b"host a 1\r\n", "line 1: bad number\n"),
-        (b"host a 1\n\n#\nhost a\n\xff\n", "line 4: wrong number of fields\n"),
+        (
+            b"host a 1\n\n#\nhost a\n\xff\n",
+            "line 4: wrong number of fields\n",
+        ),
         (b"host a 1\n\n#\n\n\xff\n", "line 5: not utf-8\n"),
         (hosts, "line 17: too many hosts\n"),
     ] {
@@ -220,7 +249,12 @@ fn a_read_fails(rt: HostRuntime) -> Result<(), Fail> {
 #[test]
 fn a_write_fails(rt: HostRuntime) -> Result<(), Fail> {
     let alloc = rt.alloc();
-    for (words, input) in [("rehearse", TOUCHING), ("rehearse", "10"), ("--help", ""), ("", "")] {
+    for (words, input) in [
+        ("rehearse", TOUCHING),
+        ("rehearse", "10"),
+        ("--help", ""),
+        ("", ""),
+    ] {
         let ran = run(alloc, words, input.as_bytes(), &[], &[1])?;
         expect_fault(&rt, ran, 4, "");
     }

@@ -1,6 +1,6 @@
-use Rattle.std.proofs.Common.{◌≡◌, Some, None, map, string_bytes, ap, sym, inl, rules}
+use Rattle.std.proofs.Common.{◌≡◌, Some, None, ap, sym, inl, rules}
 use Rattle.psched_cli.specs.declared.command.Command.TheVariants.{Help, Version}
-use Rattle.psched_cli.specs.Command.{command_of}
+use Rattle.psched_cli.specs.Command.{asked}
 use Rattle.psched_cli.specs.Outcome.{outcome_of}
 use Rattle.psched_cli.proofs.OutcomeLemmas.{IfOk-map, given_unread}
 use Rattle.psched_cli.proofs.psched.run.Goals as goal
@@ -11,15 +11,15 @@ returns-in-Some-Rehearse-clause-rehearsed g c =
 
 pub returns-in-Some-Help-clause-comes : goal.returns-in-Some-Help-clause-comes
 returns-in-Some-Help-clause-comes g c =
-    let is : command_of (map string_bytes c.args.words.now) ≡ Some Help = search rules in
-    inl (given_unread _ _ _ (λ input. ap (λ asked. outcome_of asked input) (sym is)))
+    let is : asked c.args.words.now ≡ Some Help = search rules in
+    inl (given_unread _ _ _ (λ input. ap (λ command. outcome_of command input) (sym is)))
 
 pub returns-in-Some-Version-clause-comes : goal.returns-in-Some-Version-clause-comes
 returns-in-Some-Version-clause-comes g c =
-    let is : command_of (map string_bytes c.args.words.now) ≡ Some Version = search rules in
-    inl (given_unread _ _ _ (λ input. ap (λ asked. outcome_of asked input) (sym is)))
+    let is : asked c.args.words.now ≡ Some Version = search rules in
+    inl (given_unread _ _ _ (λ input. ap (λ command. outcome_of command input) (sym is)))
 
 pub returns-in-None-clause-comes : goal.returns-in-None-clause-comes
 returns-in-None-clause-comes g c =
-    let is : command_of (map string_bytes c.args.words.now) ≡ None = search rules in
-    inl (given_unread _ _ _ (λ input. ap (λ asked. outcome_of asked input) (sym is)))
+    let is : asked c.args.words.now ≡ None = search rules in
+    inl (given_unread _ _ _ (λ input. ap (λ command. outcome_of command input) (sym is)))
