@@ -190,6 +190,3 @@ pub(crate) fn add_table(
     sort(&mut entries)?;
     add_entries(report, name, &entries)
 }
-
-#[cfg(test)]
-mod tests;
