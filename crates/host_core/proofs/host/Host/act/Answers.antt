@@ -9,12 +9,12 @@ use Rattle.host_core.proofs.host.Host.act.Goals as goal
 pub returns-clause-grown : goal.returns-clause-grown
 returns-clause-grown c =
     let book : c.absorb.new.self.book ≡ step_book c.args.config.now c.args.self.now.book c.args.clock c.args.input =
-        c.absorb.ensures.book ∙ ap₂ book_after c.in_ok-reserve.ensures.book c.in_ok-reply.ensures.changes in
+    c.absorb.ensures.book ∙ ap₂ book_after c.in_ok-reserve.ensures.book c.in_ok-reply.ensures.changes in
     subst (Grown c.args.self.now.book) (sym book) (step_grown c.args.config.now c.args.self.now.book c.args.clock c.args.input)
 
 -- and in it every row stands
 pub returns-clause-stand : goal.returns-clause-stand
 returns-clause-stand c =
     let book : c.absorb.new.self.book ≡ step_book c.args.config.now c.args.self.now.book c.args.clock c.args.input =
-        c.absorb.ensures.book ∙ ap₂ book_after c.in_ok-reserve.ensures.book c.in_ok-reply.ensures.changes in
+    c.absorb.ensures.book ∙ ap₂ book_after c.in_ok-reserve.ensures.book c.in_ok-reply.ensures.changes in
     subst (λ (b : Book). AllStand c.args.self.now.book.rows b.rows) (sym book) (step_stand c.args.config.now c.args.self.now.book c.args.clock c.args.input)
