@@ -6,3 +6,5 @@ pub mod change;
 pub mod config;
 pub mod host;
 pub mod step;
+#[cfg(test)]
+mod tests;
