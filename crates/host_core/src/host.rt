@@ -87,7 +87,8 @@ impl Host {
         self.moment
     }
 
-    /// What a step at this clock answers and changes. The book stays as it is.
+    /// What a step at this clock, in seconds since 1970 UTC, answers and changes. The book stays as
+    /// it is. `Memory` where there is none for the answer.
     pub fn decide(
         &self,
         alloc: Global,
@@ -155,7 +156,8 @@ impl Host {
         self.moment = moment;
     }
 
-    /// A whole step: decides it, makes room, and absorbs its changes.
+    /// A whole step: decides it, makes room, and absorbs its changes. At `Memory` the book is as it
+    /// was.
     pub fn act(
         &mut self,
         alloc: Global,

@@ -13,10 +13,11 @@ pub enum Input {
     /// A run of this host for itself.
     Book {
         class: Class,
+        /// A run of a greater priority preempts one of a lower that isn't started and isn't on deck.
         priority: i16,
         /// In seconds since 1970 UTC.
         start: Moment,
-        /// At least 1 s.
+        /// In seconds, at least 1.
         length: Length,
     },
 }
@@ -26,11 +27,12 @@ pub enum Input {
 pub enum Reply {
     /// The booking was accepted and confirmed.
     Booked {
+        /// Its task is 0, and its number one more than the greatest of this host's bookings.
         key: RunKey,
         /// The runs that it preempted, ascending.
         preempted: Items<RunKey>,
     },
-    /// The booking was denied, and nothing changed.
+    /// The booking was denied, and nothing changed, not even the book's moment.
     Denied(Denial),
 }
 
