@@ -83,15 +83,10 @@ fn ending(row: &RunRow) -> Fate {
     }
 }
 
-<<<<<<< HEAD
-// Where the run stands, when it was accepted and confirmed, and what became of it.
-fn line(row: &RunRow) -> (RunKey, Option<(u64, u64)>, Option<u64>, Option<u64>, Fate) {
-=======
 /// A run's key, its start and end, when it was accepted and confirmed, and what became of it.
 type Line = (RunKey, Option<(u64, u64)>, Option<u64>, Option<u64>, Fate);
 
 fn seen(row: &RunRow) -> Line {
->>>>>>> e0a8611117a9a187f0bbda644ef4ef432e27b3b9
     let interval = match row.interval {
         Some(interval) => Some((interval.start, interval.end)),
         None => None,
@@ -128,26 +123,15 @@ fn first_wrong(
     lines: &[(u16, Asked, Told)],
 ) -> Result<Option<usize>, Memory> {
     let config = host_a(alloc)?;
-<<<<<<< HEAD
-    let mut at = 0;
-    for (clock, asked, wanted) in lines {
-        if book(alloc, host, &config, *clock, *asked)? != *wanted {
-            return Ok(Some(at));
-        }
-        at += 1;
-=======
     for at in 0..lines.len() {
         let (clock, asked, wanted) = lines[at];
         if book(alloc, host, &config, clock, asked)? != wanted {
             return Ok(Some(at));
         }
->>>>>>> e0a8611117a9a187f0bbda644ef4ef432e27b3b9
     }
     Ok(None)
 }
 
-<<<<<<< HEAD
-=======
 // The place of the first row that isn't as wanted, or isn't there.
 fn first_other(rows: &[RunRow], wanted: &[Line]) -> Option<usize> {
     for at in 0..wanted.len() {
@@ -159,7 +143,6 @@ fn first_other(rows: &[RunRow], wanted: &[Line]) -> Option<usize> {
     None
 }
 
->>>>>>> e0a8611117a9a187f0bbda644ef4ef432e27b3b9
 #[test]
 fn touching_runs_stand_and_are_missed(rt: HostRuntime) -> Result<(), Fail> {
     let alloc = rt.alloc();
@@ -177,26 +160,12 @@ fn touching_runs_stand_and_are_missed(rt: HostRuntime) -> Result<(), Fail> {
     ] {
         let config = host_a(alloc)?;
         book(alloc, &mut host, &config, clock, (Normal, 0, 900, 1))?;
-<<<<<<< HEAD
-        let rows = host.rows().list();
-        let first_line = (FIRST, Some((100, 150)), Some(50), Some(50), first);
-        let second_line = (SECOND, Some((150, 200)), Some(50), Some(50), second);
-        assert!(rt;
-            rows.len() > 2 && line(&rows[0]) == first_line,
-            "at {clock}"
-        );
-        assert!(rt;
-            rows.len() > 2 && line(&rows[1]) == second_line,
-            "at {clock}"
-        );
-=======
         let wanted = [
             (FIRST, Some((100, 150)), Some(50), Some(50), first),
             (SECOND, Some((150, 200)), Some(50), Some(50), second),
         ];
         let other = first_other(host.rows().list(), &wanted);
         assert_eq!(rt; other, None, "at {clock}");
->>>>>>> e0a8611117a9a187f0bbda644ef4ef432e27b3b9
         assert!(rt; host.moment() == u64::from(clock), "at {clock}");
     }
     Ok(())
@@ -220,13 +189,7 @@ fn one_run_preempts_two(rt: HostRuntime) -> Result<(), Fail> {
     ];
     let rows = host.rows().list();
     assert!(rt; rows.len() == 3);
-<<<<<<< HEAD
-    for at in 0..3 {
-        assert!(rt; line(&rows[at]) == wanted[at], "row {at}");
-    }
-=======
     assert_eq!(rt; first_other(rows, &wanted), None);
->>>>>>> e0a8611117a9a187f0bbda644ef4ef432e27b3b9
     Ok(())
 }
 
