@@ -72,23 +72,43 @@ fn simplestream(alloc: Global) -> Result<TestSpec, Memory>
     })
 }
 
+fn is_of(test: &TestSpec, class: Class, length: u64) -> bool
+    requires { test_length test.now ≤ MAX_LENGTH }
+{
+    class_of(test) == class && length_of(test) == length
+}
+
 #[test]
-fn has_class_and_length(rt: HostRuntime) -> Result<(), Fail> {
+fn idle_is_background(rt: HostRuntime) -> Result<(), Fail> {
     let test = idle(rt.alloc())?;
-    assert_eq!(rt; class_of(&test), Class::Background);
-    assert_eq!(rt; length_of(&test), 10);
+    assert!(rt; is_of(&test, Class::Background, 10));
+    Ok(())
+}
+
+#[test]
+fn idleex_is_exclusive(rt: HostRuntime) -> Result<(), Fail> {
     let test = idleex(rt.alloc())?;
-    assert_eq!(rt; class_of(&test), Class::Exclusive);
-    assert_eq!(rt; length_of(&test), 20);
+    assert!(rt; is_of(&test, Class::Exclusive, 20));
+    Ok(())
+}
+
+#[test]
+fn idlebgm_is_background_multi(rt: HostRuntime) {
     let test = idlebgm();
-    assert_eq!(rt; class_of(&test), Class::BackgroundMulti);
-    assert_eq!(rt; length_of(&test), 30);
+    assert!(rt; is_of(&test, Class::BackgroundMulti, 30));
+}
+
+#[test]
+fn idlemany_is_exclusive(rt: HostRuntime) -> Result<(), Fail> {
     let test = idlemany(rt.alloc())?;
-    assert_eq!(rt; class_of(&test), Class::Exclusive);
-    assert_eq!(rt; length_of(&test), 40);
+    assert!(rt; is_of(&test, Class::Exclusive, 40));
+    Ok(())
+}
+
+#[test]
+fn simplestream_is_normal_and_takes_dawdle_and_timeout(rt: HostRuntime) -> Result<(), Fail> {
     let test = simplestream(rt.alloc())?;
-    assert_eq!(rt; class_of(&test), Class::Normal);
-    assert_eq!(rt; length_of(&test), 50);
+    assert!(rt; is_of(&test, Class::Normal, 50));
     Ok(())
 }
 

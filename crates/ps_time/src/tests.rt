@@ -203,8 +203,10 @@ fn identifiers_are_uuids_of_version_8(rt: HostRuntime) -> Result<(), Memory> {
     ] {
         assert_eq!(rt; id_text(alloc, id)?.as_str(), text);
         assert_eq!(rt; read_id(text), Some(id), "at {text}");
-        assert_eq!(rt; uuid_key(key_uuid(id)), Some(id), "at {text}");
     }
+    let task = Id::Task { lead: 1, task: 1 };
+    assert_eq!(rt; key_uuid(task), 0x0001_0000_0001_8000_8000_0000_0000_0000);
+    assert!(rt; uuid_key(0).is_none());
     let run = Some(Id::Run(key(2, 65537, 258, 7)));
     for text in [
         "00020001000180018000000001020007",
