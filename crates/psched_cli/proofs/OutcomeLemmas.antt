@@ -1,12 +1,12 @@
 -- Why an outcome comes, from what a reading gave.
-use Rattle.std.proofs.Common.{◌≡◌, ◌≤◌, ℕ, List, [], length, Option, Some, None, Result, Ok, Err, IfOk, IfSome, inl, inr, refl, ap, subst, ◌∙◌, arith, rules, tests}
+use Rattle.std.proofs.Common.{◌≡◌, ◌≤◌, ℕ, List, [], Option, Some, None, Result, Ok, Err, IfOk, IfSome, inl, inr, refl, ap, subst, ◌∙◌, arith, rules, tests}
 use Rattle.ps_ports.specs.All.{GaveAll, GaveMoreThan, HeldMoreThan}
 use Rattle.psched_cli.specs.declared.command.Command.{Command}
 use Rattle.psched_cli.specs.declared.command.Command.TheVariants.{Rehearse}
 use Rattle.psched_cli.specs.declared.outcome.Outcome.{Outcome}
-use Rattle.psched_cli.specs.declared.outcome.Outcome.TheVariants.{TooLong, CannotRead}
-use Rattle.psched_cli.specs.Outcome.{most_bytes, outcome_of, status_of, text_of}
-use Rattle.psched_cli.specs.Psched.{Comes, Exactly, IsGiven, IsReadFault, IsSafeReport, IsRehearsed, Told}
+use Rattle.psched_cli.specs.declared.outcome.Outcome.TheVariants.{TooLong}
+use Rattle.psched_cli.specs.Outcome.{most_bytes, outcome_of, status_of}
+use Rattle.psched_cli.specs.Psched.{Comes, Exactly, IsGiven, IsSafeReport, IsRehearsed, Told}
 
 pub IfOk-map : {T E : Type 0} {P Q : T → Type 0} (r : Result T E) → ((x : T) → P x → Q x) → IfOk r P → IfOk r Q
 IfOk-map (Ok x) f p = f x p

@@ -1,5 +1,5 @@
 -- What a call of psched makes of its source and its sink.
-use Rattle.std.specs.Prelude.{◌≡◌, ◌⊎◌, ℕ, List, [], Option, Some, IfSome, Result, Ok}
+use Rattle.std.specs.Prelude.{◌≡◌, ◌⊎◌, ℕ, List, [], Option, Some, IfSome, Ok}
 use Rattle.std.specs.Io.KnownBytes.{Appends}
 use Rattle.ps_ports.specs.All.{WrotePrefix}
 use Rattle.ps_ports.specs.Causes.{Rose}
