@@ -1,12 +1,12 @@
 -- An acceptance over rows and their reservations.
-use Rattle.std.proofs.Common.{◌≡◌, ℕ, ◌≤◌, ◌<◌, ◌+◌, Bool, true, false, cond, List, [], ◌∷◌, Option, Some, None, map, All, IfSome, get_or, length, refl, ap, ap₂, sym, subst, ◌∙◌, arith}
+use Rattle.std.proofs.Common.{◌≡◌, ℕ, ◌≤◌, true, false, cond, List, [], None, All, get_or, refl, ap, ap₂, sym, subst, ◌∙◌, arith}
 use Rattle.std.proofs.lemmas.List.Elements.{All-map}
 use Rattle.std.specs.Ordering.{is_eq}
 use Rattle.ps_time.specs.Key.{key_cmp}
 use Rattle.ps_time.specs.Span.{Span, span_of}
 use Rattle.ps_time.specs.declared.class.Class.{Class}
 use Rattle.ps_time.specs.declared.key.RunKey.{RunKey}
-use Rattle.ps_time.specs.declared.moment.TheConstants.{MAX_MOMENT, MAX_LENGTH}
+use Rattle.ps_time.specs.declared.moment.TheConstants.{MAX_MOMENT}
 use Rattle.ps_time.proofs.KeyLemmas.{key_cmp_total}
 use Rattle.ps_time.proofs.SortedLemmas.{ascending-insert}
 use Rattle.plugin_core.specs.TestSpec.{test_class, test_length}
@@ -24,9 +24,10 @@ use Rattle.host_core.specs.declared.change.Change.TheVariants.{Accepted}
 use Rattle.host_core.specs.Book.{CanApply}
 use Rattle.host_core.specs.Change.{accepted_row, apply}
 use Rattle.host_core.specs.Reservations.{bookings_of, reservation_of}
-use Rattle.host_core.specs.Sound.{IsSound}
+use Rattle.host_core.specs.Sound.{IsSound, StandsUntil}
 use Rattle.host_core.proofs.FollowLemmas.{apply_accepted}
 use Rattle.host_core.proofs.IndexLemmas.{bookings_confirmed, bookings_preempted, bookings_put, conflicts_gone, find_booking_none}
+use Rattle.host_core.proofs.LapseLemmas.{stands_confirmed, stands_less, stands_preempted}
 use Rattle.host_core.proofs.RowLemmas.{All-put, find_none-map}
 
 -- ---- bounds ----
@@ -45,12 +46,13 @@ preempted_moments m key class s r within =
     ]
 
 -- a confirmation leaves all as it should be
-pub confirmed_sound : (n m : ℕ) (k : RunKey) (rows : List RunRow) (bs : List Booking) → IsSound n rows bs → IsSound n (change_row (confirm_row m) rows k) bs
-confirmed_sound n m k rows bs sound = record {
+pub confirmed_sound : (n m : ℕ) (k : RunKey) (rows : List RunRow) (bs : List Booking) (until : ℕ) → IsSound n rows bs until → IsSound n (change_row (confirm_row m) rows k) bs until
+confirmed_sound n m k rows bs until sound = record {
   moment = sound.moment;
   ascending = ascending_change (confirm_row m) rows k (λ r. refl) sound.ascending;
   moments = All-map HasMoments (λ x. cond (is_eq (key_cmp x.key k)) (confirm_row m x) x) rows (λ i d lt. confirmed_moments m k (get_or rows i d) (sound.moments i d lt));
   index = sound.index ∙ sym (bookings_confirmed m k rows);
+  stand = All-map (StandsUntil until) (λ x. cond (is_eq (key_cmp x.key k)) (confirm_row m x) x) rows (λ i d lt. stands_confirmed until m (is_eq (key_cmp (get_or rows i d).key k)) (get_or rows i d) (sound.stand i d lt));
 }
 
 module _ (m : ℕ) (p : Proposal) (ps : List (List ℕ)) (rows : List RunRow) (can : CanApply m rows (Accepted p ps)) where
@@ -86,6 +88,13 @@ module _ (m : ℕ) (p : Proposal) (ps : List (List ℕ)) (rows : List RunRow) (c
       (λ i d lt. preempted_moments m p.key (test_class p.test) (span_of p.start (test_length p.test)) (get_or rows i d) (within i d lt)) in
       All-put HasMoments (accepted_row m p ps) given (record { asked = tt; accepted = low; interval = (can.3, omega (arith, can.2, can.3)) }) kept
 
+  -- no row lapses before the next lapse of all and that of the new one
+  pub accepted_stand : (until next : ℕ) → next ≤ until → All (StandsUntil until) rows → StandsUntil next (accepted_row m p ps) → All (StandsUntil next) (put_row given (accepted_row m p ps))
+  accepted_stand until next low stand own =
+      let way = preempted_row m p.key (test_class p.test) (span_of p.start (test_length p.test)) in
+      All-put (StandsUntil next) (accepted_row m p ps) given own
+      (All-map (StandsUntil next) way rows (λ i d lt. stands_preempted next m p.key (test_class p.test) (span_of p.start (test_length p.test)) (get_or rows i d) (stands_less next until (get_or rows i d) low (stand i d lt))))
+
   -- ---- the same of values that are equal to these ----
   module _ (bs : List Booking) (index : bs ≡ bookings_of rows) (run : Booking) (is : run ≡ reservation_of p) (gone : List Booking) (gone_is : gone ≡ without_conflicts run.class run.interval bs) where
     gone_left : gone ≡ left bs index
@@ -107,10 +116,15 @@ module _ (m : ℕ) (p : Proposal) (ps : List (List ℕ)) (rows : List RunRow) (c
       pub accept_rows : put_row way row ≡ apply m (Accepted p ps) rows
       accept_rows = ap₂ put_row way_given row_is ∙ sym (apply_accepted m p ps rows can.0)
 
-      pub accept_sound : (n : ℕ) → n ≤ MAX_MOMENT → m ≤ MAX_MOMENT → All HasMoments rows → IsAscendingRows rows → IsSound n (put_row way row) (with_booking gone run)
-      accept_sound n now low within up = record {
-        moment = now;
+      -- the new row has its moments in bounds
+      pub accept_moments : m ≤ MAX_MOMENT → HasMoments row
+      accept_moments low = subst HasMoments (sym row_is) (record { asked = tt; accepted = low; interval = (can.3, omega (arith, can.2, can.3)) })
+
+      pub accept_sound : (n until next : ℕ) → IsSound n rows bs until → m ≤ MAX_MOMENT → next ≤ until → StandsUntil next row → IsSound n (put_row way row) (with_booking gone run) next
+      accept_sound n until next sound low sooner own = let up = sound.ascending in record {
+        moment = sound.moment;
         ascending = subst IsAscendingRows (sym (ap₂ put_row way_given row_is)) (ascending-insert key_cmp_total (λ r. r.key) given (accepted_row m p ps) (ascending_preempted m p.key (test_class p.test) (span_of p.start (test_length p.test)) rows up) given_none);
-        moments = subst (All HasMoments) (sym (ap₂ put_row way_given row_is)) (accepted_moments low within);
+        moments = subst (All HasMoments) (sym (ap₂ put_row way_given row_is)) (accepted_moments low sound.moments);
         index = ap₂ with_booking gone_left is ∙ (accepted_index bs index up ∙ ap bookings_of (sym (ap₂ put_row way_given row_is)));
+        stand = subst (All (StandsUntil next)) (sym (ap₂ put_row way_given row_is)) (accepted_stand until next sooner sound.stand (subst (StandsUntil next) row_is own));
       }

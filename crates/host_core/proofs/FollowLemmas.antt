@@ -1,5 +1,5 @@
 -- What a step decides may follow the book: its key is new, and its changes do what they say.
-use Rattle.std.proofs.Common.{◌≡◌, ℕ, ℤ, ◌+◌, ◌<◌, ◌≤◌, ◌&&◌, ◌==◌, Bool, true, false, cond, List, [], ◌∷◌, Option, Some, None, Result, Ok, Err, map, max, is_some, refl, ap, ap₂, sym, ◌∙◌, arith}
+use Rattle.std.proofs.Common.{◌≡◌, ℕ, ℤ, ◌+◌, ◌<◌, ◌&&◌, ◌==◌, Bool, true, false, cond, List, [], ◌∷◌, Some, None, Result, Ok, Err, map, max, is_some, refl, ap, ap₂, sym, ◌∙◌, arith}
 use Rattle.std.specs.Ordering.{is_eq}
 use Rattle.std.specs.declared.cmp.Ordering.{Ordering}
 use Rattle.std.specs.declared.cmp.Ordering.TheVariants.{Less, Equal, Greater}
@@ -9,8 +9,6 @@ use Rattle.ps_time.specs.Span.{span_of}
 use Rattle.ps_time.specs.declared.class.Class.{Class}
 use Rattle.ps_time.specs.declared.class.Class.TheVariants.{BackgroundMulti, Background, Normal, Exclusive}
 use Rattle.ps_time.specs.declared.key.RunKey.{RunKey}
-use Rattle.ps_time.specs.declared.moment.TheConstants.{MAX_MOMENT, MAX_LENGTH}
-use Rattle.ps_time.proofs.KeyLemmas.{same_key}
 use Rattle.plugin_core.specs.TestSpec.{test_class, test_length}
 use Rattle.run_states.specs.declared.proposal.Proposal.{Proposal}
 use Rattle.run_states.specs.declared.row.RunRow.{RunRow}
@@ -18,16 +16,15 @@ use Rattle.run_states.specs.declared.why.Denial.{Denial}
 use Rattle.run_states.specs.declared.why.Denial.TheVariants.{Full}
 use Rattle.run_states.specs.declared.why.What.TheVariants.{Numbers}
 use Rattle.run_states.specs.Conflict.{preempted_row, preempted_rows}
-use Rattle.run_states.specs.Life.{confirm_row, settled_row, settled_rows}
+use Rattle.run_states.specs.Life.{confirm_row, settled_rows}
 use Rattle.run_states.specs.Rows.{find_row, put_row, change_row}
 use Rattle.run_states.proofs.Place.{preempted_key}
 use Rattle.host_core.specs.declared.change.Change.TheVariants.{Accepted, Confirmed}
 use Rattle.host_core.specs.declared.config.Config.{Config}
-use Rattle.host_core.specs.declared.step.Input.{Input}
 use Rattle.host_core.specs.declared.step.Input.TheVariants.{Book as BookInput}
-use Rattle.host_core.specs.Book.{Book, CanApply, CanApplyAll, IsInBounds, MayFollow, moment_at}
+use Rattle.host_core.specs.Book.{CanApply, CanApplyAll, IsInBounds}
 use Rattle.host_core.specs.Booking.{last_number, booking, booking_key, booking_test, fitted}
-use Rattle.host_core.specs.Change.{accepted_row, apply, own, give_way, incoming, new_row}
+use Rattle.host_core.specs.Change.{accepted_row, apply, own, give_way, incoming}
 use Rattle.host_core.specs.declared.step.Outcome.{Outcome}
 use Rattle.host_core.specs.Step.{decided_booking, denied, last_booking, outcome_of_booking}
 use Rattle.host_core.proofs.RowLemmas.{settled_key, find_none-map, find_row-put}

@@ -1,6 +1,6 @@
 -- The reservations of rows, as rows settle, give way, come and are confirmed.
-use Rattle.std.proofs.Common.{◌≡◌, ℕ, ◌&&◌, Bool, true, false, cond, List, [], ◌∷◌, Option, Some, None, map, not, is_some, refl, ap, ap₂, sym, subst, ◌∙◌}
-use Rattle.std.specs.List.{filter, AllByRecursion}
+use Rattle.std.proofs.Common.{◌≡◌, ℕ, ◌&&◌, Bool, true, false, cond, List, [], ◌∷◌, Option, Some, None, not, is_some, refl, ap, ap₂, sym, subst, ◌∙◌}
+use Rattle.std.specs.List.{AllByRecursion}
 use Rattle.std.specs.Ordering.{is_eq, match_ordering, ordering_reverse}
 use Rattle.std.specs.declared.cmp.Ordering.{Ordering}
 use Rattle.std.specs.declared.cmp.Ordering.TheVariants.{Less, Equal, Greater}
@@ -22,7 +22,7 @@ use Rattle.host_timeline.specs.declared.booking.Booking.{Booking}
 use Rattle.host_timeline.specs.Booking.{conflicts_with, conflicting, firm_from_of, without_conflicts, keys_of}
 use Rattle.host_timeline.specs.Timeline.{find_booking, with_booking, without_booking}
 use Rattle.host_core.specs.Booking.{conflicts, keys_of_rows}
-use Rattle.host_core.specs.Reservations.{reserved, booking_of, with_some, bookings_of, lapses, released}
+use Rattle.host_core.specs.Reservations.{closed_each, reserved, booking_of, with_some, bookings_of, lapses, released}
 
 -- ---- one row and its reservation ----
 abbrev HasKey : RunKey → Option Booking → Type 0
@@ -236,3 +236,45 @@ module _ (class : Class) (s : Span) where
   pub keys_in_conflict : (rows : List RunRow) → keys_of (conflicting class s (bookings_of rows)) ≡ keys_of_rows (conflicts class s rows)
   keys_in_conflict [] = refl
   keys_in_conflict (r ∷ rs) = row_conflict r (is_booked r) r.interval (bookings_of rs) rs (keys_in_conflict rs)
+
+-- ---- closing by the reservations ----
+module _ (m : ℕ) (key : RunKey) (class : Class) (s : Span) where
+  abbrev close_one : RunRow → RunRow
+  close_one = close_row (closing m key class s)
+
+  change_past : (k : RunKey) (r : RunRow) (rs : List RunRow) → is_eq (key_cmp r.key k) ≡ false → change_row close_one (r ∷ rs) k ≡ r ∷ change_row close_one rs k
+  change_past k r rs other = ap (λ x. cond x (close_one r) r ∷ change_row close_one rs k) other
+
+  change_none : (k : RunKey) (rs : List RunRow) → AllByRecursion (λ y. is_eq (key_cmp y.key k) ≡ false) rs → change_row close_one rs k ≡ rs
+  change_none k [] all = refl
+  change_none k (r ∷ rs) all = change_past k r rs all.0 ∙ ap (λ l. r ∷ l) (change_none k rs all.1)
+
+  -- a row of another key stays where others close
+  closed_past : (r : RunRow) (bs : List Booking) (rs : List RunRow) → AllByRecursion (λ b. is_eq (key_cmp r.key b.key) ≡ false) bs → closed_each m key class s bs (r ∷ rs) ≡ r ∷ closed_each m key class s bs rs
+  closed_past r [] rs all = refl
+  closed_past r (b ∷ bs) rs all =
+      elim (conflicts_with class s b) as (λ x. closed_each m key class s bs (cond x (change_row close_one (r ∷ rs) b.key) (r ∷ rs)) ≡ r ∷ closed_each m key class s bs (cond x (change_row close_one rs b.key) rs)) [
+        | true ↦ ap (closed_each m key class s bs) (change_past b.key r rs all.0) ∙ closed_past r bs (change_row close_one rs b.key) all.1
+        | false ↦ closed_past r bs rs all.1
+      ]
+
+  own_closed : (r : RunRow) (rs : List RunRow) → AllByRecursion (λ y. key_cmp r.key y.key ≡ Less) rs → change_row close_one (r ∷ rs) r.key ≡ close_one r ∷ rs
+  own_closed r rs above =
+      ap (λ c. cond (is_eq c) (close_one r) r ∷ change_row close_one rs r.key) (key_cmp_same r.key)
+      ∙ ap (λ l. close_one r ∷ l) (change_none r.key rs (above_is_other m r.key rs above))
+
+  -- closing the rows of the reservations in conflict closes the rows in conflict
+  pub closed_preempted : (rows : List RunRow) → IsAscendingRows rows → closed_each m key class s (bookings_of rows) rows ≡ preempted_rows m key class s rows
+  closed_preempted [] up = refl
+  closed_preempted (r ∷ rs) up =
+      go (is_booked r) r.interval (closed_preempted rs up.1) (all_bookings (λ k. is_eq (key_cmp r.key k) ≡ false) rs (below_is_other m r.key r.key rs refl up.0))
+    where
+      go : (b : Bool) (o : Option Span) → closed_each m key class s (bookings_of rs) rs ≡ preempted_rows m key class s rs → AllByRecursion (λ y. is_eq (key_cmp r.key y.key) ≡ false) (bookings_of rs)
+          → closed_each m key class s (with_some (cond b (reserved r o) None) (bookings_of rs)) (r ∷ rs) ≡ cond (b && clashes class s (test_class r.test) o) (close_one r) r ∷ preempted_rows m key class s rs
+      go false o later others = closed_past r (bookings_of rs) rs others ∙ ap (λ l. r ∷ l) later
+      go true None later others = closed_past r (bookings_of rs) rs others ∙ ap (λ l. r ∷ l) later
+      go true (Some t) later others =
+          elim (clash class s (test_class r.test) t) as (λ x. closed_each m key class s (bookings_of rs) (cond x (change_row close_one (r ∷ rs) r.key) (r ∷ rs)) ≡ cond x (close_one r) r ∷ preempted_rows m key class s rs) [
+            | true ↦ ap (closed_each m key class s (bookings_of rs)) (own_closed r rs up.0) ∙ (closed_past (close_one r) (bookings_of rs) rs others ∙ ap (λ l. close_one r ∷ l) later)
+            | false ↦ closed_past r (bookings_of rs) rs others ∙ ap (λ l. r ∷ l) later
+          ]

@@ -4,6 +4,8 @@ pub mod Clashes
 pub mod Evolve
 pub mod FollowLemmas
 pub mod IndexLemmas
+pub mod LapseLemmas
+pub mod NumberLemmas
 pub mod Placed
 pub mod RowLemmas
 pub mod SortLemmas

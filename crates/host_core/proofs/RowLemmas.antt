@@ -1,5 +1,5 @@
 -- Rows of a mapped list, and keys of their own.
-use Rattle.std.proofs.Common.{◌≡◌, ℕ, Bool, true, false, cond, List, [], ◌∷◌, ◌++◌, Option, Some, None, map, length, not, option_map, refl, ap, sym, subst, ◌∙◌, arith, All, unwrap_or}
+use Rattle.std.proofs.Common.{◌≡◌, ℕ, Bool, true, false, cond, List, [], ◌∷◌, Option, Some, None, map, option_map, refl, ap, sym, subst, ◌∙◌, All, unwrap_or}
 use Rattle.std.proofs.lemmas.List.Elements.{recursion_from_All, All-from_recursion}
 use Rattle.std.specs.Ordering.{is_eq, match_ordering, ordering_reverse}
 use Rattle.std.specs.declared.cmp.Ordering.TheVariants.{Less, Equal, Greater}
@@ -10,7 +10,7 @@ use Rattle.ps_time.proofs.KeyLemmas.{key_cmp_total, key_cmp_same}
 use Rattle.ps_time.specs.declared.key.RunKey.{RunKey}
 use Rattle.run_states.specs.declared.row.RunRow.{RunRow}
 use Rattle.run_states.specs.declared.why.Closing.{Closing}
-use Rattle.run_states.specs.Life.{closed_by, lapse_of, settled_row, settled_rows}
+use Rattle.run_states.specs.Life.{closed_by, lapse_of, settled_row}
 use Rattle.run_states.specs.Rows.{find_row, put_row, IsAscendingRows}
 
 pub closed_key : (o : Option Closing) (r : RunRow) → (closed_by o r).key ≡ r.key

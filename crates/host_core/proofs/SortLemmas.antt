@@ -1,18 +1,16 @@
 -- Conflicts sorted out key by key, over the rows as they stand, are those of the settled rows.
-use Rattle.std.proofs.Common.{◌≡◌, ℕ, ℤ, ◌&&◌, ◌++◌, Bool, true, false, cond, List, [], ◌∷◌, Option, Some, None, Result, Ok, Err, map, not, is_some, find, refl, ap, ap₂, sym, ◌∙◌, append_assoc, append-nil}
-use Rattle.std.specs.List.{filter, AllByRecursion}
-use Rattle.std.specs.Ordering.{is_eq}
-use Rattle.ps_time.specs.Key.{key_cmp}
+use Rattle.std.proofs.Common.{◌≡◌, ℕ, ℤ, ◌++◌, Bool, true, false, cond, List, [], ◌∷◌, Option, Some, None, Result, Ok, Err, not, is_some, find, refl, ap, sym, ◌∙◌, append_assoc, append-nil}
+use Rattle.std.specs.List.{AllByRecursion}
 use Rattle.ps_time.specs.Span.{Span}
 use Rattle.ps_time.specs.declared.class.Class.{Class}
 use Rattle.ps_time.specs.declared.key.RunKey.{RunKey}
 use Rattle.run_states.specs.declared.row.RunRow.{RunRow}
 use Rattle.run_states.specs.declared.why.Closing.{Closing}
 use Rattle.run_states.specs.Conflict.{in_conflict}
-use Rattle.run_states.specs.Life.{closed_by, lapse_of, settled_row, settled_rows}
-use Rattle.run_states.specs.Rows.{find_row, IsAscendingRows}
+use Rattle.run_states.specs.Life.{closed_by, lapse_of, settled_rows}
+use Rattle.run_states.specs.Rows.{find_row}
 use Rattle.host_core.specs.Booking.{conflicts, keys_of_rows, sorted_conflicts, unless_firm, yields}
-use Rattle.host_core.specs.Reservations.{lapses, sort_one, sorted_out}
+use Rattle.host_core.specs.Reservations.{sort_one, sorted_out}
 use Rattle.host_core.proofs.IndexLemmas.{closed_no_conflict}
 
 module _ (class : Class) (s : Span) (priority : ℤ) (m : ℕ) (rows : List RunRow) where

@@ -1,9 +1,9 @@
 -- A host's book: its latest moment and its rows. What settling and a list of changes make of it.
-use Rattle.std.specs.Prelude.{◌≡◌, ◌≤◌, ℕ, ◌+◌, max, List, [], ◌∷◌, map, All, length, MatchOption, IsTrue, None, Option, Some}
+use Rattle.std.specs.Prelude.{◌≡◌, ◌≤◌, ℕ, ◌+◌, max, List, [], ◌∷◌, MatchOption, IsTrue, None}
 use Rattle.ps_time.specs.declared.moment.TheConstants.{MAX_MOMENT, MAX_LENGTH}
 use Rattle.plugin_core.specs.TestSpec.{test_length}
 use Rattle.run_states.specs.declared.row.RunRow.{RunRow}
-use Rattle.run_states.specs.Life.{settled_rows, is_booked, HasMoments}
+use Rattle.run_states.specs.Life.{settled_rows, is_booked}
 use Rattle.run_states.specs.Rows.{find_row}
 use Rattle.host_core.specs.declared.change.Change.{Change}
 use Rattle.host_core.specs.declared.change.Change.TheVariants.{Accepted, Confirmed}

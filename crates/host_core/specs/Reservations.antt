@@ -1,14 +1,16 @@
 -- The reservations for which the rows of a book stand.
-use Rattle.std.specs.Prelude.{◌≡◌, ℕ, ℤ, Bool, false, not, List, [], ◌∷◌, ◌++◌, map, filter, Option, Some, None, is_some, Result, Ok, Err, if◌then◌else◌, All}
+use Rattle.std.specs.Prelude.{ℕ, ℤ, Bool, false, List, [], ◌∷◌, ◌++◌, Option, Some, None, is_some, Result, Ok, Err, if◌then◌else◌}
 use Rattle.ps_time.specs.Span.{Span, span_of}
+use Rattle.ps_time.specs.declared.class.Class.{Class}
 use Rattle.ps_time.specs.declared.key.RunKey.{RunKey}
 use Rattle.plugin_core.specs.TestSpec.{test_class, test_length}
 use Rattle.run_states.specs.declared.proposal.Proposal.{Proposal}
 use Rattle.run_states.specs.declared.row.RunRow.{RunRow}
-use Rattle.run_states.specs.Life.{is_booked, lapse_of}
-use Rattle.run_states.specs.Rows.{find_row}
+use Rattle.run_states.specs.declared.why.Why.TheVariants.{Preempted}
+use Rattle.run_states.specs.Life.{is_booked, close_row, lapse_of}
+use Rattle.run_states.specs.Rows.{change_row, find_row}
 use Rattle.host_timeline.specs.declared.booking.Booking.{Booking}
-use Rattle.host_timeline.specs.Booking.{firm_from_of}
+use Rattle.host_timeline.specs.Booking.{conflicts_with, firm_from_of}
 use Rattle.host_timeline.specs.Timeline.{without_booking}
 use Rattle.host_core.specs.Booking.{yields}
 
@@ -62,3 +64,9 @@ sorted_out priority m rows done (k ∷ ks) = sort_one priority m k (find_row row
 abbrev pub released : ℕ → List RunRow → List Booking → List Booking
 released m [] bs = bs
 released m (r ∷ rs) bs = released m rs (if lapses m r then without_booking bs r.key else bs)
+
+-- the rows, those of the reservations in conflict with a run of this class and interval closed at m in favour of the run that has the key
+abbrev pub closed_each : ℕ → RunKey → Class → Span → List Booking → List RunRow → List RunRow
+closed_each m key class s [] rows = rows
+closed_each m key class s (b ∷ bs) rows =
+    closed_each m key class s bs (if conflicts_with class s b then change_row (close_row (record { moment = m; why = Preempted key })) rows b.key else rows)

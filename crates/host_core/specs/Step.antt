@@ -9,7 +9,6 @@ use Rattle.run_states.specs.declared.why.Denial.{Denial}
 use Rattle.run_states.specs.declared.why.Denial.TheVariants.{Full}
 use Rattle.run_states.specs.declared.why.What.TheVariants.{Numbers}
 use Rattle.host_core.specs.declared.config.Config.{Config}
-use Rattle.host_core.specs.declared.change.Change.{Change}
 use Rattle.host_core.specs.declared.change.Change.TheVariants.{Accepted, Confirmed}
 use Rattle.host_core.specs.declared.change.Changes.{Changes}
 use Rattle.host_core.specs.declared.step.Input.{Input}

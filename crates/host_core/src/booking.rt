@@ -1,6 +1,10 @@
 //! Bookings: a host's runs for itself.
-ghost use Rattle.std.specs.Prelude.{◌≡◌, ◌≤◌, ◌<◌, ◌+◌, ◌^◌, IfOk};
-ghost use Rattle.host_core.specs.Booking.{last_number, booking_test, booking_tool, booking, yields, starts_after};
+ghost use Rattle.std.specs.Prelude.{◌≡◌, ◌≤◌, ◌<◌, ◌+◌, ◌^◌, length, IfOk};
+ghost use Rattle.std.specs.List.Sorted.{IsPartitionPoint};
+ghost use Rattle.std.specs.declared.cmp.Ordering.TheVariants.{Less};
+ghost use Rattle.ps_time.specs.Key.{key_cmp};
+ghost use Rattle.run_states.specs.Rows.{IsAscendingRows};
+ghost use Rattle.host_core.specs.Booking.{booking_number, first_task_key, last_number, booking_test, booking_tool, booking, yields, starts_after};
 
 use crate::config::Config;
 use plugin_core::test_spec::TestSpec;
@@ -11,15 +15,13 @@ use ps_time::key::RunKey;
 use ps_time::memory::Memory;
 use ps_time::moment::{Length, Moment};
 use ps_time::text::Text;
+use run_states::life::DECK;
 use run_states::proposal::Proposal;
 use run_states::row::RunRow;
 use std::alloc::Global;
 
 /// The address from which a host asks itself.
 const OWN_ADDRESS: &str = "127.0.0.1";
-
-/// How long before its start a run is on deck and can't be preempted any more, in seconds.
-const DECK: u64 = 10;
 
 /// What a booking asks for.
 #[derive(Clone, Copy, Debug, PartialEq, Eq)]
@@ -32,15 +34,41 @@ pub(crate) struct Wish {
 
 /// The greatest number of this host's bookings; 0 where it has none.
 pub(crate) fn last_number(rows: &[RunRow], host: u16) -> u32
+    requires { IsAscendingRows rows.now }
     ensures { result ≡ last_number host rows.now }
 {
-    let mut greatest = 0;
-    for row in rows {
-        if row.key.lead == host && row.key.task == 0 {
-            greatest = greatest.max(row.key.number);
-        }
+    match end_of_bookings(rows, host).checked_sub(1) {
+        Some(last) => booking_number(rows[last].key, host),
+        None => 0,
     }
-    greatest
+}
+
+// The rows before this place have keys up to those of the host's bookings, the others have greater ones.
+fn end_of_bookings(rows: &[RunRow], host: u16) -> usize
+    requires { IsAscendingRows rows.now }
+    ensures within { result ≤ length rows.now }
+    ensures parted { IsPartitionPoint (λ r. key_cmp r.key (first_task_key host) ≡ Less) (λ r. ¬ (key_cmp r.key (first_task_key host) ≡ Less)) rows.now result }
+{
+    let first_task = RunKey {
+        lead: host,
+        task: 1,
+        number: 0,
+        attempt: 0,
+    };
+    match rows.binary_search_by_key(&first_task, |row| row.key) {
+        Ok(at) => at,
+        Err(at) => at,
+    }
+}
+
+fn booking_number(key: RunKey, host: u16) -> u32
+    ensures { result ≡ booking_number host key }
+{
+    if key.lead == host && key.task == 0 {
+        key.number
+    } else {
+        0
+    }
 }
 
 /// Whether a run of this priority may preempt the row at the moment.

@@ -9,7 +9,8 @@ ghost use Rattle.host_core.specs.Book.{Book, MayFollow, CanApply, CanApplyAll, I
 ghost use Rattle.host_core.specs.Booking.{conflicts, fitted, sorted_conflicts};
 ghost use Rattle.host_core.specs.Grown.{Grown, AllStand};
 ghost use Rattle.host_core.specs.Change.{apply, apply_all, accepted_row};
-ghost use Rattle.host_core.specs.Reservations.{released, reservation_of, sorted_out};
+ghost use Rattle.host_core.specs.Reservations.{closed_each, released, reservation_of, sorted_out};
+ghost use Rattle.host_core.specs.Sound.{StandsUntil};
 ghost use Rattle.host_core.specs.Step.{denied, decided_booking, outcome_of_booking, step_reply, step_changes, step_book};
 ghost use Rattle.host_core.specs.declared.change.Change.TheVariants.{Accepted as AcceptedChange};
 
@@ -30,7 +31,7 @@ use ps_time::text::Text;
 use run_states::proposal::Proposal;
 use run_states::row::RunRow;
 use run_states::rows::Rows;
-use run_states::why::{Denial, What};
+use run_states::why::{Closing, Denial, What, Why};
 use std::alloc::Global;
 use std::marker::Model;
 
@@ -44,6 +45,8 @@ pub struct Host {
     rows: Rows,
     // what the booked rows reserve
     timeline: Timeline,
+    // no row lapses before this moment
+    next_lapse: Moment,
 }
 
 impl Model for Host {
@@ -55,7 +58,7 @@ impl Model for Host {
 
     ghost view = { λ h. record { book = record { moment = h.moment; rows = h.rows.list }; room = min h.rows.room h.timeline.room } };
 
-    ghost invariant = { λ h. IsSound h.moment h.rows.list h.timeline.list };
+    ghost invariant = { λ h. IsSound h.moment h.rows.list h.timeline.list h.next_lapse };
 }
 
 impl Host {
@@ -67,6 +70,7 @@ impl Host {
             moment: 0,
             rows: Rows::new(alloc),
             timeline: Timeline::new(alloc),
+            next_lapse: Moment::MAX,
         }
     }
 
@@ -247,8 +251,12 @@ impl Host {
         ensures rows { self.new.book.rows ≡ settled_rows moment self.old.book.rows }
         ensures room { self.old.room ≤ self.new.room }
     {
+        if moment < self.next_lapse {
+            return;
+        }
         release_lapsed(&mut self.timeline, self.rows.list(), moment);
         self.rows.settle(moment);
+        self.next_lapse = next_lapse(self.rows.list());
     }
 
     // Makes the changes at the moment, in order.
@@ -298,11 +306,12 @@ impl Host {
         ensures room { self.old.room ≤ self.new.room + 1 }
     {
         let run = reservation_of(&proposal);
-        self.rows.preempt(run.key, run.class, &run.interval, moment);
+        close_conflicts(&mut self.rows, self.timeline.bookings(), &run, moment);
         self.timeline.release_conflicts(run.class, &run.interval);
         self.timeline.book(run);
-        self.rows
-            .put(accepted_row(alloc, moment, proposal, participants));
+        let row = accepted_row(alloc, moment, proposal, participants);
+        self.next_lapse = self.next_lapse.min(stands_until(&row));
+        self.rows.put(row);
     }
 }
 
@@ -440,6 +449,42 @@ fn sort_out(
         preempted.push(*key)?;
     }
     Ok(Ok(Items::from_vec(preempted)))
+}
+
+// Closes the rows of the reservations in conflict with the run, in favour of it.
+fn close_conflicts(rows: &mut Rows, bookings: &[Booking], run: &Booking, moment: Moment)
+    ensures rows { rows.new.list ≡ closed_each moment run.now.key run.now.class run.now.interval bookings.now rows.old.list }
+    ensures room { rows.new.room ≡ rows.old.room }
+{
+    for booking in bookings {
+        if booking.conflicts_with(run.class, &run.interval) {
+            let why = Why::Preempted(run.key);
+            rows.close(booking.key, Closing { moment, why });
+        }
+    }
+}
+
+// A moment before which the row doesn't lapse: the one at which it lapses, where there is one.
+fn stands_until(row: &RunRow) -> Moment
+    requires { HasMoments row.now }
+    ensures { StandsUntil result row.now }
+{
+    match row.lapse(Moment::MAX) {
+        Some(closing) => closing.moment,
+        None => Moment::MAX,
+    }
+}
+
+// A moment before which none of the rows lapses.
+fn next_lapse(rows: &[RunRow]) -> Moment
+    requires { All HasMoments rows.now }
+    ensures { All (StandsUntil result) rows.now }
+{
+    let mut next = Moment::MAX;
+    for row in rows {
+        next = next.min(stands_until(row));
+    }
+    next
 }
 
 // Takes the reservations of the rows out that lapse by the moment.

@@ -2,7 +2,7 @@
 ghost use Rattle.std.specs.Prelude.{◌≡◌, ◌++◌, ◌≤◌, All, IfOk, OnOk, map, flat_map};
 ghost use Rattle.std.specs.String.{string_bytes};
 ghost use Rattle.ps_time.specs.declared.moment.TheConstants.{MAX_MOMENT};
-ghost use Rattle.run_states.specs.Life.{closed_state, settled_row, settled_rows, state_of, HasMoments};
+ghost use Rattle.run_states.specs.Life.{settled_row, settled_rows, state_of, HasMoments};
 ghost use Rattle.psched_rehearse.specs.Report.{entry_of, interval_cmp, entry_cmp, ordered, entry_text, entry_line, table_text};
 
 use crate::report::ShownRun;
@@ -12,10 +12,9 @@ use ps_time::interval::Interval;
 use ps_time::key::RunKey;
 use ps_time::memory::Memory;
 use ps_time::moment::Moment;
-use run_states::life::state_name;
+use run_states::life::{state_name, state_of_closed};
 use run_states::row::RunRow;
 use run_states::state::State;
-use run_states::why::Why;
 use std::alloc::Global;
 use std::cmp::Ordering;
 use std::fmt;
@@ -101,17 +100,6 @@ impl fmt::Display for Entry {
     }
 }
 
-fn closed_state(why: &Why) -> State
-    ensures { result ≡ closed_state why.now }
-{
-    match why {
-        Why::Missed => State::Missed,
-        Why::Preempted(_) => State::Preempted,
-        Why::Nonstart(_) => State::Nonstart,
-        Why::Canceled => State::Canceled,
-    }
-}
-
 // The state of the row once it is settled at the moment.
 fn settled_state(row: &RunRow, moment: Moment) -> State
     requires moment { moment ≤ MAX_MOMENT }
@@ -119,7 +107,7 @@ fn settled_state(row: &RunRow, moment: Moment) -> State
     ensures { result ≡ state_of (settled_row moment row.now) moment }
 {
     match row.lapse(moment) {
-        Some(closing) => closed_state(&closing.why),
+        Some(closing) => state_of_closed(&closing.why),
         None => state_name(row, moment),
     }
 }

@@ -2,7 +2,6 @@
 #![tactic(auto)]
 
 pub mod answer;
-pub mod conflict;
 pub mod life;
 pub mod proposal;
 pub mod row;

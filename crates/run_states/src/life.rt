@@ -168,14 +168,6 @@ impl RunRow {
         None
     }
 
-    /// Whether the row is booked once it is settled at the moment.
-    pub fn is_booked_at(&self, moment: Moment) -> bool
-        requires { HasMoments self.now }
-        ensures { result ≡ is_booked (settled_row moment self.now) }
-    {
-        self.is_booked() && self.lapse(moment).is_none()
-    }
-
     /// Closes the row where it has lapsed by the moment.
     pub fn settle(&mut self, moment: Moment)
         requires { HasMoments self.old }
@@ -221,7 +213,8 @@ pub fn state_name(row: &RunRow, moment: Moment) -> State
     }
 }
 
-fn state_of_closed(why: &Why) -> State
+/// The state of a row that was closed for this reason.
+pub fn state_of_closed(why: &Why) -> State
     ensures { result ≡ closed_state why.now }
 {
     match why {

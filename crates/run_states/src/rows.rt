@@ -2,14 +2,11 @@
 ghost use Rattle.std.specs.Prelude.{◌≡◌, ℕ, ◌+◌, ◌<◌, ◌≤◌, [], None, IfOk, IfErr, OnOk, is_some, if◌then◌else◌, All};
 ghost use Rattle.std.specs.Option.{option_copied};
 ghost use Rattle.run_states.specs.Life.{confirm_row, close_row, marked_row, settled_rows, HasMoments};
-ghost use Rattle.run_states.specs.Conflict.{preempted_rows};
 ghost use Rattle.run_states.specs.Rows.{find_row, put_row, lift_row, change_row, IsAscendingRows, IsPlaceOf, IsGapFor};
 
 use crate::life::LifeStep;
 use crate::row::RunRow;
 use crate::why::Closing;
-use ps_time::class::Class;
-use ps_time::interval::Interval;
 use ps_time::key::RunKey;
 use ps_time::memory::Memory;
 use ps_time::moment::Moment;
@@ -24,7 +21,6 @@ pub struct Rows {
 
 impl Model for Rows {
     ghost use Rattle.std.specs.Prelude.{◌-◌, vec_len, vec_capacity};
-    ghost use Rattle.run_states.specs.Conflict.{preempted_rows};
     ghost use Rattle.run_states.specs.Rows.{Rows as Table, IsAscendingRows};
 
     ghost Value = { Table };
@@ -138,15 +134,6 @@ impl Rows {
         settle_all(&mut self.rows, moment);
     }
 
-    /// Closes each row in conflict with a run of this class and interval in favour of that run, which
-    /// has the key.
-    pub fn preempt(&mut self, key: RunKey, class: Class, interval: &Interval, moment: Moment)
-        ensures rows { self.new.list ≡ preempted_rows moment key class interval.now self.old.list }
-        ensures room { self.new.room ≡ self.old.room }
-    {
-        all_give_way(&mut self.rows, key, class, interval, moment);
-    }
-
     /// Equal rows. How many places the copy has reserved is left open.
     pub fn copy(&self, alloc: Global) -> Result<Rows, Memory>
         ensures { IfOk result (λ made. made.list ≡ self.now.list) }
@@ -170,14 +157,6 @@ fn settle_all(rows: &mut [RunRow], moment: Moment)
 {
     for row in rows.iter_mut() {
         row.settle(moment);
-    }
-}
-
-fn all_give_way(rows: &mut [RunRow], key: RunKey, class: Class, interval: &Interval, moment: Moment)
-    ensures { rows.new ≡ preempted_rows moment key class interval.now rows.old }
-{
-    for row in rows.iter_mut() {
-        row.give_way(key, class, interval, moment);
     }
 }
 

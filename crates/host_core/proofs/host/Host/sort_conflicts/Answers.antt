@@ -1,4 +1,4 @@
-use Rattle.std.proofs.Common.{◌≡◌, [], ap, sym, subst, ◌∙◌, IfOk}
+use Rattle.std.proofs.Common.{◌≡◌, [], ap, subst, ◌∙◌, IfOk}
 use Rattle.std.proofs.Math.Facts.{to_z-of_z}
 use Rattle.run_states.specs.Life.{settled_rows}
 use Rattle.host_timeline.specs.Booking.{conflicting, keys_of}
