@@ -194,6 +194,26 @@ fn one_run_preempts_two(rt: HostRuntime) -> Result<(), Fail> {
 }
 
 #[test]
+fn a_copy_has_the_same_rows(rt: HostRuntime) -> Result<(), Fail> {
+    let alloc = rt.alloc();
+    let mut host = Host::new(alloc);
+    let lines = [
+        (10, (Normal, 0, 100, 50), Booked(FIRST, 0)),
+        (12, (Exclusive, 5, 110, 20), Booked(SECOND, 1)),
+    ];
+    assert_eq!(rt; first_wrong(alloc, &mut host, &lines)?, None);
+    let copy = host.rows().copy(alloc)?;
+    let closed = Preempted(12, SECOND);
+    let wanted = [
+        (FIRST, Some((100, 150)), Some(10), Some(10), closed),
+        (SECOND, Some((110, 130)), Some(12), Some(12), Open),
+    ];
+    assert!(rt; copy.list().len() == 2);
+    assert_eq!(rt; first_other(copy.list(), &wanted), None);
+    Ok(())
+}
+
+#[test]
 fn denials_and_their_neighbours(rt: HostRuntime) -> Result<(), Fail> {
     let alloc = rt.alloc();
     let low = (Exclusive, 0, 100, 10);
