@@ -1,1 +1,4 @@
-pub mod AllLemmas
+mod AllLemmas
+mod HistoryLemmas
+mod ImageLemmas
+mod MemoryDiskLemmas

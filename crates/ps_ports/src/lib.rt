@@ -4,8 +4,11 @@
 
 pub mod adapters;
 pub mod all;
+pub mod disk;
 mod failing_calls;
 pub mod fault;
+pub mod history;
+pub mod memory_disk;
 pub mod memory_sink;
 pub mod memory_source;
 pub mod memory_stream;
