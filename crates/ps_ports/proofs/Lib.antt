@@ -1,4 +1,6 @@
 mod AllLemmas
+pub mod DiskLemmas
 mod HistoryLemmas
 mod ImageLemmas
 mod MemoryDiskLemmas
+mod RackLemmas

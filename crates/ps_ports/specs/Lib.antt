@@ -5,3 +5,4 @@ pub mod History
 pub mod Images
 pub mod Memory
 pub mod MemoryDisk
+pub mod Rack

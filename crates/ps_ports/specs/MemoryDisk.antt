@@ -65,6 +65,10 @@ abbrev pub Makes : {E : Type 0} → DiskCall → DiskState → DiskState → Res
 Makes call old new (Ok u) = (fails_call old call ≡ false) × (new ≡ after_made old call true)
 Makes call old new (Err e) = ((fails_call old call ≡ true) × (new ≡ after_made old call false)) ⊎ (new ≡ after_starved old)
 
+-- a disk with its count set back
+abbrev pub reopened : DiskState → DiskState
+reopened d = record { history = d.history; calls = d.calls; until_fault = d.until_fault; faults = 0; starved = d.starved }
+
 -- the calls, as long as memory was never wanting
 abbrev pub told_calls : DiskState → Option (List DiskCall)
 told_calls s = if s.starved then None else Some (map (λ l. l.call) s.history.log)

@@ -5,6 +5,8 @@
 pub mod adapters;
 pub mod all;
 pub mod disk;
+#[cfg(test)]
+mod disk_tests;
 mod failing_calls;
 pub mod fault;
 pub mod history;
@@ -12,6 +14,8 @@ pub mod memory_disk;
 pub mod memory_sink;
 pub mod memory_source;
 pub mod memory_stream;
+pub mod rack;
+mod shelf;
 pub mod sink;
 pub mod source;
 pub mod stream;

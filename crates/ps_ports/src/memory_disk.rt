@@ -5,7 +5,7 @@ ghost use Rattle.ps_ports.specs.Disk.{ReadsAt, written, Torn, Shortened, Follows
 ghost use Rattle.ps_ports.specs.Causes.{Rose};
 ghost use Rattle.ps_ports.specs.Memory.{called, fails_next};
 ghost use Rattle.ps_ports.specs.History.{IsImage, LeftSince, bytes_now, first_calls, image_bytes};
-ghost use Rattle.ps_ports.specs.MemoryDisk.{new_disk, armed, armed_number, after_read, after_starved, ends_too_far, is_to_fail, Makes, told_calls};
+ghost use Rattle.ps_ports.specs.MemoryDisk.{new_disk, armed, armed_number, after_read, after_starved, ends_too_far, is_to_fail, Makes, reopened, told_calls};
 ghost use Rattle.ps_ports.specs.declared.disk.DiskCall.TheVariants.{Write, Cut, Sync};
 
 use crate::disk::{Disk, DiskCall};
@@ -96,6 +96,16 @@ impl MemoryDisk {
         let alloc = self.history.alloc();
         let bytes = self.history.crashed(calls, image)?;
         Ok(MemoryDisk::new(alloc, bytes, Vec::new(alloc)))
+    }
+
+    /// The disk with its count of faults set back to 0.
+    pub fn reopened(self) -> MemoryDisk
+        ensures { result ≡ reopened self }
+    {
+        MemoryDisk {
+            faults: 0,
+            ..self
+        }
     }
 
     // Whether the next write, cut or sync is to fail, whatever it is. Counts it.
