@@ -4,7 +4,9 @@ use Rattle.std.specs.Option.{option_map}
 use Rattle.std.proofs.lemmas.List.{drop_more, take_more, get_or_default}
 use Rattle.std.proofs.lemmas.Slice.Eq.{bytes_eq-Decides}
 use Rattle.std.specs.Prelude.{IfSome, IfNone}
-use Rattle.ps_ports.specs.Rack.{Stored, first_by, without_first, IsFirst, is_under, find_pair}
+use Rattle.ps_ports.specs.Rack.{Stored, first_by, without_first, IsFirst, is_under, find_pair, opened_pair, fresh_first, fresh_second}
+use Rattle.ps_ports.specs.Disk.{Only}
+use Rattle.ps_ports.specs.History.{bytes_now, IsImage}
 use Rattle.ps_ports.specs.MemoryDisk.{DiskState}
 
 -- a test that decides equality answers as the comparison of bytes
@@ -66,3 +68,23 @@ none_goes test (x ∷ xs) none = goes (test x) refl none (none_goes test xs)
     goes : (b : Bool) → test x ≡ b → (if b then Some x else first_by test xs) ≡ None → (first_by test xs ≡ None → without_first test xs ≡ xs) → without_first test (x ∷ xs) ≡ x ∷ xs
     goes true holds none rest = absurd (cc none)
     goes false fails none rest = ap (λ b. if b then xs else x ∷ without_first test xs) fails ∙ ap (λ l. x ∷ l) (rest none)
+
+-- a folder that was put last is there
+pub is_last : (folder : List ℕ) (out : List (List ℕ)) → is_some (first_by (bytes_eq folder) (out ++ folder ∷ [])) ≡ true
+is_last folder [] = ap (λ b. is_some (if b then Some folder else None)) ((bytes_eq-Decides folder folder).1 refl)
+is_last folder (f ∷ out) = there (bytes_eq folder f) (is_last folder out)
+  where
+    there : (b : Bool) → is_some (first_by (bytes_eq folder) (out ++ folder ∷ [])) ≡ true → is_some (if b then Some f else first_by (bytes_eq folder) (out ++ folder ∷ [])) ≡ true
+    there true rest = refl
+    there false rest = rest
+
+-- what a new pair holds
+pub record IsFresh (pair : DiskState × DiskState) : Type 0 where
+  pub first : bytes_now pair.0.history ≡ fresh_first
+  pub second : bytes_now pair.1.history ≡ fresh_second
+  pub only_first : Only fresh_first (IsImage pair.0.history)
+  pub only_second : Only fresh_second (IsImage pair.1.history)
+
+pub fresh_pair : (kept : Option (DiskState × DiskState)) (pair : DiskState × DiskState) → pair ≡ opened_pair kept → ((first second : DiskState) → kept ≡ Some (first, second) → ⊥) → IsFresh pair
+fresh_pair None pair is none = subst IsFresh (sym is) (record { first = refl; second = refl; only_first = λ c image. image; only_second = λ c image. image })
+fresh_pair (Some kept) pair is none = absurd (none kept.0 kept.1 refl)

@@ -11,6 +11,7 @@ mod failing_calls;
 pub mod fault;
 pub mod history;
 pub mod memory_disk;
+pub mod memory_rack;
 pub mod memory_sink;
 pub mod memory_source;
 pub mod memory_stream;
