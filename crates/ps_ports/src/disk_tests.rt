@@ -2,8 +2,12 @@
 use crate::disk::Disk;
 use crate::fault::Failed;
 use crate::history::Image;
+use crate::folder_rack::FolderRack;
 use crate::memory_disk::MemoryDisk;
+use crate::memory_rack::MemoryRack;
+use crate::rack::{FRESH_FIRST, FRESH_SECOND, Rack};
 use std::alloc::{AllocError, Global};
+use std::fs;
 use std::process::Abort;
 use std::test::Fail;
 
@@ -70,4 +74,94 @@ fn check_images(
 #[test]
 fn each_image_after_each_call(rt: HostRuntime) -> Result<(), Fail> {
     check_images(&rt, rt.alloc(), &IMAGES)
+}
+
+fn reads(disk: &mut impl Disk, at: u64, wanted: &[u8]) -> bool {
+    let mut buf = [0; 32];
+    match disk.read(at, &mut buf) {
+        Ok(count) => count <= 32 && &buf[..count] == wanted,
+        Err(_) => false,
+    }
+}
+
+// `failing` numbers reads too, `fail_at` doesn't.
+fn run_failing_calls(disk: &mut MemoryDisk) -> [bool; 9] {
+    let first_read = reads(disk, 1, b"bc");
+    let failing_sync = disk.sync().is_err();
+    let read_past_end = reads(disk, 3, b"");
+    disk.fail_at(Some(2));
+    let write = disk.write_at(0, b"X").is_ok();
+    let failing_read = !reads(disk, 0, b"Xbc");
+    let armed_sync = disk.sync().is_err();
+    let too_far = disk.write_at(u64::MAX, b"Y").is_err();
+    disk.fail_at(None);
+    let sync = disk.sync().is_ok();
+    let last_read = reads(disk, 0, b"Xbc");
+    [
+        first_read,
+        failing_sync,
+        read_past_end,
+        write,
+        failing_read,
+        armed_sync,
+        too_far,
+        sync,
+        last_read,
+    ]
+}
+
+#[test]
+fn the_named_calls_fail(rt: HostRuntime) -> Result<(), Fail> {
+    let mut disk = disk_of(rt.alloc(), b"abc", &[2, 5])?;
+    assert_eq!(rt; run_failing_calls(&mut disk), [true; 9]);
+    assert_eq!(rt; disk.faults(), 4);
+    assert_eq!(rt; disk.calls(), 5);
+    assert!(rt; !disk.starved());
+    Ok(())
+}
+
+#[test]
+fn a_rack_in_memory(rt: HostRuntime) -> Result<(), Fail> {
+    let alloc = rt.alloc();
+    let failing = [2].to_vec(alloc)?;
+    let mut rack = MemoryRack::new(alloc, Vec::new(alloc), failing);
+    let (mut first, second) = rack.open_pair(alloc, "host")?;
+    let fresh = first.bytes() == FRESH_FIRST.as_slice() && second.bytes() == FRESH_SECOND.as_slice();
+    let named = rack.open_pair(alloc, "other").is_err();
+    let open = rack.open_pair(alloc, "host").is_err();
+    let failed = first.write_at(u64::MAX, b"x").is_err();
+    rack.close_pair("host", first, second);
+    let again = match rack.open_pair(alloc, "host") {
+        Ok((first, second)) => first.faults() == 0 && second.bytes() == FRESH_SECOND.as_slice(),
+        Err(_) => false,
+    };
+    assert_eq!(rt; [fresh, named, open, failed, again], [true; 5]);
+    assert_eq!(rt; rack.faults(), 3);
+    Ok(())
+}
+
+#[test]
+fn a_real_pair(rt: HostRuntime) -> Result<(), Fail> {
+    let alloc = rt.alloc();
+    fs::create_dir(&rt, "host")?;
+    let mut rack = FolderRack::new(&rt);
+    let mut other = FolderRack::new(&rt);
+    let no_folder = other.open_pair(alloc, "none").is_err();
+    let (mut first, mut second) = rack.open_pair(alloc, "host")?;
+    let fresh = reads(&mut first, 0, &FRESH_FIRST) && reads(&mut second, 0, &FRESH_SECOND);
+    let refused = other.open_pair(alloc, "host").is_err();
+    let written = first.write_at(7, b"23").is_ok() && first.cut(9).is_ok() && first.cut(40).is_ok();
+    let synced = first.sync().is_ok() && reads(&mut first, 6, b"N23");
+    let too_far = second.write_at(u64::MAX, b"x").is_err() && second.faults() == 1;
+    rack.close_pair("host", first, second);
+    fs::create_dir(&rt, "host/pair.new")?;
+    let again = match other.open_pair(alloc, "host") {
+        Ok((mut first, _)) => reads(&mut first, 0, b"PSCHJRN23"),
+        Err(_) => false,
+    };
+    let removed = !fs::exists(&rt, "host/pair.new")?;
+    let answers = [no_folder, fresh, refused, written, synced, too_far, again, removed];
+    assert_eq!(rt; answers, [true; 8]);
+    assert_eq!(rt; (rack.faults(), other.faults()), (1, 2));
+    Ok(())
 }

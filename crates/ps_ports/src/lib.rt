@@ -9,6 +9,8 @@ pub mod disk;
 mod disk_tests;
 mod failing_calls;
 pub mod fault;
+pub mod file_disk;
+pub mod folder_rack;
 pub mod history;
 pub mod memory_disk;
 pub mod memory_rack;
