@@ -1,5 +1,5 @@
 -- How a disk in memory stands after one more call.
-use Rattle.std.proofs.Common.{◌≡◌, ◌<◌, ◌≤◌, ◌+◌, ◌-◌, ℕ, List, [], ◌∷◌, ◌++◌, length, take, drop, get_or, sym, ap, subst, ◌∙◌, arith, length-drop, Bool, true, false, if◌then◌else◌}
+use Rattle.std.proofs.Common.{◌≡◌, ◌<◌, ◌≤◌, ◌+◌, ◌-◌, ℕ, List, [], ◌∷◌, ◌++◌, length, take, drop, get_or, sym, ap, ◌∙◌, arith, length-drop, true, false, if◌then◌else◌}
 use Rattle.std.proofs.lemmas.List.{drop_more, take_more, get_or-drop}
 use Rattle.ps_ports.specs.History.{Standing, fixes, replayed, after_call, after_calls}
 use Rattle.ps_ports.specs.declared.history.LoggedCall.{LoggedCall}
@@ -29,7 +29,7 @@ module _ (bytes new : List ℕ) (log : List LoggedCall) (n m i : ℕ) (l : Logge
       let zero_left : 0 ≡ i + 1 - m = omega (arith, next) in
       let none : [] ≡ later = ap (λ (k : ℕ). take k (drop m log)) zero_left in
       let stands : after_call (record { fixed = bytes; since = since }) l ≡ record { fixed = new; since = later } =
-        ap (λ b. if b then record { fixed = replayed bytes since; since = [] } else record { fixed = bytes; since = since ++ l ∷ [] }) fix ∙ (λ j. record { fixed = sym made j; since = none j }) in
+      ap (λ b. if b then record { fixed = replayed bytes since; since = [] } else record { fixed = bytes; since = since ++ l ∷ [] }) fix ∙ (λ j. record { fixed = sym made j; since = none j }) in
       next_call (record { fixed = bytes; since = since }) log i l lt is ∙ ap (λ s. after_calls s (drop (i + 1) log)) stands
 
   -- and where it isn't, it is one more call since then
@@ -37,5 +37,5 @@ module _ (bytes new : List ℕ) (log : List LoggedCall) (n m i : ℕ) (l : Logge
   after_other no_fix made same =
       let more : since ++ l ∷ [] ≡ later = since_more log n i l le lt is ∙ ap (λ (k : ℕ). take (i + 1 - k) (drop k log)) (sym same) in
       let stands : after_call (record { fixed = bytes; since = since }) l ≡ record { fixed = new; since = later } =
-        ap (λ b. if b then record { fixed = replayed bytes since; since = [] } else record { fixed = bytes; since = since ++ l ∷ [] }) no_fix ∙ (λ j. record { fixed = sym made j; since = more j }) in
+      ap (λ b. if b then record { fixed = replayed bytes since; since = [] } else record { fixed = bytes; since = since ++ l ∷ [] }) no_fix ∙ (λ j. record { fixed = sym made j; since = more j }) in
       next_call (record { fixed = bytes; since = since }) log i l lt is ∙ ap (λ s. after_calls s (drop (i + 1) log)) stands

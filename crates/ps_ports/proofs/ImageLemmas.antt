@@ -1,15 +1,14 @@
 -- The images of a disk in memory after one more call.
-use Rattle.std.proofs.Common.{◌≡◌, ◌⊎◌, inl, inr, ⊎_elim, ℕ, ◌+◌, ◌-◌, ◌/◌, ◌^◌, ◌<◌, ◌≤◌, min, Bool, true, false, if◌then◌else◌, IsTrue, List, [], ◌∷◌, ◌++◌, length, take, drop, refl, sym, ◌∙◌, ap, subst, arith, length-append, length-take, length-drop}
-use Rattle.std.proofs.lemmas.List.{take_all, take-append-le, drop-drop, length_push}
-use Rattle.std.proofs.lemmas.Bool.{cases_lt}
-use Rattle.ps_ports.specs.Disk.{written, Torn, Shortened, done_by, PartOf, Follows, NoMore, Only, AreBounded, Elapses}
-use Rattle.ps_ports.specs.History.{History, Standing, with_call, first_calls, fixes, effect, replayed, bytes_now, half_done_by, half_replayed, after_call, after_calls, standing, MayMake, ArePartsOf, IsImage, LeftSince, image_bytes, EndsInReach, AllEndInReach}
-use Rattle.ps_ports.specs.Images.{written_is_torn, done_is_part, nothing_is_part, replayed_are_parts, replayed-push, bytes_stand, bytes_are_image, image_counts, only_image}
+use Rattle.std.proofs.Common.{◌≡◌, ℕ, ◌+◌, ◌-◌, ◌/◌, ◌^◌, ◌<◌, Bool, true, false, if◌then◌else◌, IsTrue, List, [], ◌∷◌, ◌++◌, length, take, drop, refl, sym, ◌∙◌, ap, subst, arith, length-take, length-drop}
+use Rattle.std.proofs.lemmas.List.{drop-drop}
+use Rattle.ps_ports.specs.Disk.{written, Torn, PartOf, Follows, Only, AreBounded}
+use Rattle.ps_ports.specs.History.{History, Standing, with_call, fixes, effect, replayed, bytes_now, half_done_by, half_replayed, after_call, after_calls, standing, MayMake, ArePartsOf, IsImage, image_bytes, EndsInReach, AllEndInReach}
+use Rattle.ps_ports.specs.Images.{written_is_torn, done_is_part, nothing_is_part, replayed_are_parts, replayed-push, bytes_stand}
 use Rattle.ps_ports.specs.declared.disk.DiskCall.{DiskCall}
 use Rattle.ps_ports.specs.declared.disk.DiskCall.TheVariants.{Write, Cut, Sync}
 use Rattle.ps_ports.specs.declared.history.LoggedCall.{LoggedCall}
-use Rattle.ps_ports.specs.declared.history.Image.{Image}
-use Rattle.ps_ports.specs.declared.history.Image.TheVariants.{Old, New, Torn as torn_image}
+use Rattle.ps_ports.specs.declared.image.Image.{Image}
+use Rattle.ps_ports.specs.declared.image.Image.TheVariants.{Old, New, Torn as torn_image}
 
 after_calls-push : (s : Standing) (log : List LoggedCall) (l : LoggedCall) → after_calls s (log ++ l ∷ []) ≡ after_call (after_calls s log) l
 after_calls-push s [] l = refl

@@ -1,5 +1,5 @@
 -- What a write, cut or sync of a disk in memory leaves.
-use Rattle.std.proofs.Common.{◌≡◌, ◌⊎◌, inl, inr, ℕ, List, true, false, sym, ◌∙◌, ap, subst, Result, Ok, Err, OnOk}
+use Rattle.std.proofs.Common.{◌≡◌, inl, inr, true, false, sym, ◌∙◌, ap, subst, Result, Ok, Err, OnOk}
 use Rattle.ps_ports.specs.Disk.{done_by, PartOf, Follows, Only}
 use Rattle.ps_ports.specs.History.{History, with_call, bytes_now, IsImage}
 use Rattle.ps_ports.specs.MemoryDisk.{DiskState, Makes}

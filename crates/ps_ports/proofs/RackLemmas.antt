@@ -1,5 +1,5 @@
 -- The first of a list for which a test holds, and shelves.
-use Rattle.std.proofs.Common.{◌≡◌, ◌≢◌, ◌↔◌, ℕ, suc, ◌+◌, ◌<◌, List, [], ◌∷◌, ◌++◌, length, take, drop, get_or, Bool, true, false, IsTrue, Option, None, is_some, if◌then◌else◌, bytes_eq, Some, sym, ◌∙◌, ap, subst, refl, arith, append_assoc}
+use Rattle.std.proofs.Common.{◌≡◌, ◌↔◌, ℕ, suc, ◌+◌, ◌<◌, List, [], ◌∷◌, ◌++◌, length, take, drop, get_or, Bool, true, false, IsTrue, Option, None, is_some, if◌then◌else◌, bytes_eq, Some, sym, ◌∙◌, ap, subst, refl, arith, append_assoc}
 use Rattle.std.specs.Option.{option_map}
 use Rattle.std.proofs.lemmas.List.{drop_more, take_more, get_or_default}
 use Rattle.std.proofs.lemmas.Slice.Eq.{bytes_eq-Decides}
@@ -29,7 +29,7 @@ module _ {X : Type 0} (test : X → Bool) (xs : List X) (i : ℕ) (x : X) (lt : 
   passed_more fails =
       let first : first_by test (drop i xs) ≡ first_by test (drop (i + 1) xs) = ap (first_by test) here ∙ ap (λ b. if b then Some x else first_by test (drop (i + 1) xs)) fails in
       let rest : without_first test (drop i xs) ≡ x ∷ without_first test (drop (i + 1) xs) =
-        ap (without_first test) here ∙ ap (λ b. if b then drop (i + 1) xs else x ∷ without_first test (drop (i + 1) xs)) fails in
+      ap (without_first test) here ∙ ap (λ b. if b then drop (i + 1) xs else x ∷ without_first test (drop (i + 1) xs)) fails in
       let more : take (i + 1) xs ≡ take i xs ++ x ∷ [] = take_more xs i x lt ∙ ap (λ y. take i xs ++ y ∷ []) (sym is) in
       record {
         first = sym first ∙ so_far.first;
@@ -40,7 +40,7 @@ module _ {X : Type 0} (test : X → Bool) (xs : List X) (i : ℕ) (x : X) (lt : 
   first_here holds =
       let first : first_by test (drop i xs) ≡ Some x = ap (first_by test) here ∙ ap (λ b. if b then Some x else first_by test (drop (i + 1) xs)) holds in
       let rest : without_first test (drop i xs) ≡ drop (i + 1) xs =
-        ap (without_first test) here ∙ ap (λ b. if b then drop (i + 1) xs else x ∷ without_first test (drop (i + 1) xs)) holds in
+      ap (without_first test) here ∙ ap (λ b. if b then drop (i + 1) xs else x ∷ without_first test (drop (i + 1) xs)) holds in
       let next : i + 1 ≡ suc i = omega arith in
       record {
         within = lt;

@@ -5,8 +5,8 @@ use Rattle.ps_ports.specs.Disk.{written, done_by, PartOf}
 use Rattle.ps_ports.specs.declared.disk.DiskCall.{DiskCall}
 use Rattle.ps_ports.specs.declared.disk.DiskCall.TheVariants.{Write, Cut, Sync}
 use Rattle.ps_ports.specs.declared.history.LoggedCall.{LoggedCall}
-use Rattle.ps_ports.specs.declared.history.Image.{Image}
-use Rattle.ps_ports.specs.declared.history.Image.TheVariants.{Old, New, Torn}
+use Rattle.ps_ports.specs.declared.image.Image.{Image}
+use Rattle.ps_ports.specs.declared.image.Image.TheVariants.{Old, New, Torn}
 
 -- the bytes that a disk was made with, and its writes, cuts and syncs since
 pub record History : Type 0 where

@@ -1,8 +1,8 @@
 -- That a disk in memory keeps the laws of a disk. Proved here, since an `impl` cites them.
-use Rattle.std.specs.Prelude.{◌≡◌, ◌≢◌, ℕ, ◌+◌, ◌-◌, ◌<◌, ◌≤◌, min, ⊤, Bool, true, false, List, [], ◌∷◌, ◌++◌, length, take, drop, replicate, refl}
+use Rattle.std.specs.Prelude.{◌≡◌, ℕ, ◌+◌, ◌-◌, ◌≤◌, min, Bool, true, false, List, [], ◌∷◌, ◌++◌, length, take, drop, replicate, refl}
 use Rattle.std.proofs.Common.{◌∙◌, sym, ap, subst, arith, length-append, length-take, length-drop, append_assoc}
 use Rattle.std.proofs.lemmas.List.{length-replicate, take_all, take_at, take_min, drop_at}
-use Rattle.ps_ports.specs.Disk.{written, Torn, Shortened, done_by, PartOf}
+use Rattle.ps_ports.specs.Disk.{written, Torn, done_by, PartOf}
 use Rattle.ps_ports.specs.History.{History, Standing, effect, replayed, bytes_now, after_call, after_calls, standing, MayMake, ArePartsOf, IsImage, LeftSince, first_calls}
 use Rattle.ps_ports.specs.declared.disk.DiskCall.{DiskCall}
 use Rattle.ps_ports.specs.declared.disk.DiskCall.TheVariants.{Write, Cut, Sync}
@@ -23,7 +23,7 @@ written_is_torn at (b ∷ piece) bytes =
     let past = drop (at + n) bytes in
     let size : length (front at bytes ++ b ∷ piece) ≡ at + n = omega (arith, length-append (front at bytes) (b ∷ piece), length-front at bytes) in
     let split : written at (b ∷ piece) bytes ≡ take at bytes ++ (replicate (at - length bytes) 0 ++ (b ∷ piece) ++ past) =
-      ap (λ (l : List ℕ). l ++ past) (append_assoc (take at bytes) (replicate (at - length bytes) 0) (b ∷ piece)) ∙ append_assoc (take at bytes) (replicate (at - length bytes) 0 ++ b ∷ piece) past in
+    ap (λ (l : List ℕ). l ++ past) (append_assoc (take at bytes) (replicate (at - length bytes) 0) (b ∷ piece)) ∙ append_assoc (take at bytes) (replicate (at - length bytes) 0 ++ b ∷ piece) past in
     record {
       before = ap (take (min at (length bytes))) split ∙ take_at (take at bytes) (replicate (at - length bytes) 0 ++ (b ∷ piece) ++ past) (min at (length bytes)) (length-take at bytes);
       after = drop_at (front at bytes ++ b ∷ piece) past (at + n) size;

@@ -1,5 +1,5 @@
 -- A disk in memory, and the calls that are to fail.
-use Rattle.std.specs.Prelude.{◌≡◌, ◌⊎◌, ℕ, ◌+◌, ◌-◌, ◌/◌, ◌≤◌, ◌^◌, ◌==◌, nat_le, Bool, true, false, not, ◌||◌, if◌then◌else◌, IsTrue, List, [], length, drop, map, Option, Some, None, Result, Ok, Err}
+use Rattle.std.specs.Prelude.{◌≡◌, ◌⊎◌, ℕ, ◌+◌, ◌-◌, ◌^◌, ◌==◌, nat_le, Bool, true, false, ◌||◌, if◌then◌else◌, List, [], length, map, Option, Some, None, Result, Ok, Err}
 use Rattle.ps_ports.specs.Causes.{raised}
 use Rattle.ps_ports.specs.Memory.{Calls, no_calls, fails_next, called}
 use Rattle.ps_ports.specs.History.{History, with_call}

@@ -1,9 +1,9 @@
 -- Pairs of disks in a rack.
-use Rattle.std.specs.Prelude.{◌≡◌, ℕ, ◌<◌, ◌==◌, Bool, true, false, ◌||◌, ◌&&◌, if◌then◌else◌, IsTrue, List, [], ◌∷◌, ◌++◌, codes, length, slice_index_or, bytes_eq, Option, Some, None, is_some, Result, Ok, Err}
+use Rattle.std.specs.Prelude.{◌≡◌, ℕ, ◌<◌, ◌==◌, Bool, true, false, ◌||◌, ◌&&◌, if◌then◌else◌, List, [], ◌∷◌, ◌++◌, codes, length, slice_index_or, bytes_eq, Option, Some, None, is_some, Result, Ok, Err}
 use Rattle.std.specs.Option.{option_map}
 use Rattle.std.specs.List.{remove}
 use Rattle.ps_ports.specs.Causes.{raised}
-use Rattle.ps_ports.specs.Memory.{Calls, no_calls, fails_next, called}
+use Rattle.ps_ports.specs.Memory.{Calls, fails_next, called}
 use Rattle.ps_ports.specs.Disk.{NoMore}
 use Rattle.ps_ports.specs.MemoryDisk.{DiskState, new_disk, reopened}
 use Rattle.ps_ports.specs.declared.rack.RackFault.{RackFault}

@@ -1,8 +1,8 @@
 //! Tests of disks: images worked out by hand, calls that are to fail, and a real pair.
 use crate::disk::Disk;
 use crate::fault::Failed;
-use crate::history::Image;
 use crate::folder_rack::FolderRack;
+use crate::image::Image;
 use crate::memory_disk::MemoryDisk;
 use crate::memory_rack::MemoryRack;
 use crate::rack::{FRESH_FIRST, FRESH_SECOND, Rack};
@@ -112,7 +112,7 @@ fn run_failing_calls(disk: &mut MemoryDisk) -> [bool; 9] {
 
 #[test]
 fn the_named_calls_fail(rt: HostRuntime) -> Result<(), Fail> {
-    let mut disk = disk_of(rt.alloc(), b"abc", &[2, 5])?;
+    let mut disk = may_move_to_a_thread(disk_of(rt.alloc(), b"abc", &[2, 5])?);
     assert_eq!(rt; run_failing_calls(&mut disk), [true; 9]);
     assert_eq!(rt; disk.faults(), 4);
     assert_eq!(rt; disk.calls(), 5);
@@ -126,7 +126,8 @@ fn a_rack_in_memory(rt: HostRuntime) -> Result<(), Fail> {
     let failing = [2].to_vec(alloc)?;
     let mut rack = MemoryRack::new(alloc, Vec::new(alloc), failing);
     let (mut first, second) = rack.open_pair(alloc, "host")?;
-    let fresh = first.bytes() == FRESH_FIRST.as_slice() && second.bytes() == FRESH_SECOND.as_slice();
+    let fresh = first.bytes() == FRESH_FIRST.as_slice()
+        && second.bytes() == FRESH_SECOND.as_slice();
     let named = rack.open_pair(alloc, "other").is_err();
     let open = rack.open_pair(alloc, "host").is_err();
     let failed = first.write_at(u64::MAX, b"x").is_err();
@@ -140,6 +141,10 @@ fn a_rack_in_memory(rt: HostRuntime) -> Result<(), Fail> {
     Ok(())
 }
 
+fn may_move_to_a_thread<T: Send>(value: T) -> T {
+    value
+}
+
 #[test]
 fn a_real_pair(rt: HostRuntime) -> Result<(), Fail> {
     let alloc = rt.alloc();
@@ -148,6 +153,7 @@ fn a_real_pair(rt: HostRuntime) -> Result<(), Fail> {
     let mut other = FolderRack::new(&rt);
     let no_folder = other.open_pair(alloc, "none").is_err();
     let (mut first, mut second) = rack.open_pair(alloc, "host")?;
+    second = may_move_to_a_thread(second);
     let fresh = reads(&mut first, 0, &FRESH_FIRST) && reads(&mut second, 0, &FRESH_SECOND);
     let refused = other.open_pair(alloc, "host").is_err();
     let written = first.write_at(7, b"23").is_ok() && first.cut(9).is_ok() && first.cut(40).is_ok();
@@ -160,7 +166,9 @@ fn a_real_pair(rt: HostRuntime) -> Result<(), Fail> {
         Err(_) => false,
     };
     let removed = !fs::exists(&rt, "host/pair.new")?;
-    let answers = [no_folder, fresh, refused, written, synced, too_far, again, removed];
+    let answers = [
+        no_folder, fresh, refused, written, synced, too_far, again, removed,
+    ];
     assert_eq!(rt; answers, [true; 8]);
     assert_eq!(rt; (rack.faults(), other.faults()), (1, 2));
     Ok(())

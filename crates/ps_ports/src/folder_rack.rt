@@ -6,12 +6,11 @@ use crate::disk::Disk;
 use crate::file_disk::FileDisk;
 use crate::rack::{FRESH_FIRST, FRESH_SECOND, Rack, RackFault};
 use std::alloc::{AllocError, Global};
-use std::fs;
 use std::fs::{File, OpenFile, OpenOptions};
-use std::io;
 use std::io::ErrorKind;
 use std::os::unix::fs::FileExt;
 use std::rt::Files;
+use std::{fs, io};
 
 /// A rack over folders. In a folder lie `lock` and the folder `pair`, with `first` and `second`.
 ///
@@ -120,11 +119,7 @@ fn take_lock<R: Files<File = File>>(
     }
 }
 
-fn make_pair<R: Files<File = File>>(
-    rt: &R,
-    alloc: Global,
-    folder: &str,
-) -> Result<(), RackFault> {
+fn make_pair<R: Files<File = File>>(rt: &R, alloc: Global, folder: &str) -> Result<(), RackFault> {
     let new_pair = format!(in alloc; "{folder}/pair.new")?;
     let pair = format!(in alloc; "{folder}/pair")?;
     if fs::exists(rt, &new_pair)? {
@@ -150,7 +145,10 @@ fn write_new<R: Files<File = File>>(
     bytes: &[u8],
 ) -> Result<(), RackFault> {
     let path = format!(in alloc; "{folder}/{name}")?;
-    let file = OpenOptions::new().write(true).create_new(true).open(rt, &path)?;
+    let file = OpenOptions::new()
+        .write(true)
+        .create_new(true)
+        .open(rt, &path)?;
     file.write_all_at(bytes, 0)?;
     file.sync_all()?;
     Ok(())

@@ -4,20 +4,10 @@ ghost use Rattle.ps_ports.specs.Disk.{AreBounded, ReadsAt, written, done_by};
 ghost use Rattle.ps_ports.specs.History.{with_call, first_calls, bytes_now, effect, replayed, half_replayed, half_done_by, fixes, standing, IsImage, image_bytes, EndsInReach, start_of};
 
 use crate::disk::DiskCall;
+use crate::image::Image;
 use ps_time::memory::Memory;
 use std::alloc::Global;
 use std::marker::Model;
-
-/// What a crash leaves of a disk in memory.
-#[derive(Clone, Copy, Debug, PartialEq, Eq)]
-pub enum Image {
-    /// Writes and cuts since the last sync are dropped.
-    Old,
-    /// They are kept.
-    New,
-    /// Cuts are kept, and the first half, rounded down, of each write.
-    Torn,
-}
 
 /// A call, and whether it was done. One that failed did nothing.
 #[derive(Debug, Drop)]
@@ -81,11 +71,7 @@ impl History {
         ensures err { OnErr result (self.new ≡ self.old) }
     {
         keep_first(self.alloc, &mut self.first, &self.bytes)?;
-        log_call(
-            &mut self.bytes,
-            &mut self.log,
-            LoggedCall { call, done },
-        )?;
+        log_call(&mut self.bytes, &mut self.log, LoggedCall { call, done })?;
         Ok(())
     }
 
@@ -106,11 +92,7 @@ impl History {
     }
 }
 
-fn keep_first(
-    alloc: Global,
-    first: &mut Option<Vec<u8>>,
-    bytes: &[u8],
-) -> Result<(), Memory>
+fn keep_first(alloc: Global, first: &mut Option<Vec<u8>>, bytes: &[u8]) -> Result<(), Memory>
     ensures ok { OnOk result ((other : List ℕ) → start_of first.new other ≡ start_of first.old bytes.now) }
     ensures err { OnErr result (start_of first.new bytes.now ≡ start_of first.old bytes.now) }
 {

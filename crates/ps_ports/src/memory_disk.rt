@@ -11,7 +11,8 @@ ghost use Rattle.ps_ports.specs.declared.disk.DiskCall.TheVariants.{Write, Cut, 
 use crate::disk::{Disk, DiskCall};
 use crate::failing_calls::FailingCalls;
 use crate::fault::Failed;
-use crate::history::{History, Image};
+use crate::history::History;
+use crate::image::Image;
 use ps_time::items::Items;
 use ps_time::memory::Memory;
 use std::alloc::Global;
@@ -102,10 +103,7 @@ impl MemoryDisk {
     pub fn reopened(self) -> MemoryDisk
         ensures { result ≡ reopened self }
     {
-        MemoryDisk {
-            faults: 0,
-            ..self
-        }
+        MemoryDisk { faults: 0, ..self }
     }
 
     // Whether the next write, cut or sync is to fail, whatever it is. Counts it.

@@ -79,7 +79,7 @@ impl Rack for MemoryRack {
 
     fn open_pair(
         &mut self,
-        _alloc: Global,
+        alloc: Global,
         folder: &str,
     ) -> Result<(MemoryDisk, MemoryDisk), RackFault>
         ensures counts { IfOk result (λ pair. (pair.0.faults ≡ 0) × (pair.1.faults ≡ 0)) }
@@ -98,7 +98,7 @@ impl Rack for MemoryRack {
             self.faults = self.faults.saturating_add(1);
             return Err(RackFault::Failed);
         }
-        match self.shelf.take(folder) {
+        match self.shelf.take(alloc, folder) {
             Ok(pair) => Ok(pair),
             Err(_) => Err(RackFault::Memory),
         }

@@ -12,7 +12,6 @@ use std::marker::Model;
 
 #[derive(Drop)]
 pub struct Shelf {
-    alloc: Global,
     // It has room for those that are out, too.
     pairs: Vec<(Text, MemoryDisk, MemoryDisk)>,
     out: Vec<Text>,
@@ -34,7 +33,6 @@ impl Shelf {
         ensures { result ≡ record { pairs = pairs.items; out = [] } }
     {
         Shelf {
-            alloc,
             pairs,
             out: Vec::new(alloc),
         }
@@ -53,7 +51,7 @@ impl Shelf {
     }
 
     /// Takes the folder's pair, or a new one. Where memory is wanting nothing is changed.
-    pub fn take(&mut self, folder: &str) -> Result<(MemoryDisk, MemoryDisk), Memory>
+    pub fn take(&mut self, alloc: Global, folder: &str) -> Result<(MemoryDisk, MemoryDisk), Memory>
         ensures pair { IfOk result (λ pair. pair ≡ opened_pair (find_pair folder.now self.old.pairs)) }
         ensures after { OnOk result (self.new ≡ after_take folder.now self.old) }
         ensures err { OnErr result (self.new ≡ self.old) }
@@ -66,7 +64,6 @@ impl Shelf {
                 Ok((first.reopened(), second.reopened()))
             }
             None => {
-                let alloc = self.alloc;
                 let name = Text::new(alloc, folder)?;
                 let first = new_disk(alloc, &FRESH_FIRST)?;
                 let second = new_disk(alloc, &FRESH_SECOND)?;
@@ -90,10 +87,7 @@ impl Shelf {
 }
 
 // Takes no memory.
-fn put_first(
-    pairs: &mut Vec<(Text, MemoryDisk, MemoryDisk)>,
-    pair: (Text, MemoryDisk, MemoryDisk),
-)
+fn put_first(pairs: &mut Vec<(Text, MemoryDisk, MemoryDisk)>, pair: (Text, MemoryDisk, MemoryDisk))
     requires { vec_len pairs.old < vec_capacity pairs.old }
     ensures items { pairs.new.items ≡ pair ∷ pairs.old.items }
     ensures len { vec_len pairs.new ≡ vec_len pairs.old + 1 }

@@ -1,4 +1,4 @@
-use Rattle.std.proofs.Common.{◌<◌, ◌^◌, ℕ, List, length, Vec, Global, subst, arith}
+use Rattle.std.proofs.Common.{◌<◌, ◌^◌, ℕ, length, Vec, Global, subst, arith}
 use Rattle.std.specs.Prelude.{Option, Some, None}
 use Rattle.ps_ports.specs.Disk.{AreBounded}
 use Rattle.ps_ports.specs.History.{IsImage, start_of}

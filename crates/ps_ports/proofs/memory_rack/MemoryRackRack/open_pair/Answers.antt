@@ -1,4 +1,4 @@
-use Rattle.std.proofs.Common.{◌≡◌, rules, bytes_eq, is_some, IfOk, OnOk, IsTrue, ap, subst, sym, ◌∙◌}
+use Rattle.std.proofs.Common.{◌≡◌, rules, bytes_eq, is_some, IfOk, OnOk, IsTrue, subst, sym}
 use Rattle.std.proofs.lemmas.Result.{IfOk-weaker, on_ok_weaker}
 use Rattle.ps_ports.specs.Rack.{first_by, find_pair, opened_pair, after_take}
 use Rattle.ps_ports.proofs.RackLemmas.{is_last, fresh_pair}

@@ -1,5 +1,5 @@
 use Rattle.std.proofs.Common.{◌≡◌, ◌∷◌, [], ◌++◌, rules, sym, ap, subst, ◌∙◌, None}
-use Rattle.ps_ports.specs.Rack.{ShelfState, first_by, without_first, is_under, IsFirst, find_pair, opened_pair, after_take}
+use Rattle.ps_ports.specs.Rack.{first_by, without_first, is_under, IsFirst, find_pair, opened_pair, after_take}
 use Rattle.ps_ports.proofs.RackLemmas.{pair_here, name_here, none_goes}
 use Rattle.ps_ports.proofs.shelf.Shelf.take.Goals as goal
 
@@ -21,7 +21,7 @@ returns-in_ok-push-in-Some-clause-after c =
     let pushed : c.push.new.self.items ≡ inside.out.items ++ c.remove-name.result.0 ∷ [] = search rules in
     let out : c.push.new.self.items ≡ inside.out.items ++ folder ∷ [] = pushed ∙ ap (λ n. inside.out.items ++ n ∷ []) name in
     let made : record { pairs = c.remove-name.new.self.items; out = c.push.new.self.items } ≡ after_take folder (record { pairs = inside.pairs.items; out = inside.out.items }) =
-      λ i. record { pairs = pairs i; out = out i } in
+    λ i. record { pairs = pairs i; out = out i } in
     made ∙ ap (after_take folder) c.self.view_is
 
 pub returns-in_ok-push-in-None-clause-after : goal.returns-in_ok-push-in-None-clause-after
@@ -32,5 +32,5 @@ returns-in_ok-push-in-None-clause-after c =
     let pairs : c.reserve-in-None.new.self.items ≡ without_first (is_under folder) inside.pairs.items = c.reserve-in-None.ensures.items ∙ sym (none_goes (is_under folder) inside.pairs.items none) in
     let out : c.push-in-None.new.self.items ≡ inside.out.items ++ folder ∷ [] = search rules in
     let made : record { pairs = c.reserve-in-None.new.self.items; out = c.push-in-None.new.self.items } ≡ after_take folder (record { pairs = inside.pairs.items; out = inside.out.items }) =
-      λ i. record { pairs = pairs i; out = out i } in
+    λ i. record { pairs = pairs i; out = out i } in
     made ∙ ap (after_take folder) c.self.view_is
