@@ -1,1 +1,6 @@
-pub mod AllLemmas
+mod AllLemmas
+pub mod DiskLemmas
+mod HistoryLemmas
+mod ImageLemmas
+mod MemoryDiskLemmas
+mod RackLemmas

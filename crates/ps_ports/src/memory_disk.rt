@@ -1,0 +1,268 @@
+//! A disk in memory.
+ghost use Rattle.std.specs.Prelude.{◌≡◌, ◌+◌, ◌-◌, ◌≤◌, ◌^◌, [], length, take, drop, min, IfOk, IsErr, OnOk, OnErr, IsTrue, is_err, false};
+ghost use Rattle.std.specs.Io.{ReadsAtMost};
+ghost use Rattle.ps_ports.specs.Disk.{ReadsAt, written, Torn, Shortened, Follows, NoMore, Only, AreBounded, Elapses, CountsFault, Tells};
+ghost use Rattle.ps_ports.specs.Causes.{Rose};
+ghost use Rattle.ps_ports.specs.Memory.{called, fails_next};
+ghost use Rattle.ps_ports.specs.History.{IsImage, LeftSince, bytes_now, first_calls, image_bytes};
+ghost use Rattle.ps_ports.specs.MemoryDisk.{new_disk, armed, armed_number, after_read, after_starved, ends_too_far, is_to_fail, Makes, reopened, told_calls};
+ghost use Rattle.ps_ports.specs.declared.disk.DiskCall.TheVariants.{Write, Cut, Sync};
+
+use crate::disk::{Disk, DiskCall};
+use crate::failing_calls::FailingCalls;
+use crate::fault::Failed;
+use crate::history::History;
+use crate::image::Image;
+use ps_time::items::Items;
+use ps_time::memory::Memory;
+use std::alloc::Global;
+use std::marker::Model;
+
+/// A file in memory, which keeps its writes, cuts and syncs, and gives what a crash after any of them
+/// leaves. A call that finds no memory fails.
+#[derive(Drop)]
+pub struct MemoryDisk {
+    history: History,
+    calls: FailingCalls,
+    // How many writes, cuts and syncs come up to the one that is to fail, that one too; 0 for none.
+    until_fault: u64,
+    faults: u64,
+    starved: bool,
+}
+
+impl Model for MemoryDisk {
+    ghost use Rattle.ps_ports.specs.MemoryDisk.{DiskState};
+
+    ghost Value = { DiskState };
+
+    ghost view = { λ d. record { history = d.history; calls = d.calls; until_fault = d.until_fault; faults = d.faults; starved = d.starved } };
+}
+
+impl MemoryDisk {
+    /// A disk with these bytes, all of them fixed. `failing` has the numbers of the calls that are to
+    /// fail, the first call being number 1, reads too.
+    pub fn new(alloc: Global, bytes: Vec<u8>, failing: Vec<u64>) -> MemoryDisk
+        ensures { result ≡ new_disk bytes.items failing.items }
+    {
+        MemoryDisk {
+            history: History::new(alloc, bytes),
+            calls: FailingCalls::new(failing),
+            until_fault: 0,
+            faults: 0,
+            starved: false,
+        }
+    }
+
+    /// What a read gives.
+    pub fn bytes(&self) -> &[u8]
+        ensures { result.now ≡ bytes_now self.now.history }
+    {
+        self.history.bytes()
+    }
+
+    /// How many writes, cuts and syncs were made, failed ones too.
+    pub fn calls(&self) -> u64
+        ensures { result ≡ length self.now.history.log }
+    {
+        self.history.calls()
+    }
+
+    /// How many calls failed, reads too.
+    pub fn faults(&self) -> u64
+        ensures { result ≡ self.now.faults }
+    {
+        self.faults
+    }
+
+    /// Whether a call ever found no memory. From then on the disk doesn't tell its calls.
+    pub fn starved(&self) -> bool
+        ensures { result ≡ self.now.starved }
+    {
+        self.starved
+    }
+
+    /// Lets one of the writes, cuts and syncs fail, numbered from 1 from now on, or none.
+    pub fn fail_at(&mut self, call: Option<u64>)
+        ensures { self.new ≡ armed self.old (armed_number call) }
+    {
+        self.until_fault = call.unwrap_or(0);
+    }
+
+    /// What a crash leaves after the first `calls` writes, cuts and syncs, as a disk of which no call
+    /// is to fail.
+    pub fn crashed(self, calls: u64, image: Image) -> Result<MemoryDisk, Memory>
+        requires { calls ≤ length self.history.log }
+        ensures { IfOk result (λ disk. disk ≡ new_disk (image_bytes image (first_calls calls self.history)) []) }
+    {
+        let alloc = self.history.alloc();
+        let bytes = self.history.crashed(calls, image)?;
+        Ok(MemoryDisk::new(alloc, bytes, Vec::new(alloc)))
+    }
+
+    /// The disk with its count of faults set back to 0.
+    pub fn reopened(self) -> MemoryDisk
+        ensures { result ≡ reopened self }
+    {
+        MemoryDisk { faults: 0, ..self }
+    }
+
+    // Whether the next write, cut or sync is to fail, whatever it is. Counts it.
+    fn next_fails(&mut self) -> bool
+        ensures answer { result ≡ is_to_fail self.old }
+        ensures history { self.new.history ≡ self.old.history }
+        ensures calls { self.new.calls ≡ called self.old.calls }
+        ensures until { self.new.until_fault ≡ self.old.until_fault - 1 }
+        ensures faults { self.new.faults ≡ self.old.faults }
+        ensures starved { self.new.starved ≡ self.old.starved }
+    {
+        let armed = self.until_fault == 1;
+        self.until_fault = self.until_fault.saturating_sub(1);
+        self.calls.next_fails() || armed
+    }
+
+    // A write, cut or sync for which there was no memory.
+    fn starve(&mut self) -> Failed
+        ensures after { self.new ≡ after_starved self.old }
+        ensures size { AreBounded (IsImage self.new.history) }
+        ensures rose { (self.old.faults ≤ self.new.faults) × Rose self.old.faults self.new.faults }
+    {
+        self.history.known();
+        self.next_fails();
+        self.faults = self.faults.saturating_add(1);
+        self.starved = true;
+        Failed
+    }
+
+    fn make(&mut self, call: DiskCall) -> Result<(), Failed>
+        ensures makes { Makes call self.old self.new result }
+        ensures size { AreBounded (IsImage self.new.history) }
+        ensures cause { CountsFault self.old.faults self.new.faults result }
+    {
+        let fails = self.next_fails() || is_too_far(&call);
+        let added = self.history.add(call, !fails);
+        self.history.known();
+        if added.is_err() {
+            self.starved = true;
+        }
+        if fails || added.is_err() {
+            self.faults = self.faults.saturating_add(1);
+            return Err(Failed);
+        }
+        Ok(())
+    }
+}
+
+impl Disk for MemoryDisk {
+    ghost use Rattle.std.specs.Prelude.{◌≡◌, ℕ, length};
+    ghost use Rattle.ps_ports.specs.History.{IsImage, LeftSince, bytes_now};
+    ghost use Rattle.ps_ports.specs.Images.{bytes_are_image, image_counts, only_image};
+    ghost use Rattle.ps_ports.specs.MemoryDisk.{told_calls};
+
+    ghost premise = { Unit {0} };
+
+    ghost seen = { λ d. bytes_now d.history };
+
+    ghost may_leave = { λ d c. IsImage d.history c };
+
+    ghost moment = { λ d. length d.history.log };
+
+    ghost left_since = { λ d t c. LeftSince d.history t c };
+
+    ghost told = { λ d. told_calls d };
+
+    ghost disk_faults = { λ d. d.faults };
+
+    fn read(&mut self, at: u64, buf: &mut [u8]) -> Result<usize, Failed>
+        ensures bound { ReadsAtMost result buf.new }
+        ensures bytes { IfOk result (λ n. ReadsAt (bytes_now self.old.history) at buf.new n) }
+        ensures seen { bytes_now self.new.history ≡ bytes_now self.old.history }
+        ensures crash { NoMore (IsImage self.old.history) (IsImage self.new.history) }
+        ensures size { AreBounded (IsImage self.new.history) }
+        ensures time { Elapses (length self.old.history.log) (length self.new.history.log) (LeftSince self.old.history) (LeftSince self.new.history) (IsImage self.new.history) }
+        ensures told { told_calls self.new ≡ told_calls self.old }
+        ensures cause { CountsFault self.old.faults self.new.faults result }
+
+        // A read that isn't to fail gives as many bytes as fit.
+        ensures fails { is_err result ≡ fails_next self.old.calls }
+        ensures count { IfOk result (λ n. n ≡ min (length buf.old) (length (bytes_now self.old.history) - at)) }
+        ensures after { self.new ≡ after_read self.old result }
+    {
+        self.history.known();
+        if self.calls.next_fails() {
+            self.faults = self.faults.saturating_add(1);
+            return Err(Failed);
+        }
+        Ok(read_at(self.history.bytes(), at, buf))
+    }
+
+    fn write_at(&mut self, at: u64, bytes: &[u8]) -> Result<(), Failed>
+        ensures written { OnOk result (bytes_now self.new.history ≡ written at bytes.now (bytes_now self.old.history)) }
+        ensures part { Torn at (length bytes.now) (bytes_now self.old.history) (bytes_now self.new.history) }
+        ensures crash { Follows (Torn at (length bytes.now)) (IsImage self.old.history) (IsImage self.new.history) }
+        ensures size { AreBounded (IsImage self.new.history) }
+        ensures time { Elapses (length self.old.history.log) (length self.new.history.log) (LeftSince self.old.history) (LeftSince self.new.history) (IsImage self.new.history) }
+        ensures too_far { 2 ^ 64 ≤ at + length bytes.now → IsErr result }
+        ensures told { Tells (told_calls self.old) (told_calls self.new) (Write at bytes.now) }
+        ensures cause { CountsFault self.old.faults self.new.faults result }
+        ensures makes { Makes (Write at bytes.now) self.old self.new result }
+    {
+        match bytes.to_vec(self.history.alloc()) {
+            Ok(piece) => self.make(DiskCall::Write(at, Items::from_vec(piece))),
+            Err(_) => Err(self.starve()),
+        }
+    }
+
+    fn cut(&mut self, len: u64) -> Result<(), Failed>
+        ensures cut { OnOk result (bytes_now self.new.history ≡ take len (bytes_now self.old.history)) }
+        ensures part { Shortened len (bytes_now self.old.history) (bytes_now self.new.history) }
+        ensures crash { Follows (Shortened len) (IsImage self.old.history) (IsImage self.new.history) }
+        ensures size { AreBounded (IsImage self.new.history) }
+        ensures time { Elapses (length self.old.history.log) (length self.new.history.log) (LeftSince self.old.history) (LeftSince self.new.history) (IsImage self.new.history) }
+        ensures told { Tells (told_calls self.old) (told_calls self.new) (Cut len) }
+        ensures cause { CountsFault self.old.faults self.new.faults result }
+        ensures makes { Makes (Cut len) self.old self.new result }
+    {
+        self.make(DiskCall::Cut(len))
+    }
+
+    fn sync(&mut self) -> Result<(), Failed>
+        ensures durable { OnOk result (Only (bytes_now self.old.history) (IsImage self.new.history)) }
+        ensures seen { bytes_now self.new.history ≡ bytes_now self.old.history }
+        ensures crash { NoMore (IsImage self.old.history) (IsImage self.new.history) }
+        ensures size { AreBounded (IsImage self.new.history) }
+        ensures time { Elapses (length self.old.history.log) (length self.new.history.log) (LeftSince self.old.history) (LeftSince self.new.history) (IsImage self.new.history) }
+        ensures told { Tells (told_calls self.old) (told_calls self.new) Sync }
+        ensures cause { CountsFault self.old.faults self.new.faults result }
+        ensures makes { Makes Sync self.old self.new result }
+    {
+        self.make(DiskCall::Sync)
+    }
+
+    ghost reads_now = { λ d _. bytes_are_image d.history };
+
+    ghost counts_now = { λ d t c _ le image. image_counts d.history t c le image };
+
+    ghost only_now = { λ d c _ left. only_image d.history c left };
+}
+
+fn read_at(bytes: &[u8], at: u64, buf: &mut [u8]) -> usize
+    ensures count { result ≡ min (length buf.old) (length bytes.now - at) }
+    ensures front { take result buf.new ≡ take result (drop at bytes.now) }
+    ensures length { length buf.new ≡ length buf.old }
+{
+    let left = &bytes[bytes.len().min(at as usize)..];
+    let count = buf.len().min(left.len());
+    buf[..count].copy_from_slice(&left[..count]);
+    count
+}
+
+// A write that would end past 2^64 - 1.
+fn is_too_far(call: &DiskCall) -> bool
+    ensures { result ≡ ends_too_far call.now }
+{
+    match call {
+        DiskCall::Write(at, bytes) => at.checked_add(bytes.len() as u64).is_none(),
+        DiskCall::Cut(_) => false,
+        DiskCall::Sync => false,
+    }
+}
