@@ -1,0 +1,3 @@
+pub mod ResultLemmas
+pub mod ShapeLemmas
+pub mod WrittenLemmas
