@@ -8,6 +8,8 @@ ghost use Rattle.ps_time.specs.Name.{is_name};
 ghost use Rattle.ps_time.specs.declared.moment.TheConstants.{MAX_LENGTH};
 ghost use Rattle.plugin_core.specs.Bounds.{IsTest, IsSleep, IsPaced, AreHosts, IsComment};
 ghost use Rattle.plugin_core.specs.Fault.{wrapped};
+ghost use Rattle.plugin_core.specs.TestSpec.{test_length};
+ghost use Rattle.plugin_core.specs.declared.test_spec.TestSpec.{TestSpec};
 ghost use Rattle.plugin_core.specs.Member.{required, optional};
 ghost use Rattle.plugin_core.specs.ReadTest.{schema, length_in, duration_in, text_within, comment_in, host_in, names_from, all_differ, are_hosts, hosts_in, sleeping_of, after_sleeping, ended, idle_of, idleex_of, paced, idlebgm_of, idlemany_of, whole, simplestream_of, spec_of, kind_in, object_in, test_of};
 
@@ -346,3 +348,8 @@ pub fn read_test(alloc: Global, value: Value) -> Result<TestSpec, SpecFault>
     let test = read_spec(alloc, kind, spec)?;
     end_with(alloc, fields, test)
 }
+
+/// A law: the length of every test that keeps its bounds is a length.
+pub fn law_test_length()
+    ensures { (test : TestSpec) → IsTest test → test_length test ≤ MAX_LENGTH }
+{}
