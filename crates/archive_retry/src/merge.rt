@@ -1,16 +1,27 @@
 //! The results of a run's participants, made one.
-ghost use Rattle.std.specs.Prelude.{◌≡◌, ◌≤◌, ◌<◌, ◌^◌, Ok, length, map, All, IfOk, IfSome};
+ghost use Rattle.std.specs.Prelude.{◌≡◌, ◌≤◌, Ok, Some, length, map, All, IfOk};
 ghost use Rattle.serde_json.specs.Data.{depth};
 ghost use Rattle.serde_json.specs.View.{view};
 ghost use Rattle.serde_json.specs.Written.{compact_text};
 ghost use Rattle.ps_json.specs.Tree.{IsWhole, tree_of};
-ghost use Rattle.archive_retry.specs.Merge.{IsResult, result_tree, is_good, participant, participants, all_good, merged};
+ghost use Rattle.archive_retry.specs.Merge.{IsTreeText, IsResult, result_tree, is_good, participant, participants, all_good, merged};
 
 use ps_json::tree::{read_tree, write_tree};
 use ps_time::memory::Memory;
 use ps_time::text::Text;
 use serde_json::{Value, json};
 use std::alloc::Global;
+
+/// The tree of a text that was kept. The text is one, so only memory may be wanting.
+pub fn read_kept(alloc: Global, text: &Text) -> Result<Value, Memory>
+    requires { IsTreeText text.now }
+    ensures { IfOk result (λ value. view value ≡ result_tree (Some text.now)) }
+{
+    match read_tree(alloc, text.as_str().as_bytes()) {
+        Ok(value) => Ok(value),
+        Err(_) => Err(Memory),
+    }
+}
 
 /// The tree of a result, null where there is none.
 fn read_result(alloc: Global, heard: &Option<Text>) -> Result<Value, Memory>
@@ -19,10 +30,7 @@ fn read_result(alloc: Global, heard: &Option<Text>) -> Result<Value, Memory>
 {
     match heard {
         None => Ok(Value::Null),
-        Some(text) => match read_tree(alloc, text.as_str().as_bytes()) {
-            Ok(value) => Ok(value),
-            Err(_) => Err(Memory),
-        },
+        Some(text) => read_kept(alloc, text),
     }
 }
 
@@ -86,7 +94,7 @@ pub fn merge(alloc: Global, hosts: &[Text], results: &[Option<Text>]) -> Result<
 }
 
 /// The compact text of a tree.
-fn write_text(alloc: Global, value: &Value) -> Result<Text, Memory>
+pub(crate) fn write_text(alloc: Global, value: &Value) -> Result<Text, Memory>
     requires whole { IsWhole (view value.now) }
     requires flat { depth (view value.now) ≤ 127 }
     ensures text { IfOk result (λ text. text ≡ compact_text (view value.now)) }

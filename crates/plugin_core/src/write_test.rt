@@ -33,7 +33,8 @@ fn put_text(
     Ok(())
 }
 
-fn put_length(
+/// Puts a length into an object, as it is written.
+pub fn put_length(
     members: &mut Map<String, Value>,
     alloc: Global,
     name: &str,
