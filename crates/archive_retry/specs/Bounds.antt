@@ -1,0 +1,15 @@
+-- The bounds that every policy keeps.
+use Rattle.std.specs.Prelude.{◌≤◌, List, length, All}
+use Rattle.ps_time.specs.declared.moment.TheConstants.{MAX_LENGTH}
+use Rattle.archive_retry.specs.declared.policy.Entry.{Entry}
+use Rattle.archive_retry.specs.declared.policy.Policy.{Policy}
+
+pub record IsEntry (entry : Entry) : Type 0 where
+  pub some : 1 ≤ entry.attempts
+  pub few : entry.attempts ≤ 1_000
+  pub short : entry.wait ≤ MAX_LENGTH
+
+-- an absent policy has no entries
+pub record IsPolicy (policy : Policy) : Type 0 where
+  pub few : length policy.entries ≤ 16
+  pub entries : All IsEntry policy.entries

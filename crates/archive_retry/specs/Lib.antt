@@ -1,0 +1,5 @@
+pub mod Bounds
+pub mod Fault
+pub mod Merge
+pub mod ReadPolicy
+pub mod Retry

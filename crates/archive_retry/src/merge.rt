@@ -1,0 +1,110 @@
+//! The results of a run's participants, made one.
+ghost use Rattle.std.specs.Prelude.{◌≡◌, ◌≤◌, Ok, Some, length, map, All, IfOk};
+ghost use Rattle.serde_json.specs.Data.{depth};
+ghost use Rattle.serde_json.specs.View.{view};
+ghost use Rattle.serde_json.specs.Written.{compact_text};
+ghost use Rattle.ps_json.specs.Tree.{IsWhole, tree_of};
+ghost use Rattle.archive_retry.specs.Merge.{IsTreeText, IsResult, result_tree, is_good, participant, participants, all_good, merged};
+
+use ps_json::tree::{read_tree, write_tree};
+use ps_time::memory::Memory;
+use ps_time::text::Text;
+use serde_json::{Value, json};
+use std::alloc::Global;
+
+/// The tree of a text that was kept. The text is one, so only memory may be wanting.
+pub fn read_kept(alloc: Global, text: &Text) -> Result<Value, Memory>
+    requires { IsTreeText text.now }
+    ensures { IfOk result (λ value. view value ≡ result_tree (Some text.now)) }
+{
+    match read_tree(alloc, text.as_str().as_bytes()) {
+        Ok(value) => Ok(value),
+        Err(_) => Err(Memory),
+    }
+}
+
+/// The tree of a result, null where there is none.
+fn read_result(alloc: Global, heard: &Option<Text>) -> Result<Value, Memory>
+    requires { IsResult heard.now }
+    ensures { IfOk result (λ value. view value ≡ result_tree heard.now) }
+{
+    match heard {
+        None => Ok(Value::Null),
+        Some(text) => read_kept(alloc, text),
+    }
+}
+
+/// Whether the result says that it succeeded.
+fn is_good(value: &Value) -> bool
+    ensures { result ≡ is_good (view value.now) }
+{
+    matches!(value.get("succeeded"), Some(Value::Bool(true)))
+}
+
+fn write_participant(alloc: Global, host: &Text, value: Value) -> Result<Value, Memory>
+    ensures { IfOk result (λ made. view made ≡ participant host.now (view value)) }
+{
+    Ok(json!(in alloc; {"host": host.as_str(), "result": value})?)
+}
+
+/// The participants with their results, and whether all of these succeeded.
+fn write_participants(
+    alloc: Global,
+    hosts: &[Text],
+    results: &[Option<Text>],
+) -> Result<(Vec<Value>, bool), Memory>
+    requires alike { length hosts.now ≡ length results.now }
+    requires results { All IsResult results.now }
+    ensures values { IfOk result (λ made. map view made.0.items ≡ participants hosts.now results.now) }
+    ensures good { IfOk result (λ made. made.1 ≡ all_good results.now) }
+{
+    let mut values = Vec::new(alloc);
+    let mut all_good = true;
+    for index in 0..hosts.len() {
+        let value = read_result(alloc, &results[index])?;
+        all_good = all_good && is_good(&value);
+        values.push(write_participant(alloc, &hosts[index], value)?)?;
+    }
+    Ok((values, all_good))
+}
+
+fn merged_tree(alloc: Global, hosts: &[Text], results: &[Option<Text>]) -> Result<Value, Memory>
+    requires alike { length hosts.now ≡ length results.now }
+    requires results { All IsResult results.now }
+    ensures { IfOk result (λ value. view value ≡ merged hosts.now results.now) }
+{
+    let (values, all_good) = write_participants(alloc, hosts, results)?;
+    let participants = Value::Array(values);
+    Ok(json!(in alloc; {"participants": participants, "schema": 1u64, "succeeded": all_good})?)
+}
+
+/// The merged result of a run, from those of its participants in their order, where `None` is one that
+/// wasn't heard: compact JSON. It is read again where each result nests at most 60 levels.
+pub fn merge(alloc: Global, hosts: &[Text], results: &[Option<Text>]) -> Result<Text, Memory>
+    requires alike { length hosts.now ≡ length results.now }
+    requires results { All IsResult results.now }
+    ensures text { IfOk result (λ text. text ≡ compact_text (merged hosts.now results.now)) }
+    ensures reads { IfOk result (λ text. All (λ r. depth (result_tree r) ≤ 60) results.now
+        → tree_of text ≡ Ok (merged hosts.now results.now)) }
+    ensures whole { IfOk result (λ _. IsWhole (merged hosts.now results.now)) }
+{
+    let value = merged_tree(alloc, hosts, results)?;
+    let text = write_text(alloc, &value)?;
+    Ok(text)
+}
+
+/// The compact text of a tree.
+pub(crate) fn write_text(alloc: Global, value: &Value) -> Result<Text, Memory>
+    requires whole { IsWhole (view value.now) }
+    requires flat { depth (view value.now) ≤ 127 }
+    ensures text { IfOk result (λ text. text ≡ compact_text (view value.now)) }
+    ensures reads { IfOk result (λ text. depth (view value.now) ≤ 64 → tree_of text ≡ Ok (view value.now)) }
+{
+    let Ok(bytes) = write_tree(alloc, value) else {
+        return Err(Memory);
+    };
+    match String::from_utf8(bytes) {
+        Ok(string) => Ok(Text::from_string(string)),
+        Err(_) => unreachable!(),
+    }
+}

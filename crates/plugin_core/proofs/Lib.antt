@@ -1,0 +1,4 @@
+pub mod BoundLemmas
+pub mod ResultLemmas
+pub mod ShapeLemmas
+pub mod WrittenLemmas

@@ -1,0 +1,41 @@
+-- Texts of results, and their ticks.
+use Rattle.std.proofs.Common.{◌≡◌, ℕ, ◌+◌, ◌*◌, ◌<◌, ◌≤◌, List, [], ◌∷◌, ◌++◌, map, true, false, Ok, refl, sym, arith}
+use Rattle.std.proofs.lemmas.List.{map-append}
+use Rattle.std.proofs.lemmas.List.FromFn.{map-range_with_len_more}
+use Rattle.std.specs.Str.{IsUtf8, is_utf8}
+use Rattle.std.proofs.Math.Nat.{mul-le-mul_right}
+use Rattle.std.proofs.lemmas.Str.{IsUtf8-from_is_utf8}
+use Rattle.serde_json.specs.Data.{Data}
+use Rattle.ps_json.specs.Tree.{parsed}
+use Rattle.ps_time.specs.declared.moment.TheConstants.{MAX_LENGTH, MAX_MOMENT}
+use Rattle.plugin_core.specs.declared.run.Outcome.{Outcome}
+use Rattle.plugin_core.specs.declared.run.Outcome.TheVariants.{Good}
+use Rattle.plugin_core.specs.declared.run.ToolView.{ToolView}
+use Rattle.plugin_core.specs.declared.test_spec.TestSpec.{TestSpec}
+use Rattle.plugin_core.specs.declared.test_spec.TestSpec.TheVariants.{Idlebgm}
+use Rattle.plugin_core.specs.Bounds.{IsTest}
+use Rattle.plugin_core.specs.ResultText.{tick, ticks, TicksFit}
+
+-- bytes that are parsed are a text
+pub parsed_utf8 : (bs : List ℕ) (d : Data) → parsed bs ≡ Ok d → IsUtf8 bs
+parsed_utf8 bs d is =
+    let cases = elim (is_utf8 bs) as (λ b. is_utf8 bs ≡ b → is_utf8 bs ≡ true) [
+      | true ↦ λ yes. yes
+      | false ↦ λ no. let wrong = rw no at is in cc
+    ] in
+    IsUtf8-from_is_utf8 bs (cases refl)
+
+-- a tick isn't after the last one
+pub tick_within : (started interval count passed most : ℕ) → passed < count → started + count * interval ≤ most → started + (passed + 1) * interval ≤ most
+tick_within started interval count passed most lt within =
+    let h : (passed + 1) * interval ≤ count * interval = mul-le-mul_right interval (omega arith) in omega arith
+
+-- one more tick comes after the others
+pub ticks_more : {V : Type 0} (view : V → Data) (vs : List V) (v : V) (started interval passed : ℕ) → map view vs ≡ ticks started interval passed → view v ≡ tick (started + (passed + 1) * interval) → map view (vs ++ v ∷ []) ≡ ticks started interval (passed + 1)
+ticks_more view vs v started interval passed before is =
+    rw (map-append view vs (v ∷ []), before, is) (sym (map-range_with_len_more (λ i. tick (started + i * interval)) 1 passed (passed + 1) (omega arith)))
+
+-- the ticks of a run that starts ten years before the last moment are moments
+pub ticks_fit : (test : TestSpec) (tool : ToolView) (outcome : Outcome) → IsTest test → tool.started + MAX_LENGTH ≤ MAX_MOMENT → TicksFit test tool outcome
+ticks_fit (Idlebgm d s p i) tool Good is early = omega (arith, is.0.short)
+ticks_fit test tool outcome is early = tt

@@ -1,0 +1,31 @@
+-- Kinds of tests and their names.
+use Rattle.std.specs.Prelude.{ℕ, List, Option, Some, None, if◌then◌else◌, codes}
+use Rattle.std.specs.Str.{bytes_eq}
+use Rattle.plugin_core.specs.declared.kind.TestKind.{TestKind}
+use Rattle.plugin_core.specs.declared.kind.TestKind.TheVariants.{Idle, Idleex, Idlebgm, Idlemany, Simplestream}
+use Rattle.plugin_core.specs.declared.test_spec.TestSpec.{TestSpec}
+use Rattle.plugin_core.specs.declared.test_spec.TestSpec.TheVariants.{Idle as an_idle, Idleex as an_idleex, Idlebgm as an_idlebgm, Idlemany as an_idlemany, Simplestream as a_simplestream}
+
+abbrev pub kind_text : TestKind → List ℕ
+kind_text Idle = codes "idle"
+kind_text Idleex = codes "idleex"
+kind_text Idlebgm = codes "idlebgm"
+kind_text Idlemany = codes "idlemany"
+kind_text Simplestream = codes "simplestream"
+
+-- the kind of a name
+abbrev pub kind_of_text : List ℕ → Option TestKind
+kind_of_text bs =
+    if bytes_eq bs (codes "idle") then Some Idle
+    else if bytes_eq bs (codes "idleex") then Some Idleex
+    else if bytes_eq bs (codes "idlebgm") then Some Idlebgm
+    else if bytes_eq bs (codes "idlemany") then Some Idlemany
+    else if bytes_eq bs (codes "simplestream") then Some Simplestream
+    else None
+
+abbrev pub test_kind : TestSpec → TestKind
+test_kind (an_idle duration starting parting) = Idle
+test_kind (an_idleex duration starting parting) = Idleex
+test_kind (an_idlebgm duration starting parting interval) = Idlebgm
+test_kind (an_idlemany duration starting parting hosts) = Idlemany
+test_kind (a_simplestream dest material dawdle timeout) = Simplestream

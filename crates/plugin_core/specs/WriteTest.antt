@@ -1,0 +1,41 @@
+-- The JSON tree of a test. Members stand in the order of the bytes of their names.
+use Rattle.std.specs.Prelude.{ℕ, List, map, Option, Some, None, codes}
+use Rattle.serde_json.specs.Data.{Data, string, array, object, Members, no_members, member, put}
+use Rattle.serde_json.specs.View.{items_of}
+use Rattle.ps_time.specs.Length.{length_text_of}
+use Rattle.plugin_core.specs.declared.test_spec.TestSpec.{TestSpec}
+use Rattle.plugin_core.specs.declared.test_spec.TestSpec.TheVariants.{Idle, Idleex, Idlebgm, Idlemany, Simplestream}
+use Rattle.plugin_core.specs.Kind.{kind_text, test_kind}
+
+-- a length as it is written
+abbrev pub length_data : ℕ → Data
+length_data len = string (length_text_of len)
+
+-- a list of names
+abbrev pub names_data : List (List ℕ) → Data
+names_data names = array (items_of (map string names))
+
+-- a comment, where there is one
+abbrev pub with_comment : List ℕ → Option (List ℕ) → Members → Members
+with_comment name None ms = ms
+with_comment name (Some bs) ms = put name (string bs) ms
+
+-- what the tests that sleep have in common
+abbrev pub sleeping_members : ℕ → Option (List ℕ) → Option (List ℕ) → Members
+sleeping_members duration starting parting =
+    with_comment (codes "starting-comment") starting (with_comment (codes "parting-comment") parting (member (codes "duration") (length_data duration) no_members))
+
+abbrev pub spec_members : TestSpec → Members
+spec_members (Idle duration starting parting) = sleeping_members duration starting parting
+spec_members (Idleex duration starting parting) = sleeping_members duration starting parting
+spec_members (Idlebgm duration starting parting interval) = put (codes "interval") (length_data interval) (sleeping_members duration starting parting)
+spec_members (Idlemany duration starting parting hosts) = put (codes "hosts") (names_data hosts) (sleeping_members duration starting parting)
+spec_members (Simplestream dest material dawdle timeout) =
+    member (codes "dawdle") (length_data dawdle) (
+    member (codes "dest") (string dest) (
+    member (codes "test-material") (string material) (
+    member (codes "timeout") (length_data timeout) no_members)))
+
+abbrev pub test_data : TestSpec → Data
+test_data test =
+    object (member (codes "spec") (object (spec_members test)) (member (codes "type") (string (kind_text (test_kind test))) no_members))

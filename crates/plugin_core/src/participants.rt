@@ -1,0 +1,72 @@
+//! Who takes part in a run, and how.
+ghost use Rattle.std.specs.Prelude.{◌≡◌, [], ◌∷◌, IfOk};
+ghost use Rattle.plugin_core.specs.Participants.{participants, role_in, is_named};
+
+use crate::run::Role;
+use crate::test_spec::TestSpec;
+use ps_time::items::Items;
+use ps_time::memory::Memory;
+use ps_time::text::Text;
+use std::alloc::Global;
+
+/// The names of those that take part in a run that this lead leads.
+pub fn participants_of(alloc: Global, test: &TestSpec, lead: &str) -> Result<Items<Text>, Memory>
+    ensures { IfOk result (λ names. names ≡ participants test.now lead.now) }
+{
+    match test {
+        TestSpec::Idlemany { hosts, .. } => hosts.copy(alloc),
+        TestSpec::Simplestream { dest, .. } if !dest.is(lead) => {
+            let mut names = just(alloc, lead)?;
+            names.push(dest.copy(alloc)?)?;
+            Ok(names)
+        }
+        _ => just(alloc, lead),
+    }
+}
+
+fn just(alloc: Global, name: &str) -> Result<Items<Text>, Memory>
+    ensures { IfOk result (λ names. names ≡ name.now ∷ []) }
+{
+    let mut names = Items::new(alloc);
+    names.push(Text::new(alloc, name)?)?;
+    Ok(names)
+}
+
+/// Whether the host takes part in a run that this lead leads.
+pub fn is_participant(test: &TestSpec, lead: &str, host: &str) -> bool
+    ensures { result ≡ is_named host.now (participants test.now lead.now) }
+{
+    match test {
+        TestSpec::Idlemany { hosts, .. } => is_named(hosts.as_slice(), host),
+        TestSpec::Simplestream { dest, .. } => host == lead || dest.is(host),
+        _ => host == lead,
+    }
+}
+
+/// Whether the name is among these.
+pub fn is_named(names: &[Text], name: &str) -> bool
+    ensures { result ≡ is_named name.now names.now }
+{
+    for other in names {
+        if other.as_str() == name {
+            return true;
+        }
+    }
+    false
+}
+
+/// The part of a participant in a run that this lead leads.
+pub fn role_of(test: &TestSpec, lead: &str, host: &str) -> Role
+    ensures { result ≡ role_in test.now lead.now host.now }
+{
+    match test {
+        TestSpec::Simplestream { dest, .. } if !dest.is(lead) => {
+            if host == lead {
+                Role::Source
+            } else {
+                Role::Dest
+            }
+        }
+        _ => Role::Only,
+    }
+}
