@@ -1,0 +1,4 @@
+pub mod Views
+pub mod TurnKept
+pub mod LineKept
+pub mod Moves

@@ -1,0 +1,5 @@
+pub mod Stages
+pub mod Marks
+pub mod Turns
+pub mod Line
+pub mod Plays
