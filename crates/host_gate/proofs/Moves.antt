@@ -31,7 +31,7 @@ module _ {K : Type 0} where
   mark_or m (Holds u n) = n
   mark_or m _ = m
 
-  abbrev carried_or : Option K → List (ℕ × Option K) → Option K
+  abbrev pub carried_or : Option K → List (ℕ × Option K) → Option K
   carried_or y [] = y
   carried_or y (x ∷ xs) = x.1
 

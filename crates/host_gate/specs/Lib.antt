@@ -3,3 +3,4 @@ pub mod Marks
 pub mod Turns
 pub mod Line
 pub mod Plays
+pub mod Calls

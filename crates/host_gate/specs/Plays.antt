@@ -38,11 +38,13 @@ module _ {K : Type 0} where
   ended st me n after = after ≡ (record me.0 { stage = Outside }, rest me.1)
 
 module _ {K : Type 0} (grown : K → K → Type 0) where
-  -- the seat has its turn where its ticket is served, and takes the state, which follows what it had seen
+  -- the seat has its turn with the ticket t, and takes the state, which follows what it had seen
+  abbrev pub TakesTurn : ℕ → Sat K → Sat K → Type 0
+  TakesTurn t me after = (m : Mark K) × (after ≡ (record me.0 { stage = Holds t m }, (0, Some m.state) ∷ me.1)) × ((x : Mark K) → me.0.seen ≡ Some x → Follows grown x m)
+
+  -- the seat has its turn where its ticket is served
   abbrev pub served : Of K → Sat K → ℕ → Sat K → Type 0
-  served st me n after =
-      (HasTicket me.0.stage n → (m : Mark K) × (after ≡ (record me.0 { stage = Holds n m }, (0, Some m.state) ∷ me.1)) × ((x : Mark K) → me.0.seen ≡ Some x → Follows grown x m))
-      × (¬ HasTicket me.0.stage n → after ≡ me)
+  served st me n after = (HasTicket me.0.stage n → TakesTurn n me after) × (¬ HasTicket me.0.stage n → after ≡ me)
 
   -- of what the seat had seen and what it met, the later is kept
   abbrev pub compared : Of K → Sat K → ℕ → Sat K → Type 0

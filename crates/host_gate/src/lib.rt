@@ -1,7 +1,11 @@
 //! One state behind a gate, at which threads take turns.
 #![tactic(auto)]
 
-pub mod kept;
-pub mod plays;
-pub mod turn;
-pub mod view;
+mod gate;
+mod kept;
+mod plays;
+mod turn;
+mod view;
+
+pub use gate::{Front, Gate, Memory, Pass, Spent};
+pub use kept::Kept;

@@ -53,9 +53,9 @@ impl<K: Kept> Split<View<K>> for Splits {
 }
 
 /// The kept seat has met what the other has seen.
-pub struct Meets;
+pub struct Joins;
 
-impl<K: Kept> Join<View<K>> for Meets {
+impl<K: Kept> Join<View<K>> for Joins {
     ghost both = { λ v w. record v { met = w.seen } };
 
     ghost spent = { record { read = 0; stage = Outside; seen = None; met = None } };

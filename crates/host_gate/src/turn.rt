@@ -1,12 +1,13 @@
 //! The single steps of a call, on the seat of its pass, in their order.
-ghost use Rattle.std.specs.Prelude.{◌≡◌, ◌≤◌, ◌+◌, ◌^◌, ◌<◌, ℕ, true, false, [], ◌∷◌, Some, IfOk, IfErr};
+ghost use Rattle.std.specs.Prelude.{◌≡◌, ◌≤◌, ◌+◌, ◌^◌, ◌<◌, ℕ, true, false, [], ◌∷◌, Some, None, IfOk, IfErr};
 ghost use Rattle.host_gate.specs.declared.view.Mark.{Mark};
 ghost use Rattle.host_gate.specs.declared.view.Stage.TheVariants.{Outside, Waits, Holds, Leaves};
-ghost use Rattle.host_gate.specs.Marks.{Follows, added};
-ghost use Rattle.host_gate.specs.Plays.{leaving};
+ghost use Rattle.host_gate.specs.Marks.{Meets, added};
+ghost use Rattle.host_gate.specs.Plays.{mark, leaving, TakesTurn};
+ghost use Rattle.host_gate.specs.Calls.{Stepped};
 
 use crate::kept::Kept;
-use crate::plays::{Counts, Draws, Ends, Looks, Reads};
+use crate::plays::{Compares, Counts, Draws, Ends, Joins, Looks, Reads};
 use crate::view::{Turns, View};
 use atomic_table::{Seat, Shared};
 use std::snapshot::Snapshot;
@@ -15,6 +16,9 @@ use std::sync::Wait;
 pub type Board<K> = Shared<Option<K>, View<K>, Snapshot<K>, Turns>;
 
 pub type Place<K> = Seat<Option<K>, View<K>>;
+
+/// The ticket of the turn that closes a gate. Calls draw those below it.
+pub(crate) const LAST_TURN: u64 = 1 << 63;
 
 /// Reads the next ticket.
 pub(crate) fn read_ticket<K: Kept>(board: &Board<K>, seat: &mut Place<K>) -> u64
@@ -43,7 +47,7 @@ pub(crate) fn look<K: Kept>(board: &Board<K>, seat: &mut Place<K>, ticket: u64) 
     requires table { (seat.old.table_id ≡ board.now.table_id) × (board.now.table_id.words ≡ 3) }
     requires waits { seat.old.me.0.stage ≡ Waits ticket }
     ensures table { seat.new.table_id ≡ seat.old.table_id }
-    ensures served { result ≡ ticket → (m : Mark K) × (seat.new.me ≡ (record seat.old.me.0 { stage = Holds ticket m }, (0, Some m.state) ∷ seat.old.me.1)) × ((x : Mark K) → seat.old.me.0.seen ≡ Some x → Follows K.grown x m) }
+    ensures served { result ≡ ticket → TakesTurn K.grown ticket seat.old.me seat.new.me }
     ensures not { ¬ (result ≡ ticket) → seat.new.me ≡ seat.old.me }
 {
     board.load::<Looks>(seat, 1)
@@ -92,4 +96,112 @@ pub(crate) fn end<K: Kept>(board: &Board<K>, seat: &mut Place<K>)
 {
     board.fetch_add::<Ends>(seat, 1, 1);
     board.wake_all(1);
+}
+
+/// Draws the next ticket, where it is at most `most`. Else answers it.
+pub(crate) fn enter<K: Kept, R: Wait>(
+    rt: &R,
+    board: &Board<K>,
+    seat: &mut Place<K>,
+    most: u64,
+) -> Result<u64, u64>
+    requires table { (seat.old.table_id ≡ board.now.table_id) × (board.now.table_id.words ≡ 3) }
+    requires outside { seat.old.me.0.stage ≡ Outside }
+    requires bound { most ≤ 2 ^ 63 }
+    ensures table { seat.new.table_id ≡ seat.old.table_id }
+    ensures drawn { IfOk result (λ t. (t ≤ most) × (seat.new.me ≡ (record seat.old.me.0 { read = t; stage = Waits t }, seat.old.me.1))) }
+    ensures beyond { IfErr result (λ t. (most < t) × (seat.new.me ≡ (record seat.old.me.0 { read = t }, seat.old.me.1))) }
+{
+    for _ in rt.forever() {
+        let ticket = read_ticket(board, seat);
+        if ticket > most {
+            return Err(ticket);
+        }
+        if draw(board, seat, ticket) {
+            return Ok(ticket);
+        }
+    }
+    unreachable!()
+}
+
+/// Draws the ticket of the last turn. Where another has it this never returns, which no gate meets that is closed once.
+pub(crate) fn enter_last<K: Kept, R: Wait>(rt: &R, board: &Board<K>, seat: &mut Place<K>) -> u64
+    requires table { (seat.old.table_id ≡ board.now.table_id) × (board.now.table_id.words ≡ 3) }
+    requires outside { seat.old.me.0.stage ≡ Outside }
+    ensures table { seat.new.table_id ≡ seat.old.table_id }
+    ensures drawn { seat.new.me ≡ (record seat.old.me.0 { read = result; stage = Waits result }, seat.old.me.1) }
+{
+    match enter(rt, board, seat, LAST_TURN) {
+        Ok(ticket) => ticket,
+        Err(_) => {
+            for _ in rt.forever() {}
+            unreachable!()
+        }
+    }
+}
+
+/// Waits until the ticket is served.
+pub(crate) fn wait<K: Kept, R: Wait>(rt: &R, board: &Board<K>, seat: &mut Place<K>, ticket: u64)
+    requires table { (seat.old.table_id ≡ board.now.table_id) × (board.now.table_id.words ≡ 3) }
+    requires waits { seat.old.me.0.stage ≡ Waits ticket }
+    ensures table { seat.new.table_id ≡ seat.old.table_id }
+    ensures served { TakesTurn K.grown ticket seat.old.me seat.new.me }
+{
+    for _ in rt.forever() {
+        let serving = look(board, seat, ticket);
+        if serving == ticket {
+            return;
+        }
+        board.park(rt, 1, (serving % (1 << 32)) as u32);
+    }
+    unreachable!()
+}
+
+/// A whole turn: waits until the ticket is served, makes the step, and ends the turn. Answers the front too.
+pub(crate) fn serve<K: Kept, R: Wait>(
+    rt: &R,
+    board: &Board<K>,
+    seat: &mut Place<K>,
+    ticket: u64,
+    call: K::Call,
+) -> (K::Reply, u64)
+    requires table { (seat.old.table_id ≡ board.now.table_id) × (board.now.table_id.words ≡ 3) }
+    requires waits { (seat.old.me.0.stage ≡ Waits ticket) × (seat.old.me.1 ≡ []) }
+    requires may { (before : Mark K) × (seat.old.me.0.seen ≡ Some before) × K.may before.state call }
+    ensures table { seat.new.table_id ≡ seat.old.table_id }
+    ensures stepped { (before : Mark K) → seat.old.me.0.seen ≡ Some before
+        → (after : Mark K) × (after.front ≡ result.1) × Stepped K.grown K.steps before call result.0 after × (seat.new.me ≡ (record seat.old.me.0 { stage = Outside; seen = Some after }, [])) }
+{
+    wait(rt, board, seat, ticket);
+    let (reply, changed) = step(board, seat, call);
+    let front = count(board, seat, changed);
+    end(board, seat);
+    (reply, front)
+}
+
+/// Joins another seat to this one, which keeps the later of what the two have seen.
+pub(crate) fn join<K: Kept>(board: &Board<K>, seat: &mut Place<K>, other: Place<K>)
+    requires table { (seat.old.table_id ≡ board.now.table_id) × (other.table_id ≡ board.now.table_id) × (board.now.table_id.words ≡ 3) }
+    requires outside { (seat.old.me.0.stage ≡ Outside) × (other.me.0.stage ≡ Outside) }
+    requires alone { (seat.old.me.0.met ≡ None) × (other.me.0.met ≡ None) × (other.me.1 ≡ []) }
+    requires seen { (x : Mark K) × (y : Mark K) × (seat.old.me.0.seen ≡ Some x) × (other.me.0.seen ≡ Some y) }
+    ensures table { seat.new.table_id ≡ seat.old.table_id }
+    ensures kept { (x y : Mark K) → seat.old.me.0.seen ≡ Some x → other.me.0.seen ≡ Some y
+        → (kept : Mark K) × Meets K.grown x y kept × (seat.new.me ≡ (record seat.old.me.0 { seen = Some kept; met = None }, seat.old.me.1)) }
+{
+    board.join_seat::<Joins>(seat, other);
+    board.load::<Compares>(seat, 0);
+}
+
+/// Takes the last turn, and the state for good. Answers it with its front.
+pub(crate) fn take<K: Kept>(board: &Board<K>, seat: &mut Place<K>) -> (K, u64)
+    requires table { (seat.old.table_id ≡ board.now.table_id) × (board.now.table_id.words ≡ 3) }
+    requires holds { (t : ℕ) × (m : Mark K) × (seat.old.me.0.stage ≡ Holds t m) × (seat.old.me.1 ≡ (0, Some m.state) ∷ []) }
+    ensures { (t : ℕ) (m : Mark K) → seat.old.me.0.stage ≡ Holds t m → m ≡ mark result.0 result.1 }
+{
+    let front = count(board, seat, false);
+    let Some(kept) = board.exchange(seat, 0, None) else {
+        unreachable!()
+    };
+    (kept, front)
 }
