@@ -85,7 +85,11 @@ impl<K: Kept> Gate<K> {
     }
 
     // The same, with this as the first ticket.
-    fn starting_at(alloc: Global, kept: K, ticket: u64) -> Result<(Gate<K>, Pass<K>), (K, Memory)>
+    pub(crate) fn starting_at(
+        alloc: Global,
+        kept: K,
+        ticket: u64,
+    ) -> Result<(Gate<K>, Pass<K>), (K, Memory)>
         requires { ticket ≤ 2 ^ 63 }
         ensures made { IfOk result (λ r. r.1 ≡ record { gate = r.0; seen = Some (mark kept 0); read = 0 }) }
         ensures refused { IfErr result (λ r. r.0 ≡ kept) }
@@ -122,7 +126,7 @@ impl<K: Kept> Gate<K> {
     where
         K::Call: Drop,
         requires gate { pass.old.gate ≡ self.now }
-        requires may { (m : Mark K) × (pass.old.seen ≡ Some m) × K.may m.state call }
+        requires may { (m : Mark K) → pass.old.seen ≡ Some m → K.may m.state call }
         ensures gate { pass.new.gate ≡ pass.old.gate }
         ensures step { IfOk result (λ r. (before : Mark K) × (after : Mark K) × (pass.old.seen ≡ Some before) × (pass.new.seen ≡ Some after) × (after.front ≡ r.1.0)
             × Stepped K.grown K.steps before call r.0 after) }

@@ -1,16 +1,16 @@
-use Rattle.std.proofs.Common.{ap, ◌∙◌}
+use Rattle.std.proofs.Common.{sym, ap, ◌∙◌}
 use Rattle.host_gate.proofs.gate.Gate.call.Goals as goal
 
 pub serve-reply-requires-clause-may : goal.serve-reply-requires-clause-may
 serve-reply-requires-clause-may g c =
-    let may = c.requires.may in
-    (may.0, ap (λ s. s.0.seen) c.in-Ok.ensures.drawn.1 ∙ (ap (λ v. v.seen) c.pass.view_is ∙ may.1), may.2)
+    let seen = c.pass.invariant.seen in
+    (seen.0, ap (λ s. s.0.seen) c.in-Ok.ensures.drawn.1 ∙ seen.1, c.requires.may seen.0 (sym (ap (λ v. v.seen) c.pass.view_is) ∙ seen.1))
 
 pub invariant_of-pass : goal.invariant_of-pass
 invariant_of-pass g c =
-    let may = c.requires.may in
+    let seen = c.pass.invariant.seen in
     let drawn = c.in-Ok.ensures.drawn.1 in
-    let did = c.serve-reply.ensures.stepped may.0 (ap (λ s. s.0.seen) drawn ∙ (ap (λ v. v.seen) c.pass.view_is ∙ may.1)) in record {
+    let did = c.serve-reply.ensures.stepped seen.0 (ap (λ s. s.0.seen) drawn ∙ seen.1) in record {
       outside = ap (λ s. s.0.stage) did.3;
       alone = ap (λ s. s.0.met) did.3 ∙ (ap (λ s. s.0.met) drawn ∙ c.pass.invariant.alone);
       empty = ap (λ s. s.1) did.3;
@@ -29,6 +29,6 @@ invariant_of-pass-in-Err-1 g c =
 
 pub returns-in-Ok-clause-step : goal.returns-in-Ok-clause-step
 returns-in-Ok-clause-step g c =
-    let may = c.requires.may in
-    let did = c.serve-reply.ensures.stepped may.0 (ap (λ s. s.0.seen) c.in-Ok.ensures.drawn.1 ∙ (ap (λ v. v.seen) c.pass.view_is ∙ may.1)) in
-    (may.0, did.0, may.1, ap (λ s. s.0.seen) did.3, did.1, did.2)
+    let seen = c.pass.invariant.seen in
+    let did = c.serve-reply.ensures.stepped seen.0 (ap (λ s. s.0.seen) c.in-Ok.ensures.drawn.1 ∙ seen.1) in
+    (seen.0, did.0, sym (ap (λ v. v.seen) c.pass.view_is) ∙ seen.1, ap (λ s. s.0.seen) did.3, did.1, did.2)
