@@ -1,4 +1,4 @@
-use Rattle.std.proofs.Common.{max, sym, ap, ◌∙◌}
+use Rattle.std.proofs.Common.{sym, ap, ◌∙◌, arith}
 use Rattle.host_gate.proofs.Steps.{later_front}
 use Rattle.host_gate.proofs.gate.Gate.meet.Goals as goal
 
@@ -10,7 +10,7 @@ invariant_of-pass g c =
       outside = ap (λ s. s.0.stage) told.2 ∙ c.pass.invariant.outside;
       alone = ap (λ s. s.0.met) told.2;
       empty = ap (λ s. s.1) told.2 ∙ c.pass.invariant.empty;
-      seen = (told.0, ap (λ s. s.0.seen) told.2, later_front g.K.Kept.grown g.K.Kept.steps mine.0 theirs.0 told.0 told.1 ∙ ((λ i. max (mine.2 i) (theirs.2 i)) ∙ sym c.max-pass-inside.ensures));
+      seen = (told.0, ap (λ s. s.0.seen) told.2, omega (arith, later_front g.K.Kept.grown g.K.Kept.steps mine.0 theirs.0 told.0 told.1, mine.2, theirs.2));
     }
 
 pub returns-clause-same : goal.returns-clause-same
