@@ -1,5 +1,5 @@
 -- Each step of a seat is allowed, and tells what its play says.
-use Rattle.std.proofs.Common.{◌≡◌, ◌≤◌, ◌<◌, ◌+◌, ◌^◌, ◌%◌, ◌==◌, ℕ, zero, suc, List, [], ◌∷◌, ◌++◌, slice_index, set, Option, Some, None, inl, inr, ⊎_elim, refl, sym, ap, ◌∙◌, subst, arith, eq-eqb, ne_eqb, le_refl, get_or-set_same, get_or-set_other, length-set}
+use Rattle.std.proofs.Common.{◌≡◌, ◌≤◌, ◌<◌, ◌+◌, ◌^◌, ◌%◌, ◌==◌, ◌⊎◌, ℕ, zero, suc, List, [], ◌∷◌, ◌++◌, slice_index, set, Option, Some, None, inl, inr, ⊎_elim, refl, sym, ap, ◌∙◌, subst, arith, eq-eqb, ne_eqb, le_refl, get_or-set_same, get_or-set_other, length-set}
 use mathlib.Core.Option.{some, none, some-injective, some-ne-none}
 use mathlib.Core.Logic.{dite}
 use native.Mathlib.Decide.{ℕ_discrete, dec_le}
@@ -14,7 +14,7 @@ use Rattle.host_gate.specs.declared.view.Stage.{Stage}
 use Rattle.host_gate.specs.declared.view.Stage.TheVariants.{Outside, Waits, Holds, Leaves}
 use Rattle.host_gate.specs.declared.view.View.{View}
 use Rattle.host_gate.specs.Stages.{At, HasTicket, HasTurn}
-use Rattle.host_gate.specs.Marks.{Follows, Meets, HasSeen}
+use Rattle.host_gate.specs.Marks.{Follows, HasSeen}
 use Rattle.host_gate.specs.Turns.{TurnRule, first_view}
 use Rattle.host_gate.specs.Line.{counted, LineRule, GateRule}
 use Rattle.host_gate.specs.Plays.{Sat, mark, leaving, read, drawn, served, counts, ended, compared}
@@ -163,28 +163,24 @@ module _ {K : Type 0} (grown : K → K → Type 0) (grown_refl : (x : K) → gro
         refl,
       )
 
-  keeps_one : (slots id : ℕ) (me : Sat K) (x y kept : Mark K) → me.0.seen ≡ Some x → me.0.met ≡ Some y → HasSeen me.0 kept → Meets grown x y kept → (s : State (Option K) (View K)) → Rule s → At s.views id me.0 → NoTurn me.0.stage
-      → (w : View K) × (a : Act (Option K)) × Valid s.homes me.1 a × Rule (stepped s 0 (slice_index s.words 0) id me.1 w a) × compared grown (step slots 0 0 0 none) me (slice_index s.words 0) (w, carried_after me.1 a)
-  keeps_one slots id me x y kept seen met has meets s r at calm =
-      let w : View K = record me.0 { seen = Some kept; met = None } in (
-        w,
-        keeps,
-        tt,
-        loads s 0 id me.0 w r at calm calm (r.turns.read id me.0 at) (λ t h. h)
-            (λ m. ⊎_elim (λ (e : Some kept ≡ Some m). (id, me.0, at, subst (HasSeen me.0) (same_Some kept m e) has)) (λ (e : None ≡ Some m). absurd (none-some m e))),
-        λ x' y' seen' met'. let same_x : x ≡ x' = same_Some x x' (sym seen ∙ seen') in
-            let same_y : y ≡ y' = same_Some y y' (sym met ∙ met') in
-            (kept, subst (λ (p : Mark K × Mark K). Meets grown p.0 p.1 kept) (λ i. (same_x i, same_y i)) meets, refl),
-      )
-
   pub compares : (slots id : ℕ) (me : Sat K) (x y : Mark K) → me.0.stage ≡ Outside → me.0.seen ≡ Some x → me.0.met ≡ Some y → Allows Rule slots id me 0 (λ n. n) (compared grown (step slots 0 0 0 none) me)
-  compares slots id me x y outside seen met s r homes at fits =
-      let calm = outside_calm me.0 outside in
-      let refl_of = line.follows_refl grown grown_refl grown_trans in
-      elim (dec_le x.front y.front) [
-        | yes le ↦ keeps_one slots id me x y y seen met (inr met) record { one = inr refl; first = r.state.line id id me.0 me.0 x y at at (inl seen) (inr met) le; second = refl_of y } s r at calm
-        | no more ↦ keeps_one slots id me x y x seen met (inl seen) record { one = inl refl; first = refl_of x; second = r.state.line id id me.0 me.0 y x at at (inr met) (inl seen) (omega (arith, more)) } s r at calm
-      ]
+  compares slots id me x y outside seen met s r homes at fits = elim (dec_le x.front y.front) [
+    | yes le ↦ keep y (inr met) (inr refl) (r.state.line id id me.0 me.0 x y at at (inl seen) (inr met) le) (line.follows_refl grown grown_refl grown_trans y)
+    | no more ↦ keep x (inl seen) (inl refl) (line.follows_refl grown grown_refl grown_trans x) (r.state.line id id me.0 me.0 y x at at (inr met) (inl seen) (omega (arith, more)))
+  ]
+    where
+      keep : (kept : Mark K) → HasSeen me.0 kept → (kept ≡ x) ⊎ (kept ≡ y) → Follows grown x kept → Follows grown y kept
+          → (w : View K) × (a : Act (Option K)) × Valid s.homes me.1 a × Rule (stepped s 0 (slice_index s.words 0) id me.1 w a) × compared grown (step slots 0 0 0 none) me (slice_index s.words 0) (w, carried_after me.1 a)
+      keep kept has one from_x from_y =
+          let calm = outside_calm me.0 outside in
+          let w : View K = record me.0 { seen = Some kept; met = None } in (
+            w,
+            keeps,
+            tt,
+            loads s 0 id me.0 w r at calm calm (r.turns.read id me.0 at) (λ t h. h)
+                (λ m. ⊎_elim (λ (e : Some kept ≡ Some m). (id, me.0, at, subst (HasSeen me.0) (same_Some kept m e) has)) (λ (e : None ≡ Some m). absurd (none-some m e))),
+            (record { first = x; second = y; last = kept; first_is = seen; second_is = met; last_is = refl; one = one; follows_first = from_x; follows_second = from_y }, refl),
+          )
 
   pub splits : (id : ℕ) (v : View K) → v.stage ≡ Outside → Splits Rule id v v v
   splits id v outside s r at = subst (λ vs. GateRule grown s.words s.homes (vs ++ v ∷ [])) (sym (set_again s.views id v at)) record {

@@ -48,5 +48,4 @@ module _ {K : Type 0} (grown : K → K → Type 0) where
 
   -- of what the seat had seen and what it met, the later is kept
   abbrev pub compared : Of K → Sat K → ℕ → Sat K → Type 0
-  compared st me n after = (x y : Mark K) → me.0.seen ≡ Some x → me.0.met ≡ Some y
-      → (kept : Mark K) × Meets grown x y kept × (after ≡ (record me.0 { seen = Some kept; met = None }, me.1))
+  compared st me n after = Meets grown me.0.seen me.0.met after.0.seen × (after ≡ (record me.0 { seen = after.0.seen; met = None }, me.1))

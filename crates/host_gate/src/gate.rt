@@ -1,7 +1,7 @@
 //! The gate and its passes.
 ghost use Rattle.std.specs.Prelude.{◌≡◌, ◌≤◌, ◌<◌, ◌^◌, Some, IfOk, IfErr};
 ghost use Rattle.host_gate.specs.declared.view.Mark.{Mark};
-ghost use Rattle.host_gate.specs.Marks.{Follows, Meets};
+ghost use Rattle.host_gate.specs.Marks.{Follows, Meets, HasFront};
 ghost use Rattle.host_gate.specs.Plays.{mark};
 ghost use Rattle.host_gate.specs.Calls.{Standing, Stepped};
 
@@ -69,7 +69,7 @@ impl<K> Model for Pass<K> {
 impl<K> Pass<K> {
     /// The front of the state that the pass has seen last.
     pub fn front(&self) -> Front
-        ensures { (m : Mark K) × (self.now.seen ≡ Some m) × (m.front ≡ result.0) }
+        ensures { HasFront self.now.seen result.0 }
     {
         Front(self.front)
     }
@@ -128,8 +128,8 @@ impl<K: Kept> Gate<K> {
         requires gate { pass.old.gate ≡ self.now }
         requires may { (m : Mark K) → pass.old.seen ≡ Some m → K.may m.state call }
         ensures gate { pass.new.gate ≡ pass.old.gate }
-        ensures step { IfOk result (λ r. (before : Mark K) × (after : Mark K) × (pass.old.seen ≡ Some before) × (pass.new.seen ≡ Some after) × (after.front ≡ r.1.0)
-            × Stepped K.grown K.steps before call r.0 after) }
+        ensures step { IfOk result (λ r. Stepped K.grown K.steps pass.old.seen call r.0 pass.new.seen) }
+        ensures front { IfOk result (λ r. HasFront pass.new.seen r.1.0) }
         ensures drawn { IfOk result (λ _. pass.new.read < 2 ^ 63) }
         ensures spent { IfErr result (λ s. (s.ticket ≡ pass.new.read) × (2 ^ 63 ≤ pass.new.read)) }
         ensures unmoved { IfErr result (λ _. pass.new.seen ≡ pass.old.seen) }
@@ -144,6 +144,7 @@ impl<K: Kept> Gate<K> {
             Err(ticket) => Err(Spent { ticket }),
         }
     }
+
     /// Another pass, which has seen what this one has.
     pub fn split(&self, pass: &mut Pass<K>) -> Pass<K>
         requires { pass.old.gate ≡ self.now }
@@ -160,7 +161,7 @@ impl<K: Kept> Gate<K> {
     pub fn meet(&self, pass: &mut Pass<K>, other: Pass<K>)
         requires { (pass.old.gate ≡ self.now) × (other.gate ≡ self.now) }
         ensures same { (pass.new.gate ≡ pass.old.gate) × (pass.new.read ≡ pass.old.read) }
-        ensures kept { (mine : Mark K) × (theirs : Mark K) × (kept : Mark K) × (pass.old.seen ≡ Some mine) × (other.seen ≡ Some theirs) × (pass.new.seen ≡ Some kept) × Meets K.grown mine theirs kept }
+        ensures kept { Meets K.grown pass.old.seen other.seen pass.new.seen }
     {
         let Pass { seat, front } = other;
         join(&self.table.shared, &mut pass.seat, seat);

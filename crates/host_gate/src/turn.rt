@@ -2,7 +2,7 @@
 ghost use Rattle.std.specs.Prelude.{◌≡◌, ◌≤◌, ◌+◌, ◌^◌, ◌<◌, ℕ, true, false, [], ◌∷◌, Some, None, IfOk, IfErr};
 ghost use Rattle.host_gate.specs.declared.view.Mark.{Mark};
 ghost use Rattle.host_gate.specs.declared.view.Stage.TheVariants.{Outside, Waits, Holds, Leaves};
-ghost use Rattle.host_gate.specs.Marks.{Meets, added};
+ghost use Rattle.host_gate.specs.Marks.{Meets, HasFront, added};
 ghost use Rattle.host_gate.specs.Plays.{mark, leaving, TakesTurn};
 ghost use Rattle.host_gate.specs.Calls.{Stepped};
 
@@ -169,8 +169,9 @@ pub(crate) fn serve<K: Kept, R: Wait>(
     requires waits { (seat.old.me.0.stage ≡ Waits ticket) × (seat.old.me.1 ≡ []) }
     requires may { (before : Mark K) × (seat.old.me.0.seen ≡ Some before) × K.may before.state call }
     ensures table { seat.new.table_id ≡ seat.old.table_id }
-    ensures stepped { (before : Mark K) → seat.old.me.0.seen ≡ Some before
-        → (after : Mark K) × (after.front ≡ result.1) × Stepped K.grown K.steps before call result.0 after × (seat.new.me ≡ (record seat.old.me.0 { stage = Outside; seen = Some after }, [])) }
+    ensures step { Stepped K.grown K.steps seat.old.me.0.seen call result.0 seat.new.me.0.seen }
+    ensures front { HasFront seat.new.me.0.seen result.1 }
+    ensures rest { seat.new.me ≡ (record seat.old.me.0 { stage = Outside; seen = seat.new.me.0.seen }, []) }
 {
     wait(rt, board, seat, ticket);
     let (reply, changed) = step(board, seat, call);
@@ -186,8 +187,8 @@ pub(crate) fn join<K: Kept>(board: &Board<K>, seat: &mut Place<K>, other: Place<
     requires alone { (seat.old.me.0.met ≡ None) × (other.me.0.met ≡ None) × (other.me.1 ≡ []) }
     requires seen { (x : Mark K) × (y : Mark K) × (seat.old.me.0.seen ≡ Some x) × (other.me.0.seen ≡ Some y) }
     ensures table { seat.new.table_id ≡ seat.old.table_id }
-    ensures kept { (x y : Mark K) → seat.old.me.0.seen ≡ Some x → other.me.0.seen ≡ Some y
-        → (kept : Mark K) × Meets K.grown x y kept × (seat.new.me ≡ (record seat.old.me.0 { seen = Some kept; met = None }, seat.old.me.1)) }
+    ensures kept { Meets K.grown seat.old.me.0.seen other.me.0.seen seat.new.me.0.seen }
+    ensures rest { seat.new.me ≡ (record seat.old.me.0 { seen = seat.new.me.0.seen; met = None }, seat.old.me.1) }
 {
     board.join_seat::<Joins>(seat, other);
     board.load::<Compares>(seat, 0);

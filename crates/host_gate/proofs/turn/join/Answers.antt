@@ -1,4 +1,6 @@
-use Rattle.std.proofs.Common.{Some, None, ap, ◌∙◌, arith}
+use Rattle.std.proofs.Common.{None, ap, ◌∙◌, subst, arith}
+use Rattle.host_gate.specs.Plays.{Sat}
+use Rattle.host_gate.specs.Marks.{Meets}
 use Rattle.host_gate.proofs.Moves.{compares, joins}
 use Rattle.host_gate.proofs.turn.join.Goals as goal
 
@@ -18,7 +20,7 @@ load-requires g c =
     )
 
 pub returns-clause-kept : goal.returns-clause-kept
-returns-clause-kept g c = λ x y seen other.
-    let now = c.join_seat.ensures.2 in
-    let told = c.load.ensures.2 x y (ap (λ m. m.0.seen) now ∙ seen) (ap (λ m. m.0.met) now ∙ other) in
-    (told.0, told.1, told.2 ∙ (λ i. (record (now i).0 { seen = Some told.0; met = None }, (now i).1)))
+returns-clause-kept g c = subst (λ (m : Sat g.row.K.Denot). Meets g.K.Kept.grown m.0.seen m.0.met c.load.new.seat.me.0.seen) c.join_seat.ensures.2 c.load.ensures.2.0
+
+pub returns-clause-rest : goal.returns-clause-rest
+returns-clause-rest g c = c.load.ensures.2.1 ∙ (λ i. (record (c.join_seat.ensures.2 i).0 { seen = c.load.new.seat.me.0.seen; met = None }, (c.join_seat.ensures.2 i).1))

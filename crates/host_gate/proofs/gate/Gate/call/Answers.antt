@@ -1,4 +1,5 @@
-use Rattle.std.proofs.Common.{sym, ap, ◌∙◌}
+use Rattle.std.proofs.Common.{sym, ap, ◌∙◌, subst}
+use Rattle.host_gate.specs.Calls.{Stepped}
 use Rattle.host_gate.proofs.gate.Gate.call.Goals as goal
 
 pub serve-reply-requires-clause-may : goal.serve-reply-requires-clause-may
@@ -8,13 +9,11 @@ serve-reply-requires-clause-may g c =
 
 pub invariant_of-pass : goal.invariant_of-pass
 invariant_of-pass g c =
-    let seen = c.pass.invariant.seen in
-    let drawn = c.in-Ok.ensures.drawn.1 in
-    let did = c.serve-reply.ensures.stepped seen.0 (ap (λ s. s.0.seen) drawn ∙ seen.1) in record {
-      outside = ap (λ s. s.0.stage) did.3;
-      alone = ap (λ s. s.0.met) did.3 ∙ (ap (λ s. s.0.met) drawn ∙ c.pass.invariant.alone);
-      empty = ap (λ s. s.1) did.3;
-      seen = (did.0, ap (λ s. s.0.seen) did.3, did.1);
+    let left = c.serve-reply.ensures.rest in record {
+      outside = ap (λ s. s.0.stage) left;
+      alone = ap (λ s. s.0.met) left ∙ (ap (λ s. s.0.met) c.in-Ok.ensures.drawn.1 ∙ c.pass.invariant.alone);
+      empty = ap (λ s. s.1) left;
+      seen = c.serve-reply.ensures.front;
     }
 
 pub invariant_of-pass-in-Err-1 : goal.invariant_of-pass-in-Err-1
@@ -28,7 +27,5 @@ invariant_of-pass-in-Err-1 g c =
     }
 
 pub returns-in-Ok-clause-step : goal.returns-in-Ok-clause-step
-returns-in-Ok-clause-step g c =
-    let seen = c.pass.invariant.seen in
-    let did = c.serve-reply.ensures.stepped seen.0 (ap (λ s. s.0.seen) c.in-Ok.ensures.drawn.1 ∙ seen.1) in
-    (seen.0, did.0, sym (ap (λ v. v.seen) c.pass.view_is) ∙ seen.1, ap (λ s. s.0.seen) did.3, did.1, did.2)
+returns-in-Ok-clause-step g c = subst (λ was. Stepped g.K.Kept.grown g.K.Kept.steps was c.args.call c.serve-reply.result.0 c.serve-reply.new.seat.me.0.seen)
+    (ap (λ s. s.0.seen) c.in-Ok.ensures.drawn.1 ∙ ap (λ v. v.seen) c.pass.view_is) c.serve-reply.ensures.step
