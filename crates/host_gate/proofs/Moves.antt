@@ -15,7 +15,8 @@ use Rattle.host_gate.specs.declared.view.Stage.TheVariants.{Outside, Waits, Hold
 use Rattle.host_gate.specs.declared.view.View.{View}
 use Rattle.host_gate.specs.Stages.{At, HasTicket, HasTurn}
 use Rattle.host_gate.specs.Marks.{Follows, HasSeen}
-use Rattle.host_gate.specs.Turns.{TurnRule, first_view}
+use Rattle.host_gate.specs.Stages.{first_view}
+use Rattle.host_gate.specs.Turns.{TurnRule}
 use Rattle.host_gate.specs.Line.{counted, LineRule, GateRule}
 use Rattle.host_gate.specs.Plays.{Sat, mark, leaving, read, drawn, served, counts, ended, compared}
 use Rattle.host_gate.proofs.LineKept.{NoTurn, IsSeen}

@@ -1,12 +1,12 @@
--- The state behind a gate, and what the seats have seen of it. Word 1 is the ticket that is served, word 2 the count of changes.
-use Rattle.std.specs.Prelude.{◌≡◌, ◌≤◌, ◌+◌, ℕ, List, [], ◌∷◌, slice_index, Option, Some}
+-- The state behind a gate, and what the seats have seen of it.
+use Rattle.std.specs.Prelude.{◌≡◌, ◌≤◌, ◌+◌, ℕ, List, [], ◌∷◌, Option, Some}
 use mathlib.Core.Option.{some, none}
 use mathlib.Core.Option as maybe
 use Rattle.host_gate.specs.declared.view.Mark.{Mark}
 use Rattle.host_gate.specs.declared.view.Stage.{Stage}
 use Rattle.host_gate.specs.declared.view.Stage.TheVariants.{Leaves}
 use Rattle.host_gate.specs.declared.view.View.{View}
-use Rattle.host_gate.specs.Stages.{At, HasTurn}
+use Rattle.host_gate.specs.Stages.{served_ticket, changes, At, HasTurn}
 use Rattle.host_gate.specs.Marks.{Follows, HasSeen}
 use Rattle.host_gate.specs.Turns.{TurnRule}
 
@@ -23,12 +23,12 @@ module _ {K : Type 0} (grown : K → K → Type 0) where
   pub record LineRule (words : List ℕ) (homes : List (maybe.Option (Option K))) (views : List (View K)) : Type 0 where
     -- the state behind the gate, with its front
     pub latest : Mark K
-    pub count : slice_index words 2 ≡ latest.front
+    pub count : changes words ≡ latest.front
     -- while nobody has its turn, the state is at home
-    pub home : NobodyServed views → (homes ≡ some (Some latest.state) ∷ []) × (slice_index words 2 ≤ slice_index words 1)
+    pub home : NobodyServed views → (homes ≡ some (Some latest.state) ∷ []) × (changes words ≤ served_ticket words)
     -- else it is out, and whoever has its turn knows it
     pub out : (i : ℕ) (v : View K) (t : ℕ) (m : Mark K) → At views i v → HasTurn v.stage t m
-        → (homes ≡ none ∷ []) × (m ≡ latest) × (slice_index words 2 ≤ slice_index words 1 + counted v.stage)
+        → (homes ≡ none ∷ []) × (m ≡ latest) × (changes words ≤ served_ticket words + counted v.stage)
     -- the state follows all that was seen
     pub seen : (i : ℕ) (v : View K) (m : Mark K) → At views i v → HasSeen v m → Follows grown m latest
     -- what was seen is in line by its fronts

@@ -33,7 +33,7 @@ pub struct View<K> {
 pub struct Turns;
 
 impl<K: Kept> TableRule<Option<K>, View<K>, Snapshot<K>> for Turns {
-    ghost use Rattle.host_gate.specs.Turns.{first_view};
+    ghost use Rattle.host_gate.specs.Stages.{first_view};
     ghost use Rattle.host_gate.specs.Line.{GateRule};
 
     ghost holds = { λ _ s. GateRule K.grown s.words s.homes s.views };

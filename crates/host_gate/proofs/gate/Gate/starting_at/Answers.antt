@@ -1,6 +1,6 @@
 use Rattle.std.proofs.Common.{◌≡◌, List, [], ◌∷◌, ◌++◌, map, Option, Some, refl, sym, ap, ◌∙◌, subst}
 use mathlib.Core.Option.{some}
-use Rattle.host_gate.specs.Turns.{first_view}
+use Rattle.host_gate.specs.Stages.{first_view}
 use Rattle.host_gate.specs.Line.{GateRule}
 use Rattle.host_gate.specs.Plays.{mark}
 use Rattle.host_gate.proofs.Moves.{starts}
