@@ -24,6 +24,7 @@ pub record Stepped {K Call Reply : Type 0} (grown : K → K → Type 0) (steps :
   pub step : steps found.state call reply changed after.state
   pub front : after.front ≡ found.front + added changed
   pub next : Follows grown found after
+  pub grows : Follows grown before after
 
 -- the seat of a pass, between its calls
 pub record IsIdle {K : Type 0} (me : Sat K) (front : ℕ) : Type 0 where

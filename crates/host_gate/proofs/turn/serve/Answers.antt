@@ -46,7 +46,7 @@ returns-clause-step g c =
     let view = c.step-reply.ensures.view ∙ ap (λ s. s.0) served.1 in
     let told = c.count-front.ensures.counted c.args.ticket m did.1 (ap (λ (v : View g.row.K.Denot). v.stage) view) did.3 in
     let left = ap (λ s. s.0.seen) c.end.ensures.ended ∙ ap (λ s. s.0.seen) told.1 in
-    stepped g.K.Kept.grown g.K.Kept.steps c.args.seat.now.me.0.seen c.end.new.seat.me.0.seen before.0 m c.args.call c.step-reply.result.0 c.step-reply.result.1 did.1 c.count-front.result before.1 left (served.2 before.0 before.1)
+    stepped g.K.Kept.grown g.met.K.Kept.grown_refl g.met.K.Kept.grown_trans g.K.Kept.steps c.args.seat.now.me.0.seen c.end.new.seat.me.0.seen before.0 m c.args.call c.step-reply.result.0 c.step-reply.result.1 did.1 c.count-front.result before.1 left (served.2 before.0 before.1)
     (subst (λ x. g.K.Kept.steps x c.args.call c.step-reply.result.0 c.step-reply.result.1 did.1) found did.4) (subst (λ x. g.K.Kept.grown x did.1) found did.5) (λ none. did.6 none ∙ found) told.0
 
 pub returns-clause-front : goal.returns-clause-front

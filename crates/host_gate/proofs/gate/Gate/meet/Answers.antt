@@ -6,7 +6,7 @@ use Rattle.host_gate.proofs.gate.Gate.meet.Goals as goal
 pub invariant_of-pass : goal.invariant_of-pass
 invariant_of-pass g c =
     let left = c.join.ensures.rest in
-    let kept = later_front g.K.Kept.grown _ _ _ _ _ c.pass.invariant.seen c.other.invariant.seen c.join.ensures.kept in record {
+    let kept = later_front g.K.Kept.grown g.met.K.Kept.grown_refl g.met.K.Kept.grown_trans _ _ _ _ _ c.pass.invariant.seen c.other.invariant.seen c.join.ensures.kept in record {
       outside = ap (λ s. s.0.stage) left ∙ c.pass.invariant.outside;
       alone = ap (λ s. s.0.met) left;
       empty = ap (λ s. s.1) left ∙ c.pass.invariant.empty;
