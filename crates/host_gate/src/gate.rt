@@ -15,7 +15,7 @@ use std::marker::Model;
 use std::snapshot::Snapshot;
 use std::sync::Wait;
 
-/// The count of calls that changed the state.
+/// The count of calls that changed the state, since its gate was made.
 #[derive(Clone, Copy, Debug, PartialEq, Eq, PartialOrd, Ord)]
 pub struct Front(pub u64);
 
@@ -30,7 +30,8 @@ pub struct Spent {
 #[derive(Clone, Copy, Debug, PartialEq, Eq)]
 pub struct Memory;
 
-/// A gate over one state, at which passes take turns. Threads may share it.
+/// A gate over one state, at which passes take turns. Threads may share it where the state may be
+/// sent from thread to thread.
 #[derive(Drop)]
 pub struct Gate<K: Kept> {
     table: Table<Option<K>, View<K>, Snapshot<K>, Turns, Global>,
@@ -49,7 +50,8 @@ impl<K: Kept> Model for Gate<K> {
     ghost invariant = { λ g. g.table.shared.table_id.words ≡ 3 };
 }
 
-/// The right to call through a gate. It may go to another thread.
+/// The right to call through a gate, one call at a time. It may go to another thread. It is of no
+/// use at any other gate.
 #[derive(Drop)]
 pub struct Pass<K> {
     seat: Place<K>,
@@ -116,7 +118,8 @@ impl<K: Kept> Gate<K> {
         }
     }
 
-    /// Makes one call on the state behind the gate, when the pass has its turn.
+    /// Waits for the pass's turn, and makes one call on the state behind the gate. A spent gate makes
+    /// none. It takes no memory of its own.
     pub fn call<R: Wait>(
         &self,
         rt: &R,
@@ -168,7 +171,8 @@ impl<K: Kept> Gate<K> {
         pass.front = pass.front.max(front);
     }
 
-    /// Waits for a last turn, and takes the state out for good. The other passes of the gate are then of no use.
+    /// Waits for a last turn, and gives back the state with its front. The gate's other passes are of
+    /// no use from then on.
     pub fn close<R: Wait>(self, rt: &R, pass: Pass<K>) -> (K, Front)
     where
         K: Drop,
