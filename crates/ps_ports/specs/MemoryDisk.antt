@@ -27,7 +27,7 @@ abbrev pub armed_number : Option ℕ → ℕ
 armed_number None = 0
 armed_number (Some n) = n
 
--- a read was made, and failed
+-- after a read with this answer
 abbrev pub after_read : {E : Type 0} → DiskState → Result ℕ E → DiskState
 after_read s (Ok n) = record { history = s.history; calls = called s.calls; until_fault = s.until_fault; faults = s.faults; starved = s.starved }
 after_read s (Err e) = record { history = s.history; calls = called s.calls; until_fault = s.until_fault; faults = raised s.faults; starved = s.starved }

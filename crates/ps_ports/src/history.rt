@@ -85,7 +85,8 @@ impl History {
     /// What a crash leaves after so many calls.
     pub fn crashed(self, calls: u64, image: Image) -> Result<Vec<u8>, Memory>
         requires { calls ≤ length self.log }
-        ensures { IfOk result (λ bytes. bytes.items ≡ image_bytes image (first_calls calls self)) }
+        ensures bytes { IfOk result (λ bytes. bytes.items ≡ image_bytes image (first_calls calls self)) }
+        ensures image { IfOk result (λ bytes. IsImage (first_calls calls self) bytes.items) }
     {
         let start = first_bytes(self.first, self.bytes);
         left_by_crash(start, &self.log[..calls as usize], image)

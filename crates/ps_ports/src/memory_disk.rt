@@ -92,7 +92,8 @@ impl MemoryDisk {
     /// is to fail.
     pub fn crashed(self, calls: u64, image: Image) -> Result<MemoryDisk, Memory>
         requires { calls ≤ length self.history.log }
-        ensures { IfOk result (λ disk. disk ≡ new_disk (image_bytes image (first_calls calls self.history)) []) }
+        ensures disk { IfOk result (λ disk. disk ≡ new_disk (image_bytes image (first_calls calls self.history)) []) }
+        ensures image { IfOk result (λ disk. IsImage (first_calls calls self.history) (bytes_now disk.history)) }
     {
         let alloc = self.history.alloc();
         let bytes = self.history.crashed(calls, image)?;

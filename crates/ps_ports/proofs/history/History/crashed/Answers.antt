@@ -1,0 +1,11 @@
+use Rattle.std.proofs.Common.{◌≡◌, rules, subst, sym, IfOk}
+use Rattle.std.proofs.lemmas.Result.{IfOk-weaker}
+use Rattle.ps_ports.specs.History.{IsImage, first_calls, image_bytes}
+use Rattle.ps_ports.proofs.ImageLemmas.{image_is_image}
+use Rattle.ps_ports.proofs.history.History.crashed.Goals as goal
+
+pub returns-clause-image : goal.returns-clause-image
+returns-clause-image c =
+    let past = first_calls c.args.calls c.args.self in
+    let bytes : IfOk c.left_by_crash.result (λ bytes. bytes.items ≡ image_bytes c.args.image past) = search rules in
+    IfOk-weaker c.left_by_crash.result _ _ (λ bytes is. subst (IsImage past) (sym is) (image_is_image c.args.image past)) bytes
