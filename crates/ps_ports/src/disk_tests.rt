@@ -166,6 +166,7 @@ fn a_real_pair(rt: HostRuntime) -> Result<(), Fail> {
         Err(_) => false,
     };
     let removed = !fs::exists(&rt, "host/pair.new")?;
+    fs::remove_dir_all(&rt, "host")?;
     let answers = [
         no_folder, fresh, refused, written, synced, too_far, again, removed,
     ];
