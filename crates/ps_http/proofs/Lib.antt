@@ -1,0 +1,3 @@
+pub mod AsciiLemmas
+pub mod HeldLemmas
+pub mod ScanLemmas

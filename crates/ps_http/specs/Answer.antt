@@ -1,0 +1,82 @@
+-- What the bytes of an input are: a message at their front, or what refuses them.
+use Rattle.std.specs.Prelude.{◌≡◌, ◌≤◌, ◌<◌, ◌+◌, ◌⊎◌, ⊤, ℕ, Bool, true, false, List, [], ◌++◌, length, take, Option, Some, None, Result, Ok, Err}
+use Rattle.httparse.specs.Grammar.{RequestHead, print_request, ReadsRequest, HasNoRequest, NeverHasRequest, EndsInTarget, MayBecomeRequest, ResponseHead, print_response, ReadsResponse, HasNoResponse, NeverHasResponse, MayBecomeResponse}
+use Rattle.ps_http.specs.Lines.{has_head_end}
+use Rattle.ps_http.specs.Message.{request_length, request_of, response_length, response_of}
+use Rattle.ps_http.specs.declared.fault.HttpFault.{HttpFault}
+use Rattle.ps_http.specs.declared.fault.HttpFault.TheVariants.{BadHead, NoLength, TooLarge, EndInside, ReadFault, AfterRefusal, Memory}
+use Rattle.ps_http.specs.declared.message.HttpLimits.{HttpLimits}
+use Rattle.ps_http.specs.declared.message.Request.{Request}
+use Rattle.ps_http.specs.declared.message.Response.{Response}
+
+-- a kind of message: its heads, and what each says
+pub record Kind (H M : Type 0) : Type 1 where
+  -- the bytes are this head, and then the rest
+  pub Reads : List ℕ → H → List ℕ → Type 0
+  -- how many bytes the head has
+  pub size : H → ℕ
+  -- no head is at the front yet, and bytes can follow that make one
+  pub Open : List ℕ → Type 0
+  -- no head is at the front, whatever follows
+  pub Never : List ℕ → Type 0
+  -- the body's length, or the refusal
+  pub length_by : HttpLimits → H → Result ℕ HttpFault
+  -- the message with a body
+  pub message : H → List ℕ → M
+
+-- a target that isn't UTF-8 is refused at its end, since it is tested there
+abbrev pub requests : Kind RequestHead Request
+requests = record {
+  Reads = ReadsRequest;
+  size = λ h. length (print_request h);
+  Open = λ bytes. HasNoRequest bytes × MayBecomeRequest bytes;
+  Never = λ bytes. NeverHasRequest bytes × ¬ (EndsInTarget bytes);
+  length_by = request_length;
+  message = request_of;
+}
+
+abbrev pub responses : Kind ResponseHead Response
+responses = record {
+  Reads = ReadsResponse;
+  size = λ h. length (print_response h);
+  Open = λ bytes. HasNoResponse bytes × MayBecomeResponse bytes;
+  Never = NeverHasResponse;
+  length_by = response_length;
+  message = response_of;
+}
+
+-- these bytes are the message: a head within its limit, and a body of the length that it says
+pub record IsMessage {H M : Type 0} (kind : Kind H M) (limits : HttpLimits) (bytes : List ℕ) (message : M) : Type 0 where
+  pub head : H
+  pub body : List ℕ
+  pub reads : kind.Reads bytes head body
+  pub fits : kind.size head ≤ limits.head
+  pub length_is : kind.length_by limits head ≡ Ok (length body)
+  pub message_is : message ≡ kind.message head body
+
+-- the input begins with a head within its limit, which says this
+abbrev pub HeadSays : {H M : Type 0} → Kind H M → HttpLimits → List ℕ → Result ℕ HttpFault → (H → Type 0) → Type 0
+HeadSays {H} kind limits input says P =
+    (head : H) × (rest : List ℕ) × kind.Reads (take limits.head input) head rest × (kind.length_by limits head ≡ says) × P head
+
+-- the head is refused
+abbrev pub HeadRefused : {H M : Type 0} → Kind H M → HttpLimits → List ℕ → HttpFault → Type 0
+HeadRefused kind limits input fault = HeadSays kind limits input (Err fault) (λ _. ⊤)
+
+-- the input ends inside a body
+abbrev pub EndsInBody : {H M : Type 0} → Kind H M → HttpLimits → List ℕ → Type 0
+EndsInBody kind limits input = (n : ℕ) × HeadSays kind limits input (Ok n) (λ head. length input < kind.size head + n)
+
+-- the refusals of an input; the other faults don't speak of its bytes
+abbrev pub Refuses : {H M : Type 0} → Kind H M → HttpLimits → List ℕ → HttpFault → Type 0
+Refuses kind limits input BadHead = kind.Never (take limits.head input) ⊎ HeadRefused kind limits input BadHead
+Refuses kind limits input TooLarge = ((limits.head ≤ length input) × kind.Open (take limits.head input)) ⊎ HeadRefused kind limits input TooLarge
+Refuses kind limits input NoLength = HeadRefused kind limits input NoLength
+Refuses kind limits input (EndInside n) = (n ≡ length input) × (((length input < limits.head) × kind.Open input) ⊎ EndsInBody kind limits input)
+Refuses kind limits input ReadFault = ⊤
+Refuses kind limits input AfterRefusal = ⊤
+Refuses kind limits input Memory = ⊤
+
+-- a read is made: the head has no end yet and is within its limit, or the head is whole and the body is short
+abbrev pub IsDue : {H M : Type 0} → Kind H M → HttpLimits → List ℕ → Type 0
+IsDue kind limits came = ((length came < limits.head) × (has_head_end came ≡ false)) ⊎ EndsInBody kind limits came

@@ -1,0 +1,9 @@
+//! HTTP/1.x messages whole: requests and responses read from a source, and their bytes written.
+#![tactic(auto)]
+
+pub mod fault;
+mod fields;
+mod held;
+mod lines;
+pub mod message;
+pub mod reader;
