@@ -1,8 +1,11 @@
 pub mod Answer
 pub mod Fields
+pub mod Found
+pub mod Head
 pub mod Held
 pub mod Lent
 pub mod Lines
 pub mod Message
 pub mod Reader
 pub mod Scan
+pub mod Target

@@ -3,7 +3,10 @@
 
 pub mod fault;
 mod fields;
+mod find;
+mod head;
 mod held;
 mod lines;
 pub mod message;
 pub mod reader;
+mod target;
