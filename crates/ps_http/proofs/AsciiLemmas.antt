@@ -5,6 +5,9 @@ use Rattle.std.specs.List.{list_all, position_or_len, before_first, after_first}
 use Rattle.std.specs.Char.{is_ascii_digit, is_ascii_alphanumeric}
 use Rattle.std.specs.Str.{IsAscii, IsUtf8, all_ascii_digits}
 use Rattle.std.proofs.lemmas.Bool.Decides.{nat_tests}
+use Rattle.httparse.specs.Grammar.{AllPass, is_token_byte}
+use Rattle.std.proofs.lemmas.List.Elements.{All-weaker}
+use Rattle.std.proofs.lemmas.Str.Ascii.{IsAscii-from_all}
 use Rattle.std.proofs.lemmas.List.Sums.{split_at_first, passes_at_first}
 use Rattle.std.proofs.lemmas.Str.{IsUtf8-from_ascii, IsAscii-append}
 use Rattle.ps_time.specs.Number.{decimal_of}
@@ -69,3 +72,12 @@ not_peer value bad = by_cut (nat_lt (position_or_len (cuts_at 32) value) (length
     by_cut : (c : Bool) → nat_lt (position_or_len (cuts_at 32) value) (length value) ≡ c → None ≡ peer_of value
     by_cut false other = rw other (uncut (decimal_of 1 5 front))
     by_cut true cut = rw cut (by_parts (grind (arith, nat_tests)) (all_ascii_digits front) (list_all is_ascii_alphanumeric key) refl refl)
+
+token_is_ascii : (b : ℕ) → is_token_byte b ≡ true → b < 128
+unfolding is_token_byte
+token_is_ascii b token = grind (arith, nat_tests)
+
+-- a token is a text
+pub token_text : (bytes : List ℕ) → AllPass is_token_byte bytes → IsUtf8 bytes
+token_text bytes token =
+    IsUtf8-from_ascii bytes (IsAscii-from_all bytes (All-weaker (λ b. is_token_byte b ≡ true) (λ b. b < 128) token_is_ascii bytes token))

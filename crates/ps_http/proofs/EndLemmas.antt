@@ -13,15 +13,11 @@ use Rattle.httparse.proofs.GrammarLemmas.{print_request-append}
 use Rattle.httparse.proofs.PieceLemmas.{token_is_no_newline}
 use Rattle.std.proofs.lemmas.Bool.{false≢true, not-true}
 use Rattle.std.specs.Prelude.{Option, Some, None}
-use Rattle.ps_http.proofs.ScanLemmas.{is_ended, scanned_head}
+use Rattle.ps_http.proofs.ScanLemmas.{places-append, scanned_head}
 use Rattle.ps_http.specs.Lines.{has_head_end}
-use Rattle.ps_http.specs.Scan.{place_after, places_after}
+use Rattle.ps_http.specs.Scan.{is_ended, place_after, places_after}
 use Rattle.ps_http.specs.declared.lines.Place.{Place}
 use Rattle.ps_http.specs.declared.lines.Place.TheVariants.{Before, BeforeCr, Inside, Start, StartCr, Ended}
-
-pub places-append : (place : Place) (a b : List ℕ) → places_after place (a ++ b) ≡ places_after (places_after place a) b
-places-append place [] b = refl
-places-append place (x ∷ a) b = places-append (place_after place x) a b
 
 is_ended_there : (place : Place) → is_ended place ≡ true → place ≡ Ended
 is_ended_there Ended there = refl

@@ -1,5 +1,8 @@
 pub mod AsciiLemmas
+pub mod BodyLemmas
+pub mod CollectLemmas
 pub mod EndLemmas
+pub mod HeadLemmas
 pub mod HeldLemmas
 pub mod KindLemmas
 pub mod RoomLemmas

@@ -1,19 +1,11 @@
 -- The places of the lines tell whether the head has ended.
-use Rattle.std.proofs.Common.{◌≡◌, ◌==◌, ℕ, Bool, true, false, ◌&&◌, ◌||◌, List, [], ◌∷◌, ◌++◌, refl, sym, ap, ◌∙◌, arith}
+use Rattle.std.proofs.Common.{◌≡◌, ◌==◌, ◌≤◌, ◌+◌, ◌-◌, ℕ, Bool, true, false, ◌&&◌, ◌||◌, List, [], ◌∷◌, ◌++◌, refl, sym, ap, ◌∙◌, arith, take, drop, take-add}
 use Rattle.std.proofs.lemmas.Bool.{eqb-true}
 use Rattle.std.proofs.lemmas.Bool.Decides.{nat_tests}
 use Rattle.ps_http.specs.Lines.{begins_empty, has_empty_line, has_head_end}
-use Rattle.ps_http.specs.Scan.{place_after, places_after}
+use Rattle.ps_http.specs.Scan.{is_ended, place_after, places_after}
 use Rattle.ps_http.specs.declared.lines.Place.{Place}
 use Rattle.ps_http.specs.declared.lines.Place.TheVariants.{Before, BeforeCr, Inside, Start, StartCr, Ended}
-
-abbrev pub is_ended : Place → Bool
-is_ended Ended = true
-is_ended Before = false
-is_ended BeforeCr = false
-is_ended Inside = false
-is_ended Start = false
-is_ended StartCr = false
 
 abbrev begins_feed : List ℕ → Bool
 begins_feed [] = false
@@ -52,6 +44,10 @@ begins_at b [] = by_test (b == 10) (b == 13)
     by_test false false = refl
 begins_at b (c ∷ bytes) = refl
 
+pub places-append : (place : Place) (a b : List ℕ) → places_after place (a ++ b) ≡ places_after (places_after place a) b
+places-append place [] b = refl
+places-append place (x ∷ a) b = places-append (place_after place x) a b
+
 -- the head has ended exactly where it has an end from that place on
 pub scanned : (place : Place) (bytes : List ℕ) → is_ended (places_after place bytes) ≡ ends_from place bytes
 scanned Ended bytes = ended_stays bytes
@@ -81,3 +77,11 @@ scanned StartCr (b ∷ bytes) = grind (arith, scanned Ended bytes, scanned Insid
 -- from the start of a message on
 pub scanned_head : (bytes : List ℕ) → is_ended (places_after Before bytes) ≡ has_head_end bytes
 scanned_head bytes = scanned Before bytes
+
+-- the place behind the first upto bytes, from the place behind the first seen
+pub placed_more : (held : List ℕ) (place : Place) (seen upto : ℕ) → seen ≤ upto → place ≡ places_after Before (take seen held)
+    → places_after place (take (upto - seen) (drop seen held)) ≡ places_after Before (take upto held)
+placed_more held place seen upto order placed =
+    let all : seen + (upto - seen) ≡ upto = omega (arith, order) in
+    ap (λ p. places_after p (take (upto - seen) (drop seen held))) placed ∙ sym (places-append Before (take seen held) (take (upto - seen) (drop seen held)))
+    ∙ ap (places_after Before) (sym (take-add seen (upto - seen) held) ∙ ap (λ n. take n held) all)

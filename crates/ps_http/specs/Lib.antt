@@ -1,4 +1,6 @@
 pub mod Answer
+pub mod Body
+pub mod Collected
 pub mod Fields
 pub mod Found
 pub mod Head

@@ -1,7 +1,15 @@
 -- Where in a head's lines bytes end, byte by byte.
-use Rattle.std.specs.Prelude.{ℕ, ◌==◌, List, [], ◌∷◌, if◌then◌else◌}
+use Rattle.std.specs.Prelude.{ℕ, ◌==◌, Bool, true, false, List, [], ◌∷◌, if◌then◌else◌}
 use Rattle.ps_http.specs.declared.lines.Place.{Place}
 use Rattle.ps_http.specs.declared.lines.Place.TheVariants.{Before, BeforeCr, Inside, Start, StartCr, Ended}
+
+abbrev pub is_ended : Place → Bool
+is_ended Ended = true
+is_ended Before = false
+is_ended BeforeCr = false
+is_ended Inside = false
+is_ended Start = false
+is_ended StartCr = false
 
 abbrev pub place_after : Place → ℕ → Place
 place_after Before b = if b == 10 then Before else (if b == 13 then BeforeCr else Inside)

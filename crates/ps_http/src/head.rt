@@ -5,8 +5,8 @@ ghost use Rattle.std.specs.Option.{option_map};
 ghost use Rattle.httparse.specs.Spans.{IsHeaderWithin, IsRequestOf, IsRequestWithin, IsResponseOf, IsResponseWithin};
 ghost use Rattle.ps_http.specs.Answer.{requests, responses};
 ghost use Rattle.ps_http.specs.Fields.{fields_in, cuts_at, behind};
-ghost use Rattle.ps_http.specs.Head.{IsHeaded, HeadFault};
-ghost use Rattle.ps_http.specs.Message.{body_length};
+ghost use Rattle.ps_http.specs.Head.{IsHeaded, IsMessageOf, IsRefusedOr, HeadGives, HeadFault, unfinished};
+ghost use Rattle.ps_http.specs.Message.{body_length, fits_request, wants_length};
 
 use crate::fault::HttpFault;
 use crate::fields::{are_peers, asks_close, count_named, first_named, peer, said_length};
@@ -64,4 +64,147 @@ fn split_target(target: &str) -> (&str, Option<&str>)
         Some((path, query)) => (path, Some(query)),
         None => (target, None),
     }
+}
+
+fn text(alloc: Global, bytes: &[u8]) -> Result<Text, Memory>
+    requires { IsUtf8 bytes.now }
+    ensures { IfOk result (λ t. t ≡ bytes.now) }
+{
+    match str::from_utf8(bytes) {
+        Ok(text) => Text::new(alloc, text),
+        Err(_) => unreachable!(),
+    }
+}
+
+fn query_text(alloc: Global, query: Option<&str>) -> Result<Option<Text>, Memory>
+    ensures { IfOk result (λ t. t ≡ option_map (λ q. q.now) query.entry) }
+{
+    match query {
+        Some(query) => {
+            let query = Text::new(alloc, query)?;
+            Ok(Some(query))
+        }
+        None => Ok(None),
+    }
+}
+
+/// A request without its body.
+fn request_without_body(
+    alloc: Global,
+    bytes: &[u8],
+    spans: &[HeaderSpan],
+    head: RequestSpans,
+) -> Result<Request, Memory>
+    requires within { IsRequestWithin bytes.now spans.now head }
+    requires whole { IsRequestOf bytes.now spans.now head }
+    requires all { head.headers ≡ length spans.now }
+    ensures { IfOk result (λ request. IsMessageOf requests bytes.now request) }
+{
+    let method = text(alloc, head.method.of(bytes))?;
+    let Ok(target) = str::from_utf8(head.path.of(bytes)) else {
+        unreachable!()
+    };
+    let (path, query) = split_target(target);
+    let path = Text::new(alloc, path)?;
+    let query = query_text(alloc, query)?;
+    let peer = peer(alloc, bytes, spans)?;
+    let close = asks_close(head.version, bytes, spans);
+    let body = Items::new(alloc);
+    Ok(Request {
+        method,
+        path,
+        query,
+        peer,
+        close,
+        body,
+    })
+}
+
+// A request of 1.1 has one Host field, and a target begins with `/`.
+fn fits_request(minor: u8, target: &[u8], bytes: &[u8], spans: &[HeaderSpan]) -> bool
+    requires { All (IsHeaderWithin (length bytes.now)) spans.now }
+    ensures { result ≡ fits_request minor target.now (fields_in bytes.now spans.now) }
+{
+    if minor != 0 && count_named(bytes, spans, b"host") != 1 {
+        return false;
+    }
+    matches!(target, [b'/', ..])
+}
+
+fn wants_length(method: &[u8]) -> bool
+    ensures { result ≡ wants_length method.now }
+{
+    method == b"POST".as_slice() || method == b"PUT".as_slice()
+}
+
+fn request_length(
+    bytes: &[u8],
+    spans: &[HeaderSpan],
+    head: RequestSpans,
+    limits: HttpLimits,
+) -> Result<usize, HttpFault>
+    requires within { IsRequestWithin bytes.now spans.now head }
+    requires whole { IsRequestOf bytes.now spans.now head }
+    requires all { head.headers ≡ length spans.now }
+    ensures { HeadGives requests limits bytes.now head.len result }
+{
+    let fits = fits_request(head.version, head.path.of(bytes), bytes, spans);
+    let wanted = wants_length(head.method.of(bytes));
+    body_length(limits, fits, wanted, bytes, spans)
+}
+
+fn whole_request(
+    alloc: Global,
+    bytes: &[u8],
+    spans: &[HeaderSpan],
+    head: RequestSpans,
+    limits: HttpLimits,
+) -> Result<Headed<Request>, HttpFault>
+    requires within { IsRequestWithin bytes.now spans.now head }
+    requires whole { IsRequestOf bytes.now spans.now head }
+    requires all { head.headers ≡ length spans.now }
+    ensures ok { IfOk result (λ r. IsHeaded requests limits bytes.now r.message r.size r.length) }
+    ensures err { IfErr result (IsRefusedOr requests limits bytes.now) }
+{
+    let length = match request_length(bytes, spans, head, limits) {
+        Ok(length) => length,
+        Err(fault) => return Err(fault),
+    };
+    match request_without_body(alloc, bytes, spans, head) {
+        Ok(message) => Ok(Headed {
+            message,
+            size: head.len,
+            length,
+        }),
+        Err(Memory) => Err(HttpFault::Memory),
+    }
+}
+
+/// The head of a request at the front of an input. `bytes` are all that the input has, or as many
+/// as a head may have.
+pub fn request_head(
+    alloc: Global,
+    bytes: &[u8],
+    spans: &mut [HeaderSpan],
+    limits: HttpLimits,
+) -> Result<Headed<Request>, HttpFault>
+    requires { length bytes.now ≤ 3 * length spans.old + 2 }
+    ensures ok { IfOk result (λ r. IsHeaded requests limits bytes.now r.message r.size r.length) }
+    ensures err { IfErr result (HeadFault requests limits bytes.now) }
+{
+    match find_request(bytes, spans) {
+        Found::Whole(head) => whole_request(alloc, bytes, &spans[..head.headers], head, limits),
+        Found::Open => Err(unfinished(bytes.len(), limits)),
+        Found::Never => Err(HttpFault::BadHead),
+    }
+}
+
+// The fault of a head that has no end.
+fn unfinished(count: usize, limits: HttpLimits) -> HttpFault
+    ensures { result ≡ unfinished limits count }
+{
+    if limits.head as usize <= count {
+        return HttpFault::TooLarge;
+    }
+    HttpFault::EndInside(count as u64)
 }

@@ -1,6 +1,6 @@
 //! The lines of a head, as its bytes come.
 ghost use Rattle.std.specs.Prelude.{◌≡◌};
-ghost use Rattle.ps_http.specs.Scan.{place_after, places_after};
+ghost use Rattle.ps_http.specs.Scan.{is_ended, place_after, places_after};
 
 /// Where in a head's lines the bytes so far end.
 #[derive(Clone, Copy, Debug, PartialEq, Eq)]
@@ -32,6 +32,13 @@ impl Place {
             (Place::Inside, b'\n') => Place::Start,
             _ => Place::Inside,
         }
+    }
+
+    /// Whether the head has ended.
+    pub fn is_ended(self) -> bool
+        ensures { result ≡ is_ended self }
+    {
+        matches!(self, Place::Ended)
     }
 
     /// The place after more bytes.

@@ -1,5 +1,5 @@
 //! A reader of messages.
-ghost use Rattle.std.specs.Prelude.{◌≡◌, ◌≤◌, ◌<◌, ◌↔◌, [], IfOk, IfSome, IfErr, IsErrOf, is_err, Ok, Err, None, true, false};
+ghost use Rattle.std.specs.Prelude.{◌≡◌, ◌≤◌, ◌<◌, ◌↔◌, [], IfOk, IfSome, IfErr, IsErrOf, OnOk, OnErr, is_err, Ok, Err, None, true, false};
 ghost use Rattle.std.specs.Borrow.{sem};
 ghost use Rattle.ps_http.specs.Lent.{LendsSource};
 
