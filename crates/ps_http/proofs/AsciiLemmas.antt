@@ -57,8 +57,10 @@ not_peer value bad = by_cut (nat_lt (position_or_len (cuts_at 32) value) (length
   where
     front : List ℕ
     front = before_first (cuts_at 32) value
+
     key : List ℕ
     key = after_first (cuts_at 32) value
+
     by_parts : position_or_len (cuts_at 32) value < length value → (d l : Bool) → all_ascii_digits front ≡ d → list_all is_ascii_alphanumeric key ≡ l
         → None ≡ mark_of (decimal_of 1 5 front) (Some key)
     by_parts there false l other _ = ap (λ o. mark_of o (Some key)) (no_digits 1 5 front other)
@@ -68,7 +70,8 @@ not_peer value bad = by_cut (nat_lt (position_or_len (cuts_at 32) value) (length
         let space : (at == 32) ≡ true = passes_at_first (cuts_at 32) value 0 there in
         let low : at < 128 = grind (arith, nat_tests, space) in
         absurd (bad (IsUtf8-from_ascii value (subst IsAscii (sym (split_at_first (cuts_at 32) value 0 there))
-            (IsAscii-append front (at ∷ key) (digits_ascii front digits) (cons_ascii at key low (letters_ascii key letters))))))
+        (IsAscii-append front (at ∷ key) (digits_ascii front digits) (cons_ascii at key low (letters_ascii key letters))))))
+
     by_cut : (c : Bool) → nat_lt (position_or_len (cuts_at 32) value) (length value) ≡ c → None ≡ peer_of value
     by_cut false other = rw other (uncut (decimal_of 1 5 front))
     by_cut true cut = rw cut (by_parts (grind (arith, nat_tests)) (all_ascii_digits front) (list_all is_ascii_alphanumeric key) refl refl)

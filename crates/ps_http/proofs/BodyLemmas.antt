@@ -28,9 +28,16 @@ pub short_at_end : (front before now : List ℕ) (left mid rest : Option (List �
     → (s : Short ready to left rest) × (count ≡ ready + length s.came)
 short_at_end front before now left mid rest ready count to n a came none len within more =
     let all = a.came ++ take n (drop count now) in
-    let many : count ≡ ready + length all = omega (arith, count_came front (take count before) left mid a, len, none, within, length-take count before,
-        length-append a.came (take n (drop count now)), length-take n (drop count now)) in
-    (
+    let many : count ≡ ready + length all = omega (
+      arith,
+      count_came front (take count before) left mid a,
+      len,
+      none,
+      within,
+      length-take count before,
+      length-append a.came (take n (drop count now)),
+      length-take n (drop count now),
+    ) in (
       record { came = all; consumed = Consumes-trans left mid rest a.came (take n (drop count now)) a.consumed came.consumed; short = omega (arith, many, more) },
       many,
     )
@@ -71,10 +78,13 @@ filled size whole ready old front body left rest fits is front_len len same f = 
   where
     held : List ℕ
     held = drop size old
+
     body_is : body ≡ take ready held ++ f.came
     body_is = f.filled ∙ ap (λ l. l ++ f.came) same
+
     count : whole ≡ ready + length f.came
     count = omega (arith, ap length body_is, len, length-append (take ready held) f.came, length-take ready held, length-drop size old, is, fits)
+
     by_order : (ready < whole) ⊎ (whole ≤ ready) → held ++ f.came ≡ body ++ drop (size + ready) old
     by_order (inl short) =
         let all : length held ≤ ready = omega (arith, length-drop size old, is, short) in

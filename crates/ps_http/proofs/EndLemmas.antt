@@ -130,7 +130,7 @@ version_plain : (minor : ℕ) → minor ≤ 1 → IsInLine (print_version minor)
 version_plain minor low =
     let digit : is_newline (48 + minor) ≡ false = grind (arith, nat_tests, low) in
     let name = All-weaker (λ b. IsTrue (not (is_newline b))) IsPlain (λ b. not-true (is_newline b)) (codes "HTTP/1.")
-        (AllPass-from_list_all (λ b. not (is_newline b)) (codes "HTTP/1.") refl) in
+    (AllPass-from_list_all (λ b. not (is_newline b)) (codes "HTTP/1.") refl) in
     All-append IsPlain (codes "HTTP/1.") ((48 + minor) ∷ []) name (All-cons IsPlain (48 + minor) [] digit (All-nil IsPlain))
 
 with_fields : (start : List ℕ) (e : LineEnd) (fields : List Field) (last : LineEnd) → places_after Before start ≡ Inside → All IsField fields
@@ -150,13 +150,13 @@ unfolding print_request
 request_ends h is =
     let words = h.method ++ 32 ∷ h.target ++ 32 ∷ print_version h.minor in
     let plain : IsInLine words =
-        plain_then 32 (h.method ++ 32 ∷ h.target) (print_version h.minor) refl
-        (plain_then 32 h.method h.target refl (plain_token h.method is.method.1) (plain_by is_uri_byte uri_plain h.target is.target.1))
-        (version_plain h.minor is.minor) in
+    plain_then 32 (h.method ++ 32 ∷ h.target) (print_version h.minor) refl
+    (plain_then 32 h.method h.target refl (plain_token h.method is.method.1) (plain_by is_uri_byte uri_plain h.target is.target.1))
+    (version_plain h.minor is.minor) in
     let some : 0 < length words = omega (arith, is.method.0, length-append h.method (32 ∷ h.target), length-append (h.method ++ 32 ∷ h.target) (32 ∷ print_version h.minor)) in
     let grouped =
-        ap (λ l. l ++ 32 ∷ print_version h.minor) (append_assoc (print_blank h.blank) h.method (32 ∷ h.target))
-        ∙ append_assoc (print_blank h.blank) (h.method ++ 32 ∷ h.target) (32 ∷ print_version h.minor) in
+    ap (λ l. l ++ 32 ∷ print_version h.minor) (append_assoc (print_blank h.blank) h.method (32 ∷ h.target))
+    ∙ append_assoc (print_blank h.blank) (h.method ++ 32 ∷ h.target) (32 ∷ print_version h.minor) in
     with_fields (print_blank h.blank ++ h.method ++ 32 ∷ h.target ++ 32 ∷ print_version h.minor) h.line_end h.fields h.last
     (ap (places_after Before) grouped ∙ behind_blank h.blank words some plain) is.fields
 
@@ -169,13 +169,13 @@ unfolding print_response
 response_ends h is =
     let words = print_version h.minor ++ 32 ∷ h.digits ++ print_reason h.reason in
     let plain : IsInLine words =
-        All-append IsPlain (print_version h.minor ++ 32 ∷ h.digits) (print_reason h.reason)
-        (plain_then 32 (print_version h.minor) h.digits refl (version_plain h.minor is.minor) (plain_by is_ascii_digit digit_plain h.digits is.digits.1))
-        (reason_plain h.reason is.reason) in
+    All-append IsPlain (print_version h.minor ++ 32 ∷ h.digits) (print_reason h.reason)
+    (plain_then 32 (print_version h.minor) h.digits refl (version_plain h.minor is.minor) (plain_by is_ascii_digit digit_plain h.digits is.digits.1))
+    (reason_plain h.reason is.reason) in
     let some : 0 < length words = omega (arith, length-append (print_version h.minor) (32 ∷ h.digits), length-append (print_version h.minor ++ 32 ∷ h.digits) (print_reason h.reason)) in
     let grouped =
-        ap (λ l. l ++ print_reason h.reason) (append_assoc (print_blank h.blank) (print_version h.minor) (32 ∷ h.digits))
-        ∙ append_assoc (print_blank h.blank) (print_version h.minor ++ 32 ∷ h.digits) (print_reason h.reason) in
+    ap (λ l. l ++ print_reason h.reason) (append_assoc (print_blank h.blank) (print_version h.minor) (32 ∷ h.digits))
+    ∙ append_assoc (print_blank h.blank) (print_version h.minor ++ 32 ∷ h.digits) (print_reason h.reason) in
     with_fields (print_blank h.blank ++ print_version h.minor ++ 32 ∷ h.digits ++ print_reason h.reason) h.line_end h.fields h.last
     (ap (places_after Before) grouped ∙ behind_blank h.blank words some plain) is.fields
 
@@ -235,7 +235,7 @@ has_no_end text front (b ∷ more) ends split ended =
     let all = not_ended text ends in
     let rest = without_last b more in
     let same = same_fronts all.bytes (front ++ rest.0) all.last rest.1
-        (sym all.split ∙ split ∙ ap (λ l. front ++ l) rest.2 ∙ sym (append_assoc front rest.0 (rest.1 ∷ []))) in
+    (sym all.split ∙ split ∙ ap (λ l. front ++ l) rest.2 ∙ sym (append_assoc front rest.0 (rest.1 ∷ []))) in
     absurd (false≢true (sym all.unended ∙ ap has_head_end same ∙ ended_longer front rest.0 ended))
 
 -- ---- bytes that end inside a target

@@ -16,7 +16,8 @@ pub record Lawful {H M : Type 0} (kind : Kind H M) : Type 0 where
   pub open_or_never : (bytes : List ℕ) → kind.Open bytes → kind.Never bytes → ⊥
   pub open_or_read : (bytes : List ℕ) (head : H) (rest : List ℕ) → kind.Open bytes → kind.Reads bytes head rest → ⊥
   pub never_or_read : (bytes : List ℕ) (head : H) (rest : List ℕ) → kind.Never bytes → kind.Reads bytes head rest → ⊥
-  pub sized : (bytes : List ℕ) (head : H) (rest : List ℕ) → kind.Reads bytes head rest → length bytes ≡ kind.size head + length rest
+  pub split : (bytes : List ℕ) (head : H) (rest : List ℕ) → kind.Reads bytes head rest → bytes ≡ kind.text head ++ rest
+  pub before : (bytes : List ℕ) (head : H) (rest other : List ℕ) → kind.Reads bytes head rest → kind.Reads (kind.text head ++ other) head other
 
 unless : (b : Bool) → (b ≡ true → ⊥) → b ≡ false
 unless true not_so = absurd (not_so refl)
@@ -35,9 +36,10 @@ request_open bytes none (inl (more, h, reads)) = unless (has_head_end bytes) (λ
 request_open bytes none (inr target) = target_open bytes target
 
 request_never : (bytes more : List ℕ) → has_head_end bytes ≡ true → NeverHasRequest bytes → NeverHasRequest (bytes ++ more) × ¬ (EndsInTarget (bytes ++ more))
-request_never bytes more ended never =
-    (λ after h rest reads. never (more ++ after) h rest (reads.0, sym (append_assoc bytes more after) ∙ reads.1),
-    λ target. false≢true (sym (target_open (bytes ++ more) target) ∙ ended_longer bytes more ended))
+request_never bytes more ended never = (
+  λ after h rest reads. never (more ++ after) h rest (reads.0, sym (append_assoc bytes more after) ∙ reads.1),
+  λ target. false≢true (sym (target_open (bytes ++ more) target) ∙ ended_longer bytes more ended),
+)
 
 open_or_never_request : (bytes : List ℕ) → MayBecomeRequest bytes → NeverHasRequest bytes × ¬ (EndsInTarget bytes) → ⊥
 open_or_never_request bytes (inl (more, h, reads)) never = never.0 more h [] reads
@@ -53,7 +55,8 @@ lawful_requests = record {
   open_or_never = λ bytes open_there never. open_or_never_request bytes open_there.1 never;
   open_or_read = λ bytes head rest open_there reads. open_there.0 head rest reads;
   never_or_read = λ bytes head rest never reads. never.0 [] head rest (reads.0, append-nil bytes ∙ reads.1);
-  sized = λ bytes head rest reads. ap length reads.1 ∙ length-append (print_request head) rest;
+  split = λ bytes head rest reads. reads.1;
+  before = λ bytes head rest other reads. (reads.0, refl);
 }
 
 -- ---- responses
@@ -77,7 +80,8 @@ lawful_responses = record {
   open_or_never = λ bytes open_there never. never open_there.1.0 open_there.1.1 [] open_there.1.2;
   open_or_read = λ bytes head rest open_there reads. open_there.0 head rest reads;
   never_or_read = λ bytes head rest never reads. never [] head rest (reads.0, append-nil bytes ∙ reads.1);
-  sized = λ bytes head rest reads. ap length reads.1 ∙ length-append (print_response head) rest;
+  split = λ bytes head rest reads. reads.1;
+  before = λ bytes head rest other reads. (reads.0, refl);
 }
 
 -- what ends in a target has no head yet

@@ -1,3 +1,4 @@
+pub mod AnswerLemmas
 pub mod AsciiLemmas
 pub mod BodyLemmas
 pub mod CollectLemmas
@@ -5,6 +6,7 @@ pub mod EndLemmas
 pub mod HeadLemmas
 pub mod HeldLemmas
 pub mod KindLemmas
+pub mod NextLemmas
 pub mod RoomLemmas
 pub mod ScanLemmas
 pub mod TargetLemmas

@@ -26,6 +26,7 @@ skipped (a ∷ b ∷ bytes) = by_bytes (skipped (b ∷ bytes)) (skipped bytes) (
   where
     Goal : Type 0
     Goal = (ends : List LineEnd) × (a ∷ b ∷ bytes ≡ print_blank ends ++ skip_empty (a ∷ b ∷ bytes))
+
     by_bytes : (ends : List LineEnd) × (b ∷ bytes ≡ print_blank ends ++ skip_empty (b ∷ bytes)) → (ends : List LineEnd) × (bytes ≡ print_blank ends ++ skip_empty bytes)
         → (t u v : Bool) → (a == 10) ≡ t → (a == 13) ≡ u → (b == 10) ≡ v → Goal
     by_bytes one two true u v feed _ _ = (lf ∷ one.0, rw feed (ap (λ c. c ∷ b ∷ bytes) (eqb-true a 10 feed) ∙ ap (λ l. 10 ∷ l) one.1))
@@ -55,7 +56,7 @@ in_target_ends bytes passes =
     let some : 0 < n = ltb-true 0 n parts.0 in
     let fits : 0 < length (take n line) = omega (arith, some, length-take n line, length-drop n line, ap length target.2) in
     let split = blank.1 ∙ ap (λ l. print_blank blank.0 ++ l) (sym (take-append-drop n line) ∙ ap (λ l. take n line ++ l) target.2)
-        ∙ sym (append_assoc (print_blank blank.0) (take n line) (32 ∷ target.0)) in
+    ∙ sym (append_assoc (print_blank blank.0) (take n line) (32 ∷ target.0)) in
     (blank.0, take n line, target.0, (fits, method_passes line), target.1, split)
 
 -- ---- and what ends in a target passes

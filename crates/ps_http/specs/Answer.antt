@@ -1,5 +1,6 @@
 -- What the bytes of an input are: a message at their front, or what refuses them.
 use Rattle.std.specs.Prelude.{◌≡◌, ◌≤◌, ◌<◌, ◌+◌, ◌⊎◌, ⊤, ℕ, Bool, true, false, List, [], ◌++◌, length, take, Option, Some, None, Result, Ok, Err}
+use Rattle.std.specs.Io.KnownBytes.{Consumes, IsAtEnd}
 use Rattle.httparse.specs.Grammar.{RequestHead, print_request, ReadsRequest, HasNoRequest, NeverHasRequest, EndsInTarget, MayBecomeRequest, ResponseHead, print_response, ReadsResponse, HasNoResponse, NeverHasResponse, MayBecomeResponse}
 use Rattle.ps_http.specs.Lines.{has_head_end}
 use Rattle.ps_http.specs.Message.{request_length, request_of, response_length, response_of}
@@ -13,8 +14,8 @@ use Rattle.ps_http.specs.declared.message.Response.{Response}
 pub record Kind (H M : Type 0) : Type 1 where
   -- the bytes are this head, and then the rest
   pub Reads : List ℕ → H → List ℕ → Type 0
-  -- how many bytes the head has
-  pub size : H → ℕ
+  -- the head's bytes
+  pub text : H → List ℕ
   -- no head is at the front yet, and bytes can follow that make one
   pub Open : List ℕ → Type 0
   -- no head is at the front, whatever follows
@@ -28,7 +29,7 @@ pub record Kind (H M : Type 0) : Type 1 where
 abbrev pub requests : Kind RequestHead Request
 requests = record {
   Reads = ReadsRequest;
-  size = λ h. length (print_request h);
+  text = print_request;
   Open = λ bytes. HasNoRequest bytes × MayBecomeRequest bytes;
   Never = λ bytes. NeverHasRequest bytes × ¬ (EndsInTarget bytes);
   length_by = request_length;
@@ -38,7 +39,7 @@ requests = record {
 abbrev pub responses : Kind ResponseHead Response
 responses = record {
   Reads = ReadsResponse;
-  size = λ h. length (print_response h);
+  text = print_response;
   Open = λ bytes. HasNoResponse bytes × MayBecomeResponse bytes;
   Never = NeverHasResponse;
   length_by = response_length;
@@ -50,7 +51,7 @@ pub record IsMessage {H M : Type 0} (kind : Kind H M) (limits : HttpLimits) (byt
   pub head : H
   pub body : List ℕ
   pub reads : kind.Reads bytes head body
-  pub fits : kind.size head ≤ limits.head
+  pub fits : length (kind.text head) ≤ limits.head
   pub length_is : kind.length_by limits head ≡ Ok (length body)
   pub message_is : message ≡ kind.message head body
 
@@ -65,7 +66,7 @@ HeadRefused kind limits input fault = HeadSays kind limits input (Err fault) (λ
 
 -- the input ends inside a body
 abbrev pub EndsInBody : {H M : Type 0} → Kind H M → HttpLimits → List ℕ → Type 0
-EndsInBody kind limits input = (n : ℕ) × HeadSays kind limits input (Ok n) (λ head. length input < kind.size head + n)
+EndsInBody kind limits input = (n : ℕ) × HeadSays kind limits input (Ok n) (λ head. length input < length (kind.text head) + n)
 
 -- the refusals of an input; the other faults don't speak of its bytes
 abbrev pub Refuses : {H M : Type 0} → Kind H M → HttpLimits → List ℕ → HttpFault → Type 0
@@ -80,3 +81,15 @@ Refuses kind limits input Memory = ⊤
 -- a read is made: the head has no end yet and is within its limit, or the head is whole and the body is short
 abbrev pub IsDue : {H M : Type 0} → Kind H M → HttpLimits → List ℕ → Type 0
 IsDue kind limits came = ((length came < limits.head) × (has_head_end came ≡ false)) ⊎ EndsInBody kind limits came
+
+-- of what was left before and after a call: a message was at the front, and was taken
+abbrev pub TakesMessage : {H M : Type 0} → Kind H M → HttpLimits → M → Option (List ℕ) → Option (List ℕ) → Type 0
+TakesMessage kind limits message old new = (bytes : List ℕ) × Consumes old new bytes × IsMessage kind limits bytes message
+
+-- nothing was left
+abbrev pub WasAtEnd : Option (List ℕ) → Option (List ℕ) → Type 0
+WasAtEnd old new = IsAtEnd old × IsAtEnd new
+
+-- more was to be read when these bytes had come, behind those that were held
+abbrev pub WasDue : {H M : Type 0} → Kind H M → HttpLimits → List ℕ → Option (List ℕ) → Option (List ℕ) → Type 0
+WasDue kind limits held old new = (came : List ℕ) × Consumes old new came × IsDue kind limits (held ++ came)

@@ -11,7 +11,7 @@ pub record IsHeaded {H M : Type 0} (kind : Kind H M) (limits : HttpLimits) (fron
   pub rest : List ℕ
   pub reads : kind.Reads front head rest
   pub length_is : kind.length_by limits head ≡ Ok body
-  pub size_is : size ≡ kind.size head
+  pub size_is : size ≡ length (kind.text head)
   pub message_is : message ≡ kind.message head []
 
 -- a whole head that is refused
@@ -52,4 +52,4 @@ unfinished limits count = if nat_le limits.head count then TooLarge else EndInsi
 -- the head at the front, of this size, gives this length or refusal
 abbrev pub HeadGives : {H M : Type 0} → Kind H M → HttpLimits → List ℕ → ℕ → Result ℕ HttpFault → Type 0
 HeadGives {H} kind limits front size gives =
-    (head : H) × (rest : List ℕ) × kind.Reads front head rest × (kind.length_by limits head ≡ gives) × (size ≡ kind.size head)
+    (head : H) × (rest : List ℕ) × kind.Reads front head rest × (kind.length_by limits head ≡ gives) × (size ≡ length (kind.text head))

@@ -8,6 +8,7 @@ pub mod Held
 pub mod Lent
 pub mod Lines
 pub mod Message
+pub mod Next
 pub mod Reader
 pub mod Scan
 pub mod Target

@@ -1,6 +1,5 @@
 -- A reader, and what it has left to read.
-use Rattle.std.specs.Prelude.{ℕ, List, Bool, Option}
-use Rattle.std.specs.Io.KnownBytes.{prepend_known}
+use Rattle.std.specs.Prelude.{ℕ, List, Bool}
 
 -- its source, the bytes that it has read from it and given to no message, and whether it has answered a fault
 pub record ReaderState (S : Type 0) : Type 0 where

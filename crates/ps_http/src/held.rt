@@ -18,7 +18,12 @@ use std::marker::Model;
 pub const ROOM: usize = 16_384;
 
 /// Reads once from the source, to a place in `bytes` that ends before `to`.
-pub fn read_between<S: Source>(source: &mut S, bytes: &mut [u8], from: usize, to: usize) -> Result<usize, Failed>
+pub fn read_between<S: Source>(
+    source: &mut S,
+    bytes: &mut [u8],
+    from: usize,
+    to: usize,
+) -> Result<usize, Failed>
     requires some { from < to }
     requires fits { to ≤ length bytes.old }
     ensures ok { IfOk result (λ n. CameAt from to n bytes.new (S.left source.old) (S.left source.new)) }
@@ -147,7 +152,12 @@ pub fn read_body<S: Source>(
     }
 }
 
-fn read_whole<S: Source>(source: &mut S, held: &mut Held, body: &mut [u8], size: usize) -> Result<(), HttpFault>
+fn read_whole<S: Source>(
+    source: &mut S,
+    held: &mut Held,
+    body: &mut [u8],
+    size: usize,
+) -> Result<(), HttpFault>
     requires within { size ≤ length held.old }
     ensures ok { OnOk result (HasBody size (length body.old) body.new held.old held.new (S.left source.old) (S.left source.new)) }
     ensures err { IfErr result (λ fault. BodyFault size (length body.old) fault held.old (S.left source.old) (S.left source.new)) }
@@ -176,7 +186,12 @@ fn take_ready(held: &mut Held, body: &mut [u8], size: usize) -> usize
 }
 
 // Fills the body, of which so many bytes are there already, behind a head of this size.
-fn fill<S: Source>(source: &mut S, body: &mut [u8], ready: usize, size: usize) -> Result<(), HttpFault>
+fn fill<S: Source>(
+    source: &mut S,
+    body: &mut [u8],
+    ready: usize,
+    size: usize,
+) -> Result<(), HttpFault>
     requires within { ready ≤ length body.old }
     requires fits { size ≤ 16384 }
     ensures ok { OnOk result (Filled ready (length body.old) (take ready body.old) body.new (S.left source.old) (S.left source.new)) }

@@ -11,7 +11,7 @@ returns-then-is_ended-clause-ok g c =
     let held = c.loop-place.held in
     let upto : c.min-upto.result ≡ min (length held) c.args.most = c.min-upto.ensures ∙ ap (λ n. min n c.args.most) c.len.ensures.value in
     let placed = scanned_upto held c.as_slice.result.now c.loop-place.place c.after_all-place.result c.loop-place.seen c.min-upto.result c.args.most c.as_slice.ensures
-        (omega (arith, upto, c.loop-place.invariant.within, c.loop-place.invariant.fits)) c.loop-place.invariant.placed c.after_all-place.ensures in
+    (omega (arith, upto, c.loop-place.invariant.within, c.loop-place.invariant.fits)) c.loop-place.invariant.placed c.after_all-place.ensures in
     (c.loop-place.invariant.came, inl (sym (ended_upto held c.after_all-place.result c.args.most c.min-upto.result upto placed) ∙ sym c.is_ended.ensures ∙ c.if-is_ended.true))
 
 pub returns-in_default-clause-err : goal.returns-in_default-clause-err
@@ -19,12 +19,11 @@ returns-in_default-clause-err g c =
     let held = c.loop-place.held in
     let upto : c.min-upto.result ≡ min (length held) c.args.most = c.min-upto.ensures ∙ ap (λ n. min n c.args.most) c.len.ensures.value in
     let placed = scanned_upto held c.as_slice.result.now c.loop-place.place c.after_all-place.result c.loop-place.seen c.min-upto.result c.args.most c.as_slice.ensures
-        (omega (arith, upto, c.loop-place.invariant.within, c.loop-place.invariant.fits)) c.loop-place.invariant.placed c.after_all-place.ensures in
+    (omega (arith, upto, c.loop-place.invariant.within, c.loop-place.invariant.fits)) c.loop-place.invariant.placed c.after_all-place.ensures in
     let short : length held < c.args.most = omega (arith, upto, c.if-most-upto.false) in
     let same = c.in_default.ensures.err.0 in
     let unended = ap has_head_end (sym (take_all c.args.most held (omega (arith, short))))
-        ∙ sym (ended_upto held c.after_all-place.result c.args.most c.min-upto.result upto placed) ∙ sym c.is_ended.ensures ∙ c.if-is_ended.false in
-    (
+    ∙ sym (ended_upto held c.after_all-place.result c.args.most c.min-upto.result upto placed) ∙ sym c.is_ended.ensures ∙ c.if-is_ended.false in (
       added_kept _ held _ _ _ _ c.loop-place.invariant.came same c.in_default.ensures.err.1,
       omega (arith, short, ap length same),
       ap has_head_end same ∙ unended,
@@ -36,7 +35,7 @@ loop-place-preserved g c =
     let came = c.in-Ok.ensures.ok in
     let upto : c.min-upto.result ≡ min (length held) c.args.most = c.min-upto.ensures ∙ ap (λ n. min n c.args.most) c.len.ensures.value in
     let placed = scanned_upto held c.as_slice.result.now c.loop-place.place c.after_all-place.result c.loop-place.seen c.min-upto.result c.args.most c.as_slice.ensures
-        (omega (arith, upto, c.loop-place.invariant.within, c.loop-place.invariant.fits)) c.loop-place.invariant.placed c.after_all-place.ensures in
+    (omega (arith, upto, c.loop-place.invariant.within, c.loop-place.invariant.fits)) c.loop-place.invariant.placed c.after_all-place.ensures in
     let within : c.min-upto.result ≤ length held = omega (arith, upto) in
     record {
       came = added_more c.in-Ok.count _ held _ _ _ _ c.loop-place.invariant.came came;

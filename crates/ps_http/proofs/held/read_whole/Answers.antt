@@ -11,7 +11,7 @@ returns-clause-ok g c =
     let ready = t.count ∙ ap (λ w. min w (length held - c.args.size)) (sym t.len) in
     subst (λ w. OnOk c.fill.result (HasBody c.args.size w c.fill.new.body held c.take_ready-ready.new.held (g.S.Source.left c.args.source.now) (g.S.Source.left c.fill.new.source))) t.len
     (filled_result c.args.size _ c.take_ready-ready.result c.fill.result held c.take_ready-ready.new.held c.take_ready-ready.new.body c.fill.new.body _ _
-      c.requires.within ready refl c.fill.ensures.len t.front t.rest c.fill.ensures.ok)
+    c.requires.within ready refl c.fill.ensures.len t.front t.rest c.fill.ensures.ok)
 
 pub returns-clause-err : goal.returns-clause-err
 returns-clause-err g c =
