@@ -9,8 +9,14 @@ use Rattle.httparse.specs.Grammar.{AllPass, is_token_byte}
 use Rattle.std.proofs.lemmas.List.Elements.{All-weaker}
 use Rattle.std.proofs.lemmas.Str.Ascii.{IsAscii-from_all}
 use Rattle.std.proofs.lemmas.List.Sums.{split_at_first, passes_at_first}
-use Rattle.std.proofs.lemmas.Str.{IsUtf8-from_ascii, IsAscii-append}
+use Rattle.std.proofs.lemmas.Str.{IsUtf8-from_ascii, is_utf8-from_IsUtf8, IsUtf8-from_is_utf8, IsAscii-append}
 use Rattle.ps_time.specs.Number.{decimal_of}
+use Rattle.std.specs.Prelude.{is_some}
+use Rattle.std.specs.Option.{unwrap_or}
+use Rattle.std.specs.List.{slice_get}
+use Rattle.std.specs.Str.{is_utf8}
+use Rattle.std.proofs.lemmas.Bool.{true≢false}
+use Rattle.ps_http.specs.Message.{allowed}
 use Rattle.ps_http.specs.Fields.{cuts_at, behind, is_key, mark_of, peer_of}
 use Rattle.ps_http.specs.declared.message.PeerMark.{PeerMark}
 
@@ -84,3 +90,22 @@ token_is_ascii b token = grind (arith, nat_tests)
 pub token_text : (bytes : List ℕ) → AllPass is_token_byte bytes → IsUtf8 bytes
 token_text bytes token =
     IsUtf8-from_ascii bytes (IsAscii-from_all bytes (All-weaker (λ b. is_token_byte b ≡ true) (λ b. b < 128) token_is_ascii bytes token))
+
+-- ---- the first Allow field
+
+same_some : (v w : List ℕ) → Some v ≡ Some w → v ≡ w
+same_some v w same = ap (λ o. unwrap_or o v) same
+
+pub allowed_text : (values : List (List ℕ)) (value text : List ℕ) → Some value ≡ slice_get values 0 → text ≡ value → IsUtf8 value → Some text ≡ allowed values
+allowed_text [] value text first same utf8 = absurd (true≢false (ap is_some first))
+allowed_text (v ∷ values) value text first same utf8 =
+    let is = same_some value v first in
+    rw (is_utf8-from_IsUtf8 v (subst IsUtf8 is utf8)) (ap Some (same ∙ is))
+
+pub not_allowed : (values : List (List ℕ)) (value : List ℕ) → Some value ≡ slice_get values 0 → ¬ (IsUtf8 value) → None ≡ allowed values
+not_allowed [] value first bad = refl
+not_allowed (v ∷ values) value first bad = by_test (is_utf8 v) refl
+  where
+    by_test : (t : Bool) → is_utf8 v ≡ t → None ≡ allowed (v ∷ values)
+    by_test true utf8 = absurd (bad (subst IsUtf8 (sym (same_some value v first)) (IsUtf8-from_is_utf8 v utf8)))
+    by_test false other = rw other refl

@@ -1,12 +1,12 @@
 //! Reading the head at the front of bytes.
-ghost use Rattle.std.specs.Prelude.{◌≡◌, ◌≤◌, ◌*◌, ◌+◌, length, All, IfOk, IfErr, map, take, IsUtf8, Some, Ok};
+ghost use Rattle.std.specs.Prelude.{◌≡◌, ◌≤◌, ◌*◌, ◌+◌, length, All, IfOk, IfErr, map, take, IsUtf8, Some, Ok, codes};
 ghost use Rattle.std.specs.List.{before_first};
 ghost use Rattle.std.specs.Option.{option_map};
 ghost use Rattle.httparse.specs.Spans.{IsHeaderWithin, IsRequestOf, IsRequestWithin, IsResponseOf, IsResponseWithin};
 ghost use Rattle.ps_http.specs.Answer.{requests, responses};
-ghost use Rattle.ps_http.specs.Fields.{fields_in, cuts_at, behind};
+ghost use Rattle.ps_http.specs.Fields.{fields_in, values_of, cuts_at, behind};
 ghost use Rattle.ps_http.specs.Head.{IsHeaded, IsMessageOf, IsRefusedOr, HeadGives, HeadFault, unfinished};
-ghost use Rattle.ps_http.specs.Message.{body_length, fits_request, wants_length};
+ghost use Rattle.ps_http.specs.Message.{body_length, fits_request, wants_length, allowed};
 
 use crate::fault::HttpFault;
 use crate::fields::{are_peers, asks_close, count_named, first_named, peer, said_length};
@@ -194,6 +194,104 @@ pub fn request_head(
 {
     match find_request(bytes, spans) {
         Found::Whole(head) => whole_request(alloc, bytes, &spans[..head.headers], head, limits),
+        Found::Open => Err(unfinished(bytes.len(), limits)),
+        Found::Never => Err(HttpFault::BadHead),
+    }
+}
+
+fn allowed(alloc: Global, bytes: &[u8], spans: &[HeaderSpan]) -> Result<Option<Text>, Memory>
+    requires { All (IsHeaderWithin (length bytes.now)) spans.now }
+    ensures { IfOk result (λ t. t ≡ allowed (values_of (codes "allow") (fields_in bytes.now spans.now))) }
+{
+    let Some(value) = first_named(bytes, spans, b"allow") else {
+        return Ok(None);
+    };
+    match str::from_utf8(value) {
+        Ok(text) => {
+            let text = Text::new(alloc, text)?;
+            Ok(Some(text))
+        }
+        Err(_) => Ok(None),
+    }
+}
+
+/// A response without its body.
+fn response_without_body(
+    alloc: Global,
+    bytes: &[u8],
+    spans: &[HeaderSpan],
+    head: ResponseSpans,
+) -> Result<Response, Memory>
+    requires within { IsResponseWithin bytes.now spans.now head }
+    requires whole { IsResponseOf bytes.now spans.now head }
+    requires all { head.headers ≡ length spans.now }
+    ensures { IfOk result (λ response. IsMessageOf responses bytes.now response) }
+{
+    let allow = allowed(alloc, bytes, spans)?;
+    let close = asks_close(head.version, bytes, spans);
+    let body = Items::new(alloc);
+    Ok(Response {
+        status: head.code,
+        allow,
+        close,
+        body,
+    })
+}
+
+fn response_length(
+    bytes: &[u8],
+    spans: &[HeaderSpan],
+    head: ResponseSpans,
+    limits: HttpLimits,
+) -> Result<usize, HttpFault>
+    requires within { IsResponseWithin bytes.now spans.now head }
+    requires whole { IsResponseOf bytes.now spans.now head }
+    requires all { head.headers ≡ length spans.now }
+    ensures { HeadGives responses limits bytes.now head.len result }
+{
+    body_length(limits, true, true, bytes, spans)
+}
+
+fn whole_response(
+    alloc: Global,
+    bytes: &[u8],
+    spans: &[HeaderSpan],
+    head: ResponseSpans,
+    limits: HttpLimits,
+) -> Result<Headed<Response>, HttpFault>
+    requires within { IsResponseWithin bytes.now spans.now head }
+    requires whole { IsResponseOf bytes.now spans.now head }
+    requires all { head.headers ≡ length spans.now }
+    ensures ok { IfOk result (λ r. IsHeaded responses limits bytes.now r.message r.size r.length) }
+    ensures err { IfErr result (IsRefusedOr responses limits bytes.now) }
+{
+    let length = match response_length(bytes, spans, head, limits) {
+        Ok(length) => length,
+        Err(fault) => return Err(fault),
+    };
+    match response_without_body(alloc, bytes, spans, head) {
+        Ok(message) => Ok(Headed {
+            message,
+            size: head.len,
+            length,
+        }),
+        Err(Memory) => Err(HttpFault::Memory),
+    }
+}
+
+/// The same for a response.
+pub fn response_head(
+    alloc: Global,
+    bytes: &[u8],
+    spans: &mut [HeaderSpan],
+    limits: HttpLimits,
+) -> Result<Headed<Response>, HttpFault>
+    requires { length bytes.now ≤ 3 * length spans.old + 2 }
+    ensures ok { IfOk result (λ r. IsHeaded responses limits bytes.now r.message r.size r.length) }
+    ensures err { IfErr result (HeadFault responses limits bytes.now) }
+{
+    match find_response(bytes, spans) {
+        Found::Whole(head) => whole_response(alloc, bytes, &spans[..head.headers], head, limits),
         Found::Open => Err(unfinished(bytes.len(), limits)),
         Found::Never => Err(HttpFault::BadHead),
     }

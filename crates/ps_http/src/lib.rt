@@ -8,5 +8,6 @@ mod head;
 mod held;
 mod lines;
 pub mod message;
+mod next;
 pub mod reader;
 mod target;

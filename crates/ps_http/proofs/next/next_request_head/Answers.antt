@@ -1,7 +1,7 @@
 use Rattle.ps_http.specs.Answer.{requests}
 use Rattle.ps_http.proofs.KindLemmas.{lawful_requests}
 use Rattle.ps_http.proofs.NextLemmas.{looked_at, has_head, fault_at_head}
-use Rattle.ps_http.proofs.reader.next_request_head.Goals as goal
+use Rattle.ps_http.proofs.next.next_request_head.Goals as goal
 
 pub returns-in-Ok-request_head-clause-head : goal.returns-in-Ok-request_head-clause-head
 returns-in-Ok-request_head-clause-head g c =
