@@ -12,3 +12,4 @@ pub mod Next
 pub mod Reader
 pub mod Scan
 pub mod Target
+pub mod Written

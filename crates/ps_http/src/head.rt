@@ -131,7 +131,8 @@ fn fits_request(minor: u8, target: &[u8], bytes: &[u8], spans: &[HeaderSpan]) ->
     matches!(target, [b'/', ..])
 }
 
-fn wants_length(method: &[u8]) -> bool
+/// Whether a request with this method has a length.
+pub fn wants_length(method: &[u8]) -> bool
     ensures { result ≡ wants_length method.now }
 {
     method == b"POST".as_slice() || method == b"PUT".as_slice()

@@ -11,3 +11,4 @@ pub mod message;
 mod next;
 pub mod reader;
 mod target;
+pub mod written;
