@@ -37,7 +37,7 @@ consumes_message old held text tail came body now (Some l) (Some m) (Some r) a h
 
 -- ---- the front of the input
 
-take_more : (n : ℕ) (held more : List ℕ) → take n (held ++ more) ≡ take n held ++ take (n - length held) more
+pub take_more : (n : ℕ) (held more : List ℕ) → take n (held ++ more) ≡ take n held ++ take (n - length held) more
 take_more zero [] more = refl
 take_more (suc n) [] more = let e : suc n ≡ suc n - 0 = omega arith in ap (λ m. take m more) e
 take_more zero (x ∷ held) more = let e : 0 ≡ 0 - length (x ∷ held) = omega arith in ap (λ m. take m more) e

@@ -4,6 +4,7 @@ pub mod BodyLemmas
 pub mod CollectLemmas
 pub mod EndLemmas
 pub mod HeadLemmas
+pub mod LawLemmas
 pub mod HeldLemmas
 pub mod KindLemmas
 pub mod NextLemmas

@@ -1,8 +1,8 @@
 -- From the head and the body that were read to what a call answers.
-use Rattle.std.proofs.Common.{◌≡◌, ◌≤◌, ◌<◌, ◌∙◌, ℕ, List, ◌++◌, length, take, min, refl, sym, ap, subst, Option, Some, None, Result, Ok, Err, arith}
+use Rattle.std.proofs.Common.{◌≡◌, ◌≤◌, ◌<◌, ◌∙◌, ℕ, List, ◌++◌, length, take, min, refl, sym, ap, subst, Option, Some, None, Result, Ok, Err, arith, length-append}
 use Rattle.std.specs.Prelude.{IfSome, IfErr, IsErrOf, ⊤}
 use Rattle.std.specs.Io.KnownBytes.{prepend_known, IsAtEnd}
-use Rattle.ps_http.specs.Answer.{Kind, Refuses, WasDue}
+use Rattle.ps_http.specs.Answer.{Kind, Refuses, IsBegun, WasDue}
 use Rattle.ps_http.specs.Body.{BodyFault}
 use Rattle.ps_http.specs.Collected.{Added, IsEnough, Collected, Interrupted}
 use Rattle.ps_http.specs.Head.{IsHeaded, HeadFault}
@@ -10,7 +10,7 @@ use Rattle.ps_http.specs.Next.{HasHead, FaultAt}
 use Rattle.ps_http.specs.declared.fault.HttpFault.{HttpFault}
 use Rattle.ps_http.specs.declared.fault.HttpFault.TheVariants.{BadHead, NoLength, TooLarge, EndInside, ReadFault, AfterRefusal, Memory}
 use Rattle.ps_http.specs.declared.message.HttpLimits.{HttpLimits}
-use Rattle.ps_http.proofs.AnswerLemmas.{head_refuses, body_refusal, body_due, head_due, head_held}
+use Rattle.ps_http.proofs.AnswerLemmas.{input_is, head_refuses, body_refusal, body_due, head_due, head_held}
 use Rattle.ps_http.proofs.CollectLemmas.{take_upto}
 use Rattle.ps_http.proofs.KindLemmas.{Lawful}
 
@@ -75,3 +75,19 @@ module _ {H M : Type 0} (kind : Kind H M) (limits : HttpLimits) where
   pub due_of : {A : Type 0} (r : Result A HttpFault) (old : List ℕ) (left rest : Option (List ℕ)) → IfErr r (λ fault. FaultAt kind limits old fault left rest)
       → IsErrOf r ReadFault → WasDue kind limits old left rest
   due_of r old left rest f is = subst (λ q. IfErr q (λ fault. FaultAt kind limits old fault left rest)) is f
+
+-- ---- an input that has a byte
+
+pub has_byte : (old held : List ℕ) (left rest : Option (List ℕ)) → Added old held left rest → 0 < length held → IfSome (prepend_known old left) (λ input. 0 < length input)
+has_byte old held left rest a some =
+    input_is (λ input. 0 < length input) old held left rest a (λ more is. omega (arith, some, length-append held more))
+
+pub begun : (fault : HttpFault) (o : Option (List ℕ)) → IfSome o (λ input. 0 < length input) → IfSome o (λ input. IsBegun input fault)
+begun fault None some = tt
+begun BadHead (Some input) some = some
+begun NoLength (Some input) some = some
+begun TooLarge (Some input) some = some
+begun (EndInside n) (Some input) some = some
+begun ReadFault (Some input) some = tt
+begun AfterRefusal (Some input) some = tt
+begun Memory (Some input) some = tt

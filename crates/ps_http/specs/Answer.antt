@@ -78,6 +78,16 @@ Refuses kind limits input ReadFault = ⊤
 Refuses kind limits input AfterRefusal = ⊤
 Refuses kind limits input Memory = ⊤
 
+-- the input has a byte, where it is refused
+abbrev pub IsBegun : List ℕ → HttpFault → Type 0
+IsBegun input BadHead = 0 < length input
+IsBegun input TooLarge = 0 < length input
+IsBegun input NoLength = 0 < length input
+IsBegun input (EndInside n) = 0 < length input
+IsBegun input ReadFault = ⊤
+IsBegun input AfterRefusal = ⊤
+IsBegun input Memory = ⊤
+
 -- a read is made: the head has no end yet and is within its limit, or the head is whole and the body is short
 abbrev pub IsDue : {H M : Type 0} → Kind H M → HttpLimits → List ℕ → Type 0
 IsDue kind limits came = ((length came < limits.head) × (has_head_end came ≡ false)) ⊎ EndsInBody kind limits came
@@ -93,3 +103,38 @@ WasAtEnd old new = IsAtEnd old × IsAtEnd new
 -- more was to be read when these bytes had come, behind those that were held
 abbrev pub WasDue : {H M : Type 0} → Kind H M → HttpLimits → List ℕ → Option (List ℕ) → Option (List ℕ) → Type 0
 WasDue kind limits held old new = (came : List ℕ) × Consumes old new came × IsDue kind limits (held ++ came)
+
+-- ---- the answer of an input, whatever its source and memory do
+
+-- the faults that speak of the bytes
+abbrev pub is_decided : HttpFault → Bool
+is_decided BadHead = true
+is_decided TooLarge = true
+is_decided NoLength = true
+is_decided (EndInside n) = true
+is_decided ReadFault = false
+is_decided AfterRefusal = false
+is_decided Memory = false
+
+-- a message stands at the front
+abbrev pub Begins : {H M : Type 0} → Kind H M → HttpLimits → List ℕ → M → Type 0
+Begins kind limits input message = (bytes : List ℕ) × (rest : List ℕ) × (input ≡ bytes ++ rest) × IsMessage kind limits bytes message
+
+abbrev pub IsRequestAnswer : HttpLimits → List ℕ → Result (Option Request) HttpFault → Type 0
+IsRequestAnswer limits input (Ok None) = input ≡ []
+IsRequestAnswer limits input (Ok (Some request)) = Begins requests limits input request
+IsRequestAnswer limits input (Err fault) = (is_decided fault ≡ true) × Refuses requests limits input fault × (0 < length input)
+
+abbrev pub IsResponseAnswer : HttpLimits → List ℕ → Result Response HttpFault → Type 0
+IsResponseAnswer limits input (Ok response) = Begins responses limits input response
+IsResponseAnswer limits input (Err fault) = (is_decided fault ≡ true) × Refuses responses limits input fault
+
+abbrev pub OneRequestAnswer : Type 0
+OneRequestAnswer =
+    (limits : HttpLimits) (input : List ℕ) (a b : Result (Option Request) HttpFault)
+    → IsRequestAnswer limits input a → IsRequestAnswer limits input b → a ≡ b
+
+abbrev pub OneResponseAnswer : Type 0
+OneResponseAnswer =
+    (limits : HttpLimits) (input : List ℕ) (a b : Result Response HttpFault)
+    → IsResponseAnswer limits input a → IsResponseAnswer limits input b → a ≡ b

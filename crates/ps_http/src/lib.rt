@@ -6,9 +6,12 @@ mod fields;
 mod find;
 mod head;
 mod held;
+pub mod law;
 mod lines;
 pub mod message;
 mod next;
 pub mod reader;
 mod target;
+#[cfg(test)]
+mod tests;
 pub mod written;

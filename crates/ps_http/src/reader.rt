@@ -3,7 +3,7 @@ ghost use Rattle.std.specs.Prelude.{◌≡◌, ◌≤◌, ◌<◌, ◌↔◌, []
 ghost use Rattle.std.specs.Borrow.{sem};
 ghost use Rattle.std.specs.Io.KnownBytes.{prepend_known, IsAtEnd};
 ghost use Rattle.ps_ports.specs.Causes.{Rose};
-ghost use Rattle.ps_http.specs.Answer.{requests, responses, Refuses, TakesMessage, WasAtEnd, WasDue};
+ghost use Rattle.ps_http.specs.Answer.{IsBegun, requests, responses, Refuses, TakesMessage, WasAtEnd, WasDue};
 ghost use Rattle.ps_http.specs.Lent.{LendsSource};
 
 use crate::fault::HttpFault;
@@ -86,6 +86,7 @@ impl<S: Source> Reader<S> {
             (prepend_known self.old.held (S.left self.old.source)) (prepend_known self.new.held (S.left self.new.source)))) }
         ensures end { result ≡ Ok None → WasAtEnd (prepend_known self.old.held (S.left self.old.source)) (prepend_known self.new.held (S.left self.new.source)) }
         ensures refusal { IfErr result (λ fault. IfSome (prepend_known self.old.held (S.left self.old.source)) (λ input. Refuses requests limits input fault)) }
+        ensures begun { IfErr result (λ fault. IfSome (prepend_known self.old.held (S.left self.old.source)) (λ input. IsBegun input fault)) }
 
         // It doesn't give up by itself, and reads only what is wanting.
         ensures fault { IsErrOf result HttpFault.ReadFault → Rose (S.read_faults self.old.source) (S.read_faults self.new.source) }
@@ -141,14 +142,14 @@ impl<S: Source> Reader<S> {
         if self.refused {
             return Err(HttpFault::AfterRefusal);
         }
-        let read = next_response(
+        let answer = next_response(
             alloc,
             &mut self.source,
             &mut self.held,
             self.spans.as_mut_slice(),
             limits,
         );
-        self.refused = read.is_err();
-        read
+        self.refused = answer.is_err();
+        answer
     }
 }

@@ -3,7 +3,7 @@ use Rattle.ps_http.specs.Answer.{requests}
 use Rattle.ps_http.specs.declared.message.Request.{Request}
 use Rattle.ps_http.proofs.AnswerLemmas.{takes}
 use Rattle.ps_http.proofs.KindLemmas.{lawful_requests}
-use Rattle.ps_http.proofs.NextLemmas.{fault_at_body}
+use Rattle.ps_http.proofs.NextLemmas.{fault_at_body, begun}
 use Rattle.ps_http.proofs.next.next_request.Goals as goal
 
 pub returns-in-Ok-clause-message : goal.returns-in-Ok-clause-message
@@ -16,3 +16,7 @@ pub returns-in-Err-read_body-clause-err : goal.returns-in-Err-read_body-clause-e
 returns-in-Err-read_body-clause-err g c =
     let h = rw c.in-Ok-Some.field-0-is at c.in-Ok-Some.ensures.head in
     fault_at_body requests lawful_requests c.args.limits _ _ _ c.in-Err-read_body.fault _ _ _ _ _ h c.in-Err-read_body.ensures.err
+
+pub returns-in-Err-read_body-clause-begun : goal.returns-in-Err-read_body-clause-begun
+returns-in-Err-read_body-clause-begun g c =
+    begun c.in-Err-read_body.fault _ (rw c.in-Ok-Some.field-0-is at c.in-Ok-Some.ensures.some)
