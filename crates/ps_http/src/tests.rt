@@ -1,11 +1,11 @@
 //! Tests of what no clause says: that calls succeed with ample memory, and that the definitions mean
 //! what the standards do.
-ghost use Rattle.std.specs.Prelude.{◌≡◌, IsTrue, IfSome, Some};
+ghost use Rattle.std.specs.Prelude.{◌≡◌, IsTrue, false};
 ghost use Rattle.std.specs.Io.KnownBytes.{Appends};
 ghost use Rattle.ps_http.specs.Written.{response_text, fault_response};
 
 use crate::fault::HttpFault;
-use crate::message::{HttpLimits, PeerMark, Request, Response};
+use crate::message::{HttpLimits, PeerMark, Request};
 use crate::reader::Reader;
 use crate::written::{fixed_reply, request_bytes, response_bytes};
 use ps_ports::all::write_all;
@@ -14,7 +14,7 @@ use ps_ports::memory_source::MemorySource;
 use ps_ports::memory_stream::MemoryStream;
 use ps_ports::source::Source;
 use ps_ports::stream::Stream;
-use ps_time::items::Items;
+use ps_time::memory::Memory;
 use ps_time::text::Text;
 use std::alloc::{AllocError, Global};
 use std::process::Abort;
@@ -73,11 +73,14 @@ const LIMITS: HttpLimits = HttpLimits {
     body: 1_048_576,
 };
 
-/// What the first request of the bytes comes to, read in such pieces.
-fn outcome(alloc: Global, bytes: &[u8], most: usize) -> Result<&'static str, Fail> {
+fn kept_word(request: &Request) -> &'static str {
+    if request.close { "close" } else { "ok" }
+}
+
+fn request_outcome(alloc: Global, bytes: &[u8], most: usize) -> Result<&'static str, Fail> {
     let mut reader = reader(alloc, bytes, most)?;
     match reader.read_request(alloc, LIMITS) {
-        Ok(Some(_)) => Ok("ok"),
+        Ok(Some(request)) => Ok(kept_word(&request)),
         Ok(None) => Ok("none"),
         Err(fault) => Ok(word(fault, bytes.len())),
     }
@@ -89,6 +92,14 @@ fn response_outcome(alloc: Global, bytes: &[u8], most: usize) -> Result<&'static
         Ok(_) => Ok("ok"),
         Err(fault) => Ok(word(fault, bytes.len())),
     }
+}
+
+/// What the first message of the bytes comes to, read in such pieces.
+fn outcome(alloc: Global, bytes: &[u8], most: usize, request: bool) -> Result<&'static str, Fail> {
+    if request {
+        return request_outcome(alloc, bytes, most);
+    }
+    response_outcome(alloc, bytes, most)
 }
 
 /// The bytes of a case, in which `~` stands for CR LF, and `|` for LF alone.
@@ -105,142 +116,162 @@ fn expanded(alloc: Global, case: &str) -> Result<Vec<u8>, AllocError> {
 }
 
 // What is expected, and the bytes.
-const REQUESTS: &str = "none 
-ok GET / HTTP/1.1~Host: a~~
-ok GET /psch HTTP/1.1~Host: a~~
-inside GET /psch
-inside G
-inside GET 
-inside GET /
-inside GET /psch HTTP/1.1
-inside GET /psch HTTP/1.1~
-inside GET /psch HTTP/1.1~Host
-inside GET /psch HTTP/1.1~Host: a
-inside GET /psch HTTP/1.1~Host: a~
-inside ~
-inside ||
-ok GET / HTTP/1.1|Host: a||
-ok ~~GET / HTTP/1.1~Host: a~~
-ok GET / HTTP/1.0~~
-ok GET / HTTP/1.0~Host: a~Host: b~~
-bad GET / HTTP/1.1~~
-bad GET / HTTP/1.1~Host: a~host: b~~
-bad GET / HTTP/1.2~Host: a~~
-bad GET / HTTP/2.0~Host: a~~
-bad GET /  HTTP/1.1~Host: a~~
-bad GET a HTTP/1.1~Host: a~~
-bad GET http://a/ HTTP/1.1~Host: a~~
-bad OPTIONS * HTTP/1.1~Host: a~~
-bad G(T / HTTP/1.1~Host: a~~
-bad  GET / HTTP/1.1~Host: a~~
-bad GET / HTTP/1.1~Host : a~~
-bad GET / HTTP/1.1~Host: a~: b~~
-bad GET / HTTP/1.1~Host: a~b~~
-bad GET / HTTP/1.1~Host: a~ folded~~
-bad GET / HTTP/1.1~Host: a~Content-Length: ~~
-bad GET / HTTP/1.1~Host: a~Content-Length: x~~
-bad GET / HTTP/1.1~Host: a~Content-Length: +1~~
-bad GET / HTTP/1.1~Host: a~Content-Length: -1~~
-bad GET / HTTP/1.1~Host: a~Content-Length: 1 1~~
-bad GET / HTTP/1.1~Host: a~Content-Length: 0000000001~~
-bad GET / HTTP/1.1~Host: a~Content-Length: 0~Content-Length: 0~~
-bad GET / HTTP/1.1~Host: a~Content-Length: 0,0~~
-ok GET / HTTP/1.1~Host: a~Content-Length: 000000001~~b
-ok GET / HTTP/1.1~Host: a~content-length:\t2 ~~bc
-inside GET / HTTP/1.1~Host: a~Content-Length: 2~~b
-inside GET / HTTP/1.1~Host: a~Content-Length: 2~~
-ok POST / HTTP/1.1~Host: a~Content-Length: 0~~
-length POST / HTTP/1.1~Host: a~~
-length PUT / HTTP/1.1~Host: a~~
-ok DELETE / HTTP/1.1~Host: a~~
-ok post / HTTP/1.1~Host: a~~
-length POST / HTTP/1.1~Host: a~Transfer-Encoding: chunked~~
-length GET / HTTP/1.1~Host: a~transfer-encoding: identity~~
-length POST / HTTP/1.1~Host: a~Transfer-Encoding: chunked~Content-Length: 1~~b
-large POST / HTTP/1.1~Host: a~Content-Length: 1048577~~
-large POST / HTTP/1.1~Host: a~Content-Length: 999999999~~
-large POST / HTTP/1.1~Host: a~Transfer-Encoding: chunked~Content-Length: 1048577~~
-ok GET / HTTP/1.1~Host: a~ps-peer: 1 k~~
-ok GET / HTTP/1.1~Host: a~ps-peer: 65535 0aZ~~
-ok GET / HTTP/1.1~Host: a~ps-peer: 00001 k~~
-bad GET / HTTP/1.1~Host: a~ps-peer: 65536 k~~
-bad GET / HTTP/1.1~Host: a~ps-peer: 000001 k~~
-bad GET / HTTP/1.1~Host: a~ps-peer: 1  k~~
-bad GET / HTTP/1.1~Host: a~ps-peer: 1 ~~
-bad GET / HTTP/1.1~Host: a~ps-peer: 1~~
-bad GET / HTTP/1.1~Host: a~ps-peer:  k~~
-bad GET / HTTP/1.1~Host: a~ps-peer: 1 k k~~
-bad GET / HTTP/1.1~Host: a~ps-peer: 1 k-k~~
-bad GET / HTTP/1.1~Host: a~PS-Peer: 1 k~ps-peer: x~~
-ok GET / HTTP/1.1~Host: a~ps-peer: 1 k~ps-peer: 2 k~~
-bad GET / HTTP/1.1~Host: a~Content-Length: 1048577~ps-peer: x~~
-bad GET~~
-bad HTTP/1.1 200 OK~Content-Length: 0~~";
+static REQUESTS: [(&str, &str); 74] = [
+    ("none", ""),
+    ("ok", "GET / HTTP/1.1~Host: a~~"),
+    ("ok", "GET /psch HTTP/1.1~Host: a~~"),
+    ("inside", "GET /psch"),
+    ("inside", "G"),
+    ("inside", "GET "),
+    ("inside", "GET /"),
+    ("inside", "GET /psch HTTP/1.1"),
+    ("inside", "GET /psch HTTP/1.1~"),
+    ("inside", "GET /psch HTTP/1.1~Host"),
+    ("inside", "GET /psch HTTP/1.1~Host: a"),
+    ("inside", "GET /psch HTTP/1.1~Host: a~"),
+    ("inside", "~"),
+    ("inside", "||"),
+    ("ok", "GET / HTTP/1.1|Host: a||"),
+    ("ok", "~~GET / HTTP/1.1~Host: a~~"),
+    ("close", "GET / HTTP/1.0~~"),
+    ("close", "GET / HTTP/1.0~Host: a~Host: b~~"),
+    ("close", "GET / HTTP/1.0~Connection: keep-alive~~"),
+    (
+        "close",
+        "GET / HTTP/1.1~Host: a~Connection: keep-alive~CONNECTION: ClOsE~~",
+    ),
+    ("ok", "GET / HTTP/1.1~Host: a~Connection: close, x~~"),
+    ("bad", "GET / HTTP/1.1~~"),
+    ("bad", "GET / HTTP/1.1~Host: a~host: b~~"),
+    ("bad", "GET / HTTP/1.2~Host: a~~"),
+    ("bad", "GET / HTTP/2.0~Host: a~~"),
+    ("bad", "GET /  HTTP/1.1~Host: a~~"),
+    ("bad", "GET a HTTP/1.1~Host: a~~"),
+    ("bad", "GET http://a/ HTTP/1.1~Host: a~~"),
+    ("bad", "OPTIONS * HTTP/1.1~Host: a~~"),
+    ("bad", "G(T / HTTP/1.1~Host: a~~"),
+    ("bad", " GET / HTTP/1.1~Host: a~~"),
+    ("bad", "GET / HTTP/1.1~Host : a~~"),
+    ("bad", "GET / HTTP/1.1~Host: a~: b~~"),
+    ("bad", "GET / HTTP/1.1~Host: a~b~~"),
+    ("bad", "GET / HTTP/1.1~Host: a~ folded~~"),
+    ("bad", "GET / HTTP/1.1~Host: a~Content-Length: ~~"),
+    ("bad", "GET / HTTP/1.1~Host: a~Content-Length: x~~"),
+    ("bad", "GET / HTTP/1.1~Host: a~Content-Length: +1~~"),
+    ("bad", "GET / HTTP/1.1~Host: a~Content-Length: -1~~"),
+    ("bad", "GET / HTTP/1.1~Host: a~Content-Length: 1 1~~"),
+    ("bad", "GET / HTTP/1.1~Host: a~Content-Length: 0000000001~~"),
+    (
+        "bad",
+        "GET / HTTP/1.1~Host: a~Content-Length: 0~Content-Length: 0~~",
+    ),
+    ("bad", "GET / HTTP/1.1~Host: a~Content-Length: 0,0~~"),
+    ("ok", "GET / HTTP/1.1~Host: a~Content-Length: 000000001~~b"),
+    ("ok", "GET / HTTP/1.1~Host: a~content-length:\t2 ~~bc"),
+    ("inside", "GET / HTTP/1.1~Host: a~Content-Length: 2~~b"),
+    ("inside", "GET / HTTP/1.1~Host: a~Content-Length: 2~~"),
+    ("ok", "POST / HTTP/1.1~Host: a~Content-Length: 0~~"),
+    ("length", "POST / HTTP/1.1~Host: a~~"),
+    ("length", "PUT / HTTP/1.1~Host: a~~"),
+    ("ok", "DELETE / HTTP/1.1~Host: a~~"),
+    ("ok", "post / HTTP/1.1~Host: a~~"),
+    (
+        "length",
+        "POST / HTTP/1.1~Host: a~Transfer-Encoding: chunked~~",
+    ),
+    (
+        "length",
+        "GET / HTTP/1.1~Host: a~transfer-encoding: identity~~",
+    ),
+    (
+        "length",
+        "POST / HTTP/1.1~Host: a~Transfer-Encoding: chunked~Content-Length: 1~~b",
+    ),
+    ("large", "POST / HTTP/1.1~Host: a~Content-Length: 1048577~~"),
+    (
+        "large",
+        "POST / HTTP/1.1~Host: a~Content-Length: 999999999~~",
+    ),
+    (
+        "large",
+        "POST / HTTP/1.1~Host: a~Transfer-Encoding: chunked~Content-Length: 1048577~~",
+    ),
+    ("ok", "GET / HTTP/1.1~Host: a~ps-peer: 1 k~~"),
+    ("ok", "GET / HTTP/1.1~Host: a~ps-peer: 65535 0aZ~~"),
+    ("ok", "GET / HTTP/1.1~Host: a~ps-peer: 00001 k~~"),
+    ("bad", "GET / HTTP/1.1~Host: a~ps-peer: 65536 k~~"),
+    ("bad", "GET / HTTP/1.1~Host: a~ps-peer: 000001 k~~"),
+    ("bad", "GET / HTTP/1.1~Host: a~ps-peer: 1  k~~"),
+    ("bad", "GET / HTTP/1.1~Host: a~ps-peer: 1 ~~"),
+    ("bad", "GET / HTTP/1.1~Host: a~ps-peer: 1~~"),
+    ("bad", "GET / HTTP/1.1~Host: a~ps-peer:  k~~"),
+    ("bad", "GET / HTTP/1.1~Host: a~ps-peer: 1 k k~~"),
+    ("bad", "GET / HTTP/1.1~Host: a~ps-peer: 1 k-k~~"),
+    ("bad", "GET / HTTP/1.1~Host: a~PS-Peer: 1 k~ps-peer: x~~"),
+    ("ok", "GET / HTTP/1.1~Host: a~ps-peer: 1 k~ps-peer: 2 k~~"),
+    (
+        "bad",
+        "GET / HTTP/1.1~Host: a~Content-Length: 1048577~ps-peer: x~~",
+    ),
+    ("bad", "GET~~"),
+    ("bad", "HTTP/1.1 200 OK~Content-Length: 0~~"),
+];
+
+/// Whether a case comes to what is expected, in one piece, in single bytes and in sevens.
+fn is_outcome(alloc: Global, wanted: &str, case: &str, request: bool) -> Result<bool, Fail> {
+    let bytes = expanded(alloc, case)?;
+    let mut right = true;
+    for most in [0, 1, 7] {
+        let comes = outcome(alloc, bytes.as_slice(), most, request)?;
+        right = right && comes == wanted;
+    }
+    Ok(right)
+}
+
+fn check_cases(alloc: Global, cases: &[(&str, &str)], request: bool) -> Result<(), Fail> {
+    for (wanted, case) in cases {
+        if !is_outcome(alloc, wanted, case, request)? {
+            return Err(Fail::new(format_args!("{case:?} isn't {wanted}")));
+        }
+    }
+    Ok(())
+}
 
 #[test]
 fn requests_and_their_refusals(rt: HostRuntime) -> Result<(), Fail> {
-    let alloc = rt.alloc();
-    for line in REQUESTS.split('\n') {
-        let Some((wanted, case)) = line.split_once(' ') else {
-            panic!(rt; "no case");
-        };
-        let bytes = expanded(alloc, case)?;
-        for most in [0, 1, 7] {
-            assert_eq!(rt;
-                outcome(alloc, bytes.as_slice(), most)?,
-                wanted,
-                "{case} {most}"
-            );
-        }
-    }
-    Ok(())
+    check_cases(rt.alloc(), &REQUESTS, true)
 }
 
-const RESPONSES: &str = "inside 
-ok HTTP/1.1 200 OK~Content-Length: 0~~
-ok HTTP/1.1 200~Content-Length: 1~~b
-ok HTTP/1.0 404 Not Found~Content-Length: 0~~
-length HTTP/1.1 204 No Content~~
-length HTTP/1.1 200 OK~Transfer-Encoding: chunked~Content-Length: 0~~
-bad HTTP/1.1 20 OK~Content-Length: 0~~
-bad HTTP/1.1 200 OK~Content-Length: 0~Content-Length: 0~~
-bad HTTP/1.1 200 OK~Content-Length: 0~ps-peer: x~~
-bad GET / HTTP/1.1~Host: a~~
-large HTTP/1.1 200 OK~Content-Length: 1048577~~
-inside HTTP/1.1 200 OK~Content-Length: 1~~
-inside HTTP/1.1 200";
+static RESPONSES: [(&str, &str); 13] = [
+    ("inside", ""),
+    ("ok", "HTTP/1.1 200 OK~Content-Length: 0~~"),
+    ("ok", "HTTP/1.1 200~Content-Length: 1~~b"),
+    ("ok", "HTTP/1.0 404 Not Found~Content-Length: 0~~"),
+    ("length", "HTTP/1.1 204 No Content~~"),
+    (
+        "length",
+        "HTTP/1.1 200 OK~Transfer-Encoding: chunked~Content-Length: 0~~",
+    ),
+    ("bad", "HTTP/1.1 20 OK~Content-Length: 0~~"),
+    (
+        "bad",
+        "HTTP/1.1 200 OK~Content-Length: 0~Content-Length: 0~~",
+    ),
+    ("bad", "HTTP/1.1 200 OK~Content-Length: 0~ps-peer: x~~"),
+    ("bad", "GET / HTTP/1.1~Host: a~~"),
+    ("large", "HTTP/1.1 200 OK~Content-Length: 1048577~~"),
+    ("inside", "HTTP/1.1 200 OK~Content-Length: 1~~"),
+    ("inside", "HTTP/1.1 200"),
+];
 
 #[test]
 fn responses_and_their_refusals(rt: HostRuntime) -> Result<(), Fail> {
-    let alloc = rt.alloc();
-    for line in RESPONSES.split('\n') {
-        let Some((wanted, case)) = line.split_once(' ') else {
-            panic!(rt; "no case");
-        };
-        let bytes = expanded(alloc, case)?;
-        for most in [0, 1, 7] {
-            assert_eq!(rt;
-                response_outcome(alloc, bytes.as_slice(), most)?,
-                wanted,
-                "{case} {most}"
-            );
-        }
-    }
-    Ok(())
+    check_cases(rt.alloc(), &RESPONSES, false)
 }
 
 // A request of curl, and what follows it.
-const CURL: &[u8] =
-    b"POST /pscheduler/tasks HTTP/1.1\r\nHost: localhost:8080\r\nUser-Agent: curl/8.5.0\r\nAccept: */*\r\nContent-Type: application/json\r\nContent-Length: 4\r\n\r\nbodyGET /a?b?c HTTP/1.0\r\nps-peer: 00007 Key1\r\nPS-PEER: 8 other\r\nConnection: keep-alive\r\n\r\n";
-
-fn is_first(request: &Request) -> bool {
-    request.method.is("POST")
-        && request.path.is("/pscheduler/tasks")
-        && request.query.is_none()
-        && request.peer.is_none()
-        && !request.close
-        && request.body.as_slice() == b"body".as_slice()
-}
+static CURL: &[u8] =
+    b"POST /pscheduler/tasks HTTP/1.1\r\nHost: localhost:8080\r\nUser-Agent: curl/8.5.0\r\nAccept: */*\r\nContent-Type: application/json\r\nContent-Length: 4\r\n\r\nbodyGET /a?b?c HTTP/1.0\r\nps-peer: 00007 Key1\r\nPS-PEER: 8 other\r\n\r\n";
 
 fn is_mark(peer: &Option<PeerMark>, number: u16, key: &str) -> bool {
     match peer {
@@ -249,61 +280,45 @@ fn is_mark(peer: &Option<PeerMark>, number: u16, key: &str) -> bool {
     }
 }
 
-fn is_second(request: &Request) -> bool {
-    let query = match &request.query {
-        Some(query) => query.is("b?c"),
+fn is_query(query: &Option<Text>, text: &str) -> bool {
+    match query {
+        Some(query) => query.is(text),
         None => false,
-    };
-    query
-        && request.path.is("/a")
-        && is_mark(&request.peer, 7, "Key1")
-        && request.close
-        && request.body.len() == 0
+    }
+}
+
+fn is_first(request: &Request) -> bool {
+    request.path.is("/pscheduler/tasks")
+        && request.query.is_none()
+        && request.body.as_slice() == b"body".as_slice()
+}
+
+fn is_second(request: &Request) -> bool {
+    request.path.is("/a") && is_query(&request.query, "b?c") && is_mark(&request.peer, 7, "Key1")
+}
+
+fn reads(alloc: Global, reader: &mut Reader<Pieces<MemorySource>>, first: bool) -> bool {
+    match reader.read_request(alloc, LIMITS) {
+        Ok(Some(request)) => if first {
+            is_first(&request)
+        } else {
+            is_second(&request)
+        },
+        _ => false,
+    }
+}
+
+fn reads_both(alloc: Global, bytes: &[u8], most: usize) -> Result<bool, Fail> {
+    let mut reader = reader(alloc, bytes, most)?;
+    let both = reads(alloc, &mut reader, true) && reads(alloc, &mut reader, false);
+    Ok(both && matches!(reader.read_request(alloc, LIMITS), Ok(None)))
 }
 
 #[test]
 fn two_requests_in_one_piece_and_in_many(rt: HostRuntime) -> Result<(), Fail> {
-    let alloc = rt.alloc();
     for most in [0, 1, 7] {
-        let mut reader = reader(alloc, CURL, most)?;
-        let Ok(Some(first)) = reader.read_request(alloc, LIMITS) else {
-            panic!(rt; "no first request");
-        };
-        assert!(rt; is_first(&first));
-        let Ok(Some(second)) = reader.read_request(alloc, LIMITS) else {
-            panic!(rt; "no second request");
-        };
-        assert!(rt; is_second(&second));
-        assert!(rt; matches!(reader.read_request(alloc, LIMITS), Ok(None)));
-        assert_eq!(rt; reader.into_source().inner.faults(), 0);
+        assert!(rt; reads_both(rt.alloc(), CURL, most)?);
     }
-    Ok(())
-}
-
-fn closes(alloc: Global, head: &[u8]) -> Result<bool, Fail> {
-    match reader(alloc, head, 0)?.read_request(alloc, LIMITS) {
-        Ok(Some(request)) => Ok(request.close),
-        _ => Ok(false),
-    }
-}
-
-#[test]
-fn a_connection_that_closes(rt: HostRuntime) -> Result<(), Fail> {
-    let alloc = rt.alloc();
-    assert!(rt;
-        closes(
-            alloc,
-            b"GET / HTTP/1.1\r\nHost: a\r\nConnection: keep-alive\r\nCONNECTION: ClOsE\r\n\r\n"
-        )?
-    );
-    assert!(rt;
-        !closes(
-            alloc,
-            b"GET / HTTP/1.1\r\nHost: a\r\nConnection: close, x\r\n\r\n"
-        )?
-    );
-    assert!(rt; !closes(alloc, b"GET / HTTP/1.1\r\nHost: a\r\n\r\n")?);
-    assert!(rt; closes(alloc, b"GET / HTTP/1.0\r\n\r\n")?);
     Ok(())
 }
 
@@ -320,180 +335,149 @@ fn long_head(alloc: Global, fields: usize, padding: usize) -> Result<Vec<u8>, Fa
     Ok(head)
 }
 
-// A head of 16,384 bytes and one of 16,385, 64 fields and 65.
+fn head_outcome(
+    alloc: Global,
+    fields: usize,
+    padding: usize,
+    count: usize,
+) -> Result<&'static str, Fail> {
+    let head = long_head(alloc, fields, padding)?;
+    let count = head.len().min(count);
+    request_outcome(alloc, &head.as_slice()[..count], 0)
+}
+
+// A head of 16,384 bytes and one of 16,385, 64 fields and 65, and heads without an end.
 #[test]
 fn the_limits_of_a_head(rt: HostRuntime) -> Result<(), Fail> {
     let alloc = rt.alloc();
-    for (fields, padding, wanted) in [
-        (1, 16_358, "ok"),
-        (1, 16_359, "large"),
-        (64, 1, "ok"),
-        (65, 1, "large"),
-    ] {
-        let head = long_head(alloc, fields, padding)?;
-        assert_eq!(rt;
-            outcome(alloc, head.as_slice(), 0)?,
-            wanted,
-            "{fields} {padding}"
-        );
-        assert_eq!(rt;
-            outcome(alloc, head.as_slice(), 7)?,
-            wanted,
-            "{fields} {padding} in pieces"
-        );
-    }
-    // One byte less than the limit, and the end.
-    let head = long_head(alloc, 1, 20_000)?;
-    assert_eq!(rt; outcome(alloc, &head.as_slice()[..16_384], 0)?, "large");
-    assert_eq!(rt; outcome(alloc, &head.as_slice()[..16_383], 0)?, "inside");
+    assert_eq!(rt; head_outcome(alloc, 1, 16_358, 20_000)?, "ok");
+    assert_eq!(rt; head_outcome(alloc, 1, 16_359, 20_000)?, "large");
+    assert_eq!(rt; head_outcome(alloc, 64, 1, 20_000)?, "ok");
+    assert_eq!(rt; head_outcome(alloc, 65, 1, 20_000)?, "large");
+    assert_eq!(rt; head_outcome(alloc, 1, 20_000, 16_384)?, "large");
+    assert_eq!(rt; head_outcome(alloc, 1, 20_000, 16_383)?, "inside");
     Ok(())
 }
 
-fn with_body(alloc: Global, head: &[u8], count: usize) -> Result<Vec<u8>, Fail> {
-    let mut bytes = head.to_vec(alloc)?;
+fn with_body(alloc: Global, count: usize) -> Result<Vec<u8>, Fail> {
+    let mut bytes = b"POST / HTTP/1.1\r\nHost: a\r\nContent-Length: 1048576\r\n\r\n".to_vec(alloc)?;
     for _ in 0..count {
         bytes.push(b'b')?;
     }
     Ok(bytes)
 }
 
+fn reads_one(alloc: Global, reader: &mut Reader<Pieces<MemorySource>>) -> bool {
+    matches!(reader.read_request(alloc, LIMITS), Ok(Some(_)))
+}
+
+fn next_fault(alloc: Global, reader: &mut Reader<Pieces<MemorySource>>) -> Option<HttpFault> {
+    match reader.read_request(alloc, LIMITS) {
+        Ok(_) => None,
+        Err(fault) => Some(fault),
+    }
+}
+
+// One byte more than the body begins the next message.
 #[test]
 fn the_limit_of_a_body(rt: HostRuntime) -> Result<(), Fail> {
     let alloc = rt.alloc();
-    let head = b"POST / HTTP/1.1\r\nHost: a\r\nContent-Length: 1048576\r\n\r\n";
-    let bytes = with_body(alloc, head, 1_048_577)?;
-    let whole = &bytes.as_slice()[..bytes.len() - 1];
-    assert_eq!(rt; outcome(alloc, whole, 0)?, "ok");
-    assert_eq!(rt; outcome(alloc, &whole[..whole.len() - 1], 0)?, "inside");
+    let bytes = with_body(alloc, 1_048_577)?;
     let mut reader = reader(alloc, bytes.as_slice(), 0)?;
-    assert!(rt; matches!(reader.read_request(alloc, LIMITS), Ok(Some(_))));
-    assert!(rt;
-        matches!(
-            reader.read_request(alloc, LIMITS),
-            Err(HttpFault::EndInside(1))
-        )
+    assert!(rt; reads_one(alloc, &mut reader));
+    assert_eq!(rt;
+        next_fault(alloc, &mut reader),
+        Some(HttpFault::EndInside(1))
     );
-    assert!(rt;
-        matches!(
-            reader.read_request(alloc, LIMITS),
-            Err(HttpFault::AfterRefusal)
-        )
+    assert_eq!(rt;
+        next_fault(alloc, &mut reader),
+        Some(HttpFault::AfterRefusal)
     );
     Ok(())
+}
+
+fn failing_reader(
+    alloc: Global,
+    bytes: &[u8],
+    call: u64,
+) -> Result<Reader<Pieces<MemorySource>>, Fail> {
+    let failing = [call].to_vec(alloc)?;
+    let bytes = bytes.to_vec(alloc)?;
+    let inner = MemorySource::new(bytes, failing);
+    match Reader::new(alloc, Pieces { inner, most: 100 }) {
+        Ok(reader) => Ok(reader),
+        Err(_) => Err(AllocError.into()),
+    }
+}
+
+/// Whether reading meets that fault once, and then reads nothing.
+fn fails_once(alloc: Global, bytes: &[u8], call: u64) -> Result<bool, Fail> {
+    let mut reader = failing_reader(alloc, bytes, call)?;
+    let mut faults = 0u32;
+    for _ in 0..4 {
+        if next_fault(alloc, &mut reader) == Some(HttpFault::ReadFault) {
+            faults = faults.saturating_add(1);
+        }
+    }
+    let source = reader.into_source().inner;
+    Ok(faults == 1 && source.faults() == 1 && source.calls() == call)
 }
 
 #[test]
 fn a_read_that_fails(rt: HostRuntime) -> Result<(), Fail> {
-    let alloc = rt.alloc();
     for call in 1..4u64 {
-        let failing = [call].to_vec(alloc)?;
-        let source = MemorySource::new(CURL.to_vec(alloc)?, failing);
-        let Ok(mut reader) = Reader::new(
-            alloc,
-            Pieces {
-                inner: source,
-                most: 100,
-            },
-        ) else {
-            panic!(rt; "no memory");
-        };
-        let mut faults = 0;
-        for _ in 0..3 {
-            match reader.read_request(alloc, LIMITS) {
-                Err(HttpFault::ReadFault) => faults += 1,
-                Err(HttpFault::AfterRefusal) | Ok(_) => {}
-                Err(_) => faults += 10,
-            }
-        }
-        assert_eq!(rt; faults, 1, "call {call}");
-        assert!(rt;
-            matches!(
-                reader.read_request(alloc, LIMITS),
-                Err(HttpFault::AfterRefusal)
-            )
-        );
-        let source = reader.into_source().inner;
-        assert_eq!(rt; (source.faults(), source.calls()), (1, call));
+        assert!(rt; fails_once(rt.alloc(), CURL, call)?);
     }
     Ok(())
 }
 
-fn clock_reply(alloc: Global) -> Result<Response, AllocError> {
-    let body = b"{\"synchronized\":false,\"time\":\"1970-01-01T00:00:00Z\"}".to_vec(alloc)?;
-    Ok(Response {
-        status: 200,
-        allow: None,
-        close: false,
-        body: Items::from_vec(body),
-    })
-}
-
-const CLOCK: &[u8] =
+static CLOCK: &[u8] =
     b"HTTP/1.1 200 OK\r\nContent-Type: application/json\r\nContent-Length: 52\r\n\r\n{\"synchronized\":false,\"time\":\"1970-01-01T00:00:00Z\"}";
 
-fn is_response(response: &Response, status: u16, close: bool, body: &[u8]) -> bool {
-    response.status == status && response.close == close && response.body.as_slice() == body
-}
-
-#[test]
-fn a_response_is_written_and_read_again(rt: HostRuntime) -> Result<(), Fail> {
-    let alloc = rt.alloc();
-    let reply = clock_reply(alloc)?;
-    let Ok(bytes) = response_bytes(alloc, &reply) else {
-        panic!(rt; "no memory");
-    };
-    assert!(rt; bytes.as_slice() == CLOCK);
-    let Ok(again) = reader(alloc, bytes.as_slice(), 7)?.read_response(alloc, LIMITS) else {
-        panic!(rt; "not read");
-    };
-    assert!(rt; is_response(&again, 200, false, reply.body.as_slice()));
-    assert!(rt; again.allow.is_none());
-    Ok(())
-}
-
-const NOT_ALLOWED: &[u8] =
+static NOT_ALLOWED: &[u8] =
     b"HTTP/1.1 405 Method Not Allowed\r\nContent-Type: application/json\r\nAllow: GET, POST\r\nContent-Length: 0\r\nConnection: close\r\n\r\n";
 
+/// Whether a response that is read is written again as it was.
+fn response_again(alloc: Global, bytes: &[u8]) -> Result<bool, Fail> {
+    match reader(alloc, bytes, 7)?.read_response(alloc, LIMITS) {
+        Ok(response) => Ok(is_written(response_bytes(alloc, &response), bytes)),
+        Err(_) => Ok(false),
+    }
+}
+
+fn is_written(written: Result<Vec<u8>, Memory>, bytes: &[u8]) -> bool {
+    match written {
+        Ok(written) => written.as_slice() == bytes,
+        Err(_) => false,
+    }
+}
+
 #[test]
-fn a_response_with_methods(rt: HostRuntime) -> Result<(), Fail> {
-    let alloc = rt.alloc();
-    let Ok(response) = reader(alloc, NOT_ALLOWED, 0)?.read_response(alloc, LIMITS) else {
-        panic!(rt; "not read");
-    };
-    assert!(rt; is_response(&response, 405, true, b""));
-    let Ok(bytes) = response_bytes(alloc, &response) else {
-        panic!(rt; "no memory");
-    };
-    assert!(rt; bytes.as_slice() == NOT_ALLOWED);
+fn responses_are_written_as_they_were_read(rt: HostRuntime) -> Result<(), Fail> {
+    assert!(rt; response_again(rt.alloc(), CLOCK)?);
+    assert!(rt; response_again(rt.alloc(), NOT_ALLOWED)?);
+    assert!(rt; response_again(rt.alloc(), fixed_reply(500, true))?);
+    assert!(rt; response_again(rt.alloc(), fixed_reply(503, false))?);
     Ok(())
 }
 
-#[test]
-fn the_fixed_replies(rt: HostRuntime) {
-    assert!(rt;
-        fixed_reply(500, false)
-            == b"HTTP/1.1 500 Internal Server Error\r\nContent-Type: application/json\r\nContent-Length: 18\r\n\r\n{\"error\":\"memory\"}".as_slice()
-    );
-    assert!(rt;
-        fixed_reply(503, true)
-            == b"HTTP/1.1 503 Service Unavailable\r\nContent-Type: application/json\r\nContent-Length: 16\r\nConnection: close\r\n\r\n{\"error\":\"disk\"}".as_slice()
-    );
-}
-
-const PEERS: &[u8] =
+static PEERS: &[u8] =
     b"PUT /pscheduler/peer?x HTTP/1.1\r\nHost: b:8080\r\nps-peer: 7 Key1\r\nContent-Length: 4\r\nConnection: close\r\n\r\nbody";
 
+static PLAIN: &[u8] = b"GET /pscheduler HTTP/1.1\r\nHost: b:8080\r\nConnection: close\r\n\r\n";
+
+/// Whether a request that is read is written again as it was.
+fn request_again(alloc: Global, bytes: &[u8], authority: &str) -> Result<bool, Fail> {
+    match reader(alloc, bytes, 7)?.read_request(alloc, LIMITS) {
+        Ok(Some(request)) => Ok(is_written(request_bytes(alloc, &request, authority), bytes)),
+        _ => Ok(false),
+    }
+}
+
 #[test]
-fn a_request_is_read_and_written_again(rt: HostRuntime) -> Result<(), Fail> {
-    let alloc = rt.alloc();
-    let Ok(Some(request)) = reader(alloc, PEERS, 0)?.read_request(alloc, LIMITS) else {
-        panic!(rt; "not read");
-    };
-    assert!(rt; request.method.is("PUT") && is_mark(&request.peer, 7, "Key1"));
-    let Ok(bytes) = request_bytes(alloc, &request, "b:8080") else {
-        panic!(rt; "no memory");
-    };
-    assert!(rt; bytes.as_slice() == PEERS);
+fn requests_are_written_as_they_were_read(rt: HostRuntime) -> Result<(), Fail> {
+    assert!(rt; request_again(rt.alloc(), PEERS, "b:8080")?);
+    assert!(rt; request_again(rt.alloc(), PLAIN, "b:8080")?);
     Ok(())
 }
 
@@ -508,18 +492,24 @@ fn answer<T: Stream>(alloc: Global, reader: &mut Reader<&mut T>) -> bool
     }
 }
 
+/// Answers two requests, and finds no third.
+fn answers_two(alloc: Global, stream: &mut MemoryStream) -> bool {
+    let Ok(mut reader) = Reader::new(alloc, stream) else {
+        return false;
+    };
+    let two = answer(alloc, &mut reader)
+        && answer(alloc, &mut reader)
+        && !answer(alloc, &mut reader);
+    let _stream = reader.into_source();
+    two
+}
+
 #[test]
 fn a_stream_that_is_lent(rt: HostRuntime) -> Result<(), Fail> {
     let alloc = rt.alloc();
-    let mut stream = MemoryStream::new(alloc, CURL.to_vec(alloc)?, Vec::new(alloc));
-    let Ok(mut reader) = Reader::new(alloc, &mut stream) else {
-        panic!(rt; "no memory");
-    };
-    assert!(rt; answer(alloc, &mut reader));
-    assert!(rt; answer(alloc, &mut reader));
-    assert!(rt; !answer(alloc, &mut reader));
-    let _stream = reader.into_source();
-    let reply = fixed_reply(503, false);
-    assert!(rt; stream.written().len() == 2 * reply.len() && stream.written().starts_with(reply));
+    let bytes = CURL.to_vec(alloc)?;
+    let mut stream = MemoryStream::new(alloc, bytes, Vec::new(alloc));
+    assert!(rt; answers_two(alloc, &mut stream));
+    assert_eq!(rt; stream.written().len(), 2 * fixed_reply(503, false).len());
     Ok(())
 }
