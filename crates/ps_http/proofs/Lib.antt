@@ -1,0 +1,13 @@
+pub mod AnswerLemmas
+pub mod AsciiLemmas
+pub mod BodyLemmas
+pub mod CollectLemmas
+pub mod EndLemmas
+pub mod HeadLemmas
+pub mod LawLemmas
+pub mod HeldLemmas
+pub mod KindLemmas
+pub mod NextLemmas
+pub mod RoomLemmas
+pub mod ScanLemmas
+pub mod TargetLemmas

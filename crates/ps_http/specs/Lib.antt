@@ -1,0 +1,15 @@
+pub mod Answer
+pub mod Body
+pub mod Collected
+pub mod Fields
+pub mod Found
+pub mod Head
+pub mod Held
+pub mod Lent
+pub mod Lines
+pub mod Message
+pub mod Next
+pub mod Reader
+pub mod Scan
+pub mod Target
+pub mod Written
