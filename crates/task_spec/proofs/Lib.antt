@@ -1,0 +1,5 @@
+pub mod ArchiveLemmas
+pub mod ScheduleLemmas
+pub mod StartLemmas
+pub mod TaskLemmas
+pub mod WriteLemmas
