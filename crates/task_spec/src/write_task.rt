@@ -1,6 +1,6 @@
 //! The writer of tasks.
 ghost use Rattle.std.specs.Prelude.{◌≡◌, ◌≤◌, ℕ, List, Ok, Some, map, All, IfOk, IfSome, OnOk, codes};
-ghost use Rattle.serde_json.specs.Data.{array, object, put as with_member};
+ghost use Rattle.serde_json.specs.Data.{array, object, depth, put as with_member};
 ghost use Rattle.serde_json.specs.View.{view, members_view, items_of};
 ghost use Rattle.ps_json.specs.Tree.{IsWhole};
 ghost use Rattle.ps_time.specs.declared.moment.TheConstants.{MAX_LENGTH, MAX_MOMENT};
@@ -223,15 +223,26 @@ fn task_members(alloc: Global, task: &Task) -> Result<Map<String, Value>, Memory
     Ok(members)
 }
 
+fn task_tree(alloc: Global, task: &Task) -> Result<Value, Memory>
+    requires test { IsTest task.now.test }
+    requires rest { IsRest (without_test task.now) }
+    ensures { IfOk result (λ value. view value ≡ task_data task.now) }
+{
+    Ok(Value::Object(task_members(alloc, task)?))
+}
+
 impl Task {
     /// The tree of a task: an object with all members but the tools where none is wanted. The schedule's
     /// start is the moment that was resolved at posting.
     pub fn write(&self, alloc: Global) -> Result<Value, Memory>
         requires test { IsTest self.now.test }
         requires rest { IsRest (without_test self.now) }
-        ensures { IfOk result (λ value. view value ≡ task_data self.now) }
+        ensures tree { IfOk result (λ value. view value ≡ task_data self.now) }
+        ensures whole { IfOk result (λ value. IsWhole (view value)) }
+        ensures flat { IfOk result (λ value. depth (view value) ≤ 64) }
     {
-        Ok(Value::Object(task_members(alloc, self)?))
+        let value = task_tree(alloc, self)?;
+        Ok(value)
     }
 }
 
