@@ -1,0 +1,6 @@
+pub mod ArchiveLemmas
+pub mod ScheduleLemmas
+pub mod ShapeLemmas
+pub mod StartLemmas
+pub mod TaskLemmas
+pub mod WriteLemmas

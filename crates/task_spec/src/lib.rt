@@ -1,0 +1,11 @@
+//! Tasks: what is posted to a lead.
+#![tactic(auto)]
+
+pub mod archive;
+pub mod fault;
+pub mod read_task;
+pub mod schedule;
+pub mod task;
+#[cfg(test)]
+mod tests;
+pub mod write_task;
