@@ -1,11 +1,11 @@
 -- From what was read of an input to what the whole input is.
-use Rattle.std.proofs.Common.{◌≡◌, ◌≤◌, ◌<◌, ◌+◌, ◌-◌, ◌⊎◌, inl, inr, ℕ, zero, suc, Bool, true, false, List, [], ◌∷◌, ◌++◌, length, take, drop, min, refl, sym, ap, subst, ◌∙◌, arith, append_assoc, append-nil, length-append, length-take, length-drop, take-append-drop, Option, Some, None, Ok, Err}
+use Rattle.std.proofs.Common.{◌≡◌, ◌≤◌, ◌<◌, ◌+◌, ◌-◌, ◌⊎◌, inl, inr, ℕ, zero, suc, List, [], ◌∷◌, ◌++◌, length, take, drop, refl, sym, ap, subst, ◌∙◌, arith, append_assoc, append-nil, length-append, length-take, take-append-drop, Option, Some, None, Ok, Err}
 use Rattle.std.specs.Prelude.{IfSome, ⊤}
 use Rattle.std.specs.Io.KnownBytes.{Consumes, IsAtEnd, prepend_known}
 use Rattle.std.proofs.KnownBytes.{Consumes-trans}
 use Rattle.std.proofs.lemmas.Bool.{false≢true}
-use Rattle.std.proofs.lemmas.List.{take_all, take-append-le, drop_at, take_at}
-use Rattle.ps_http.specs.Answer.{Kind, IsMessage, HeadSays, EndsInBody, Refuses, IsDue, TakesMessage, WasDue}
+use Rattle.std.proofs.lemmas.List.{take_all, take-append-le, drop_at}
+use Rattle.ps_http.specs.Answer.{Kind, HeadSays, EndsInBody, Refuses, TakesMessage, WasDue}
 use Rattle.ps_http.specs.Body.{Short, HasBody, BodyFault}
 use Rattle.ps_http.specs.Collected.{Added, IsEnough, Interrupted}
 use Rattle.ps_http.specs.Head.{IsHeaded, IsRefused, HeadFault}

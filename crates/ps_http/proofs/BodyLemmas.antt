@@ -1,11 +1,11 @@
 -- The body of a message, as its bytes come.
-use Rattle.std.proofs.Common.{◌≡◌, ◌≤◌, ◌<◌, ◌+◌, ℕ, List, [], ◌++◌, length, take, drop, refl, sym, ap, ◌∙◌, append_assoc, append-nil, Option, arith, take-add, length-append, length-take, length-drop, min, ◌-◌, ◌⊎◌, inl, inr, take-append-drop, subst, Result, Ok, Err}
+use Rattle.std.proofs.Common.{◌≡◌, ◌≤◌, ◌<◌, ◌+◌, ℕ, List, [], ◌++◌, length, take, drop, sym, ap, ◌∙◌, append_assoc, append-nil, Option, arith, take-add, length-append, length-take, length-drop, min, ◌-◌, ◌⊎◌, inl, inr, take-append-drop, subst, Result, Ok, Err}
 use Rattle.std.specs.Prelude.{IfErr, OnOk}
 use Rattle.std.proofs.lemmas.Bool.{cases_lt}
 use Rattle.std.proofs.lemmas.List.{take_all, drop-drop, nil_from_length}
 use Rattle.ps_http.specs.declared.fault.HttpFault.{HttpFault}
 use Rattle.ps_http.specs.declared.fault.HttpFault.TheVariants.{BadHead, NoLength, TooLarge, EndInside, ReadFault, AfterRefusal, Memory}
-use Rattle.std.specs.Io.KnownBytes.{Consumes, Keeps, IsAtEnd}
+use Rattle.std.specs.Io.KnownBytes.{Keeps}
 use Rattle.std.proofs.KnownBytes.{Consumes-trans, Consumes-kept}
 use Rattle.ps_http.specs.Body.{Short, Filled, FillFault, HasBody, BodyFault}
 use Rattle.ps_http.specs.Collected.{Added}

@@ -1,5 +1,5 @@
 -- What comes from a source, read by read.
-use Rattle.std.proofs.Common.{◌≡◌, ◌≤◌, ◌+◌, ℕ, List, [], ◌++◌, length, refl, sym, ap, ◌∙◌, ◌<◌, ◌-◌, ◌⊎◌, inl, inr, append_assoc, append-nil, Option, take, drop, min, arith}
+use Rattle.std.proofs.Common.{◌≡◌, ◌≤◌, ℕ, List, [], ◌++◌, length, sym, ap, ◌∙◌, ◌<◌, ◌-◌, ◌⊎◌, inl, inr, append_assoc, append-nil, Option, take, drop, min, arith}
 use Rattle.std.proofs.lemmas.Bool.{cases_lt}
 use Rattle.std.proofs.lemmas.List.{take_all}
 use Rattle.ps_http.specs.Lines.{has_head_end}
@@ -7,7 +7,7 @@ use Rattle.ps_http.specs.Scan.{is_ended, places_after}
 use Rattle.ps_http.specs.declared.lines.Place.{Place}
 use Rattle.ps_http.specs.declared.lines.Place.TheVariants.{Before}
 use Rattle.ps_http.proofs.ScanLemmas.{placed_more, scanned_head}
-use Rattle.std.specs.Io.KnownBytes.{Consumes, Keeps}
+use Rattle.std.specs.Io.KnownBytes.{Keeps}
 use Rattle.std.proofs.KnownBytes.{Consumes-nil, Consumes-trans, Consumes-kept}
 use Rattle.ps_http.specs.Collected.{Added}
 use Rattle.ps_http.specs.Held.{Came}

@@ -1,11 +1,11 @@
 -- What a head's refusals are, and that a head has one meaning.
-use Rattle.std.proofs.Common.{◌≡◌, ℕ, Bool, true, false, ◌&&◌, ◌||◌, List, [], length, refl, sym, ap, subst, ◌∙◌, Option, Some, None, Result, Ok, Err}
-use Rattle.std.specs.Prelude.{not, nat_lt, is_none, codes, if◌then◌else◌}
+use Rattle.std.proofs.Common.{◌≡◌, ℕ, Bool, true, false, ◌&&◌, List, [], refl, sym, ap, ◌∙◌, Option, Some, None, Result, Ok, Err}
+use Rattle.std.specs.Prelude.{codes, if◌then◌else◌}
 use Rattle.std.proofs.lemmas.Bool.{false≢true}
 use Rattle.ps_http.specs.Answer.{Kind}
 use Rattle.ps_http.specs.Fields.{are_peers, values_of, length_of}
-use Rattle.ps_http.specs.Head.{IsHeaded, IsRefused, IsRefusedOr, HeadGives, IsMessageOf}
-use Rattle.ps_http.specs.Message.{body_length, length_or_bad, bounded_length}
+use Rattle.ps_http.specs.Head.{IsHeaded, IsRefusedOr, HeadGives, IsMessageOf}
+use Rattle.ps_http.specs.Message.{body_length, length_or_bad}
 use Rattle.ps_http.specs.declared.fault.HttpFault.{HttpFault}
 use Rattle.ps_http.specs.declared.fault.HttpFault.TheVariants.{BadHead, NoLength, TooLarge, EndInside, ReadFault, AfterRefusal, Memory}
 use Rattle.ps_http.specs.declared.message.HttpLimits.{HttpLimits}

@@ -1,11 +1,11 @@
 -- What requests and responses have in common, of which the proofs on messages speak.
-use Rattle.std.proofs.Common.{◌≡◌, ◌≤◌, ◌<◌, ◌+◌, ◌*◌, ℕ, Bool, true, false, List, [], ◌∷◌, ◌++◌, length, refl, sym, ap, subst, ◌∙◌, arith, ◌⊎◌, inl, inr, append_assoc, append-nil, length-append, All}
+use Rattle.std.proofs.Common.{◌≡◌, ℕ, Bool, true, false, List, [], ◌++◌, refl, sym, ap, ◌∙◌, inl, inr, append_assoc, append-nil}
 use Rattle.std.proofs.lemmas.Bool.{false≢true}
-use Rattle.httparse.specs.Grammar.{lf, print_end, Field, IsField, print_field, RequestHead, print_request, ReadsRequest, HasNoRequest, NeverHasRequest, EndsInTarget, MayBecomeRequest, ResponseHead, print_response, ReadsResponse, MayBecomeResponse}
+use Rattle.httparse.specs.Grammar.{RequestHead, print_request, ReadsRequest, HasNoRequest, NeverHasRequest, EndsInTarget, MayBecomeRequest, ResponseHead, print_response, ReadsResponse, MayBecomeResponse}
 use Rattle.httparse.proofs.GrammarLemmas.{request_unique, ReadsRequest-append, response_unique, ReadsResponse-append}
 use Rattle.ps_http.specs.Answer.{Kind, requests, responses}
 use Rattle.ps_http.specs.Lines.{has_head_end}
-use Rattle.ps_http.proofs.EndLemmas.{EndsThere, request_ends, response_ends, has_end, has_no_end, ended_longer, target_open}
+use Rattle.ps_http.proofs.EndLemmas.{request_ends, response_ends, has_end, has_no_end, ended_longer, target_open}
 
 pub record Lawful {H M : Type 0} (kind : Kind H M) : Type 0 where
   pub ends : (bytes : List ℕ) (head : H) (rest : List ℕ) → kind.Reads bytes head rest → has_head_end bytes ≡ true

@@ -1,10 +1,9 @@
 -- An input has one answer.
-use Rattle.std.proofs.Common.{◌≡◌, ◌≤◌, ◌<◌, ◌+◌, ◌-◌, ◌⊎◌, inl, inr, ℕ, true, false, Bool, List, [], ◌∷◌, ◌++◌, length, take, drop, refl, sym, ap, subst, ◌∙◌, arith, append_assoc, append-nil, length-append, length-take, Option, Some, None, Result, Ok, Err}
+use Rattle.std.proofs.Common.{◌≡◌, ◌≤◌, ◌<◌, ◌+◌, ◌-◌, inl, inr, ℕ, true, List, [], ◌∷◌, ◌++◌, length, take, drop, refl, sym, ap, subst, ◌∙◌, arith, append_assoc, length-append, Option, Some, None, Result, Ok, Err}
 use Rattle.std.specs.Prelude.{is_ok}
 use Rattle.std.proofs.lemmas.Bool.{false≢true}
 use Rattle.std.proofs.lemmas.List.{take_all, take_at, drop_at}
-use Rattle.ps_http.specs.Answer.{Kind, IsMessage, HeadSays, Refuses, IsBegun, requests, responses, IsRequestAnswer, IsResponseAnswer, is_decided}
-use Rattle.ps_http.specs.Lines.{has_head_end}
+use Rattle.ps_http.specs.Answer.{Kind, IsMessage, Refuses, requests, responses, IsRequestAnswer, IsResponseAnswer, is_decided}
 use Rattle.ps_http.specs.declared.fault.HttpFault.{HttpFault}
 use Rattle.ps_http.specs.declared.fault.HttpFault.TheVariants.{BadHead, NoLength, TooLarge, EndInside, ReadFault, AfterRefusal, Memory}
 use Rattle.ps_http.specs.declared.message.HttpLimits.{HttpLimits}

@@ -1,16 +1,16 @@
 -- From the head and the body that were read to what a call answers.
-use Rattle.std.proofs.Common.{◌≡◌, ◌≤◌, ◌<◌, ◌∙◌, ℕ, List, ◌++◌, length, take, min, refl, sym, ap, subst, Option, Some, None, Result, Ok, Err, arith, length-append}
+use Rattle.std.proofs.Common.{◌≡◌, ◌<◌, ◌∙◌, ℕ, List, length, take, min, ap, subst, Option, Some, None, Result, Ok, Err, arith, length-append}
 use Rattle.std.specs.Prelude.{IfSome, IfErr, IsErrOf, ⊤}
-use Rattle.std.specs.Io.KnownBytes.{prepend_known, IsAtEnd}
+use Rattle.std.specs.Io.KnownBytes.{prepend_known}
 use Rattle.ps_http.specs.Answer.{Kind, Refuses, IsBegun, WasDue}
 use Rattle.ps_http.specs.Body.{BodyFault}
-use Rattle.ps_http.specs.Collected.{Added, IsEnough, Collected, Interrupted}
+use Rattle.ps_http.specs.Collected.{Added, IsEnough, Collected}
 use Rattle.ps_http.specs.Head.{IsHeaded, HeadFault}
 use Rattle.ps_http.specs.Next.{HasHead, FaultAt}
 use Rattle.ps_http.specs.declared.fault.HttpFault.{HttpFault}
 use Rattle.ps_http.specs.declared.fault.HttpFault.TheVariants.{BadHead, NoLength, TooLarge, EndInside, ReadFault, AfterRefusal, Memory}
 use Rattle.ps_http.specs.declared.message.HttpLimits.{HttpLimits}
-use Rattle.ps_http.proofs.AnswerLemmas.{input_is, head_refuses, body_refusal, body_due, head_due, head_held}
+use Rattle.ps_http.proofs.AnswerLemmas.{input_is, head_refuses, body_refusal, body_due, head_held}
 use Rattle.ps_http.proofs.CollectLemmas.{take_upto}
 use Rattle.ps_http.proofs.KindLemmas.{Lawful}
 

@@ -1,8 +1,8 @@
 -- A field takes three bytes at least, so a place for each three bytes is room enough.
-use Rattle.std.proofs.Common.{◌≡◌, ◌≤◌, ◌<◌, ◌+◌, ◌*◌, ℕ, List, [], ◌∷◌, ◌++◌, length, ap, arith, length-append, All}
+use Rattle.std.proofs.Common.{◌≤◌, ◌+◌, ◌*◌, ℕ, List, [], ◌∷◌, ◌++◌, length, ap, arith, length-append, All}
 use Rattle.std.specs.List.{flat_map}
 use Rattle.std.proofs.lemmas.List.Elements.{All-head, All-tail}
-use Rattle.httparse.specs.Grammar.{LineEnd, crlf, lf, print_end, print_blank, print_version, print_reason, print_section, Field, IsField, print_field, RequestHead, print_request, ResponseHead, print_response}
+use Rattle.httparse.specs.Grammar.{LineEnd, crlf, lf, print_end, print_blank, print_version, print_reason, print_section, Field, IsField, print_field, print_request, print_response}
 use Rattle.httparse.specs.Spans.{RequestExceeds, ResponseExceeds}
 
 end_takes : (e : LineEnd) → 1 ≤ length (print_end e)

@@ -1,7 +1,6 @@
 -- The places of the lines tell whether the head has ended.
 use Rattle.std.proofs.Common.{◌≡◌, ◌==◌, ◌≤◌, ◌+◌, ◌-◌, ℕ, Bool, true, false, ◌&&◌, ◌||◌, List, [], ◌∷◌, ◌++◌, refl, sym, ap, ◌∙◌, arith, take, drop, take-add}
 use Rattle.std.proofs.lemmas.Bool.{eqb-true}
-use Rattle.std.proofs.lemmas.Bool.Decides.{nat_tests}
 use Rattle.ps_http.specs.Lines.{begins_empty, has_empty_line, has_head_end}
 use Rattle.ps_http.specs.Scan.{is_ended, place_after, places_after}
 use Rattle.ps_http.specs.declared.lines.Place.{Place}

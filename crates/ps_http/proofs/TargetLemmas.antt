@@ -1,13 +1,13 @@
 -- The test for bytes that end inside a target.
-use Rattle.std.proofs.Common.{◌≡◌, ◌<◌, ◌≤◌, ◌==◌, ℕ, Bool, true, false, ◌&&◌, List, [], ◌∷◌, ◌++◌, length, take, drop, nat_lt, refl, sym, ap, subst, ◌∙◌, arith, append_assoc}
-use Rattle.std.specs.Prelude.{IsTrue, if◌then◌else◌}
+use Rattle.std.proofs.Common.{◌≡◌, ◌<◌, ◌==◌, ℕ, Bool, true, false, List, [], ◌∷◌, ◌++◌, length, take, drop, nat_lt, refl, sym, ap, ◌∙◌, arith, append_assoc}
+use Rattle.std.specs.Prelude.{IsTrue}
 use Rattle.std.specs.List.{list_all, prefix_len}
 use Rattle.std.proofs.lemmas.Bool.{false≢true, and_parts, and_from, eqb-true, ltb-true, lt-ltb}
 use Rattle.std.proofs.lemmas.Bool.Decides.{nat_tests}
 use Rattle.std.proofs.lemmas.List.{take-append-drop, get_or-take, length-take, length-drop, drop_at}
 use Rattle.std.proofs.lemmas.List.Elements.{All-head, All-tail}
 use Rattle.std.proofs.lemmas.List.Sums.{prefix_len_passes, AllPass-from_list_all, list_all-from_AllPass}
-use Rattle.httparse.specs.Grammar.{AllPass, LineEnd, crlf, lf, print_end, print_blank, is_token_byte, is_uri_byte, EndsInTarget}
+use Rattle.httparse.specs.Grammar.{AllPass, LineEnd, crlf, lf, print_blank, is_token_byte, is_uri_byte, EndsInTarget}
 use Rattle.httparse.proofs.PieceLemmas.{token_is_no_newline, space_ends_token}
 use Rattle.httparse.specs.Pieces.{is_newline}
 use Rattle.ps_http.specs.Target.{skip_empty, is_behind_method, is_line, in_target}

@@ -11,5 +11,6 @@ pub mod Message
 pub mod Next
 pub mod Reader
 pub mod Scan
+pub mod Sendable
 pub mod Target
 pub mod Written

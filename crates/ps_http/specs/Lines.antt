@@ -1,5 +1,5 @@
 -- The empty line that ends a head (RFC 9112, section 2.1). A line ends in CR LF, or in LF alone.
-use Rattle.std.specs.Prelude.{ℕ, ◌==◌, Bool, true, false, ◌&&◌, ◌||◌, List, [], ◌∷◌, if◌then◌else◌}
+use Rattle.std.specs.Prelude.{ℕ, ◌==◌, Bool, false, ◌&&◌, ◌||◌, List, [], ◌∷◌, if◌then◌else◌}
 
 -- an empty line stands at the front
 abbrev pub begins_empty : List ℕ → Bool

@@ -1,5 +1,5 @@
 -- The head that was read from a source.
-use Rattle.std.specs.Prelude.{◌≡◌, ◌≤◌, ℕ, List, length, take, Option, IfSome}
+use Rattle.std.specs.Prelude.{◌≤◌, ℕ, List, length, take, Option, IfSome}
 use Rattle.std.specs.Io.KnownBytes.{prepend_known}
 use Rattle.ps_http.specs.Answer.{Kind, Refuses, WasDue}
 use Rattle.ps_http.specs.Collected.{Added}

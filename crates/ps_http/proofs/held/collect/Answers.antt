@@ -1,4 +1,4 @@
-use Rattle.std.proofs.Common.{◌≡◌, ◌≤◌, ◌<◌, ◌∙◌, inl, inr, sym, ap, arith, take, min, length, length-append, rules}
+use Rattle.std.proofs.Common.{◌≡◌, ◌≤◌, ◌<◌, ◌∙◌, inl, sym, ap, arith, take, min, length, length-append, rules}
 use Rattle.std.proofs.lemmas.List.{take_all, take-append-le}
 use Rattle.ps_http.specs.Lines.{has_head_end}
 use Rattle.ps_http.specs.Scan.{places_after}

@@ -1,4 +1,4 @@
-use Rattle.std.proofs.Common.{◌≡◌, ◌≤◌, ◌-◌, List, ℕ, length, take}
+use Rattle.std.proofs.Common.{◌≡◌, ◌≤◌, ◌-◌, length, take}
 use Rattle.ps_http.specs.Collected.{Added}
 use Rattle.ps_http.specs.Scan.{places_after}
 use Rattle.ps_http.specs.declared.lines.Place.TheVariants.{Before}

@@ -1,4 +1,4 @@
-use Rattle.std.proofs.Common.{◌≡◌, ◌+◌, ◌≤◌, ◌∙◌, arith, rules, take, length, length-take}
+use Rattle.std.proofs.Common.{◌≡◌, ◌∙◌, arith, rules, take, length, length-take}
 use Rattle.ps_http.proofs.BodyLemmas.{added_at, short_at_end, short_at_fault}
 use Rattle.ps_http.proofs.held.fill.Goals as goal
 
