@@ -33,13 +33,13 @@ use Rattle.ps_http.specs.declared.message.HttpLimits.{HttpLimits}
 use Rattle.ps_http.specs.declared.message.PeerMark.{PeerMark}
 use Rattle.ps_http.specs.declared.message.Request.{Request}
 
-own : IsNumeralModel (λ ds. all_ascii_digits ds ≡ true) (digits_value 10)
+pub own : IsNumeralModel (λ ds. all_ascii_digits ds ≡ true) (digits_value 10)
 own = numerals_by_value _ tells_all_ascii_digits
 
 -- ---- the head that is written
 
 -- a field with a space before its value
-abbrev written_field : List ℕ → List ℕ → Field
+abbrev pub written_field : List ℕ → List ℕ → Field
 written_field name value = record { name = name; raw = 32 ∷ value; end = crlf }
 
 abbrev peer_fields : Option PeerMark → List Field
@@ -69,7 +69,7 @@ head_of r authority = record {
 
 -- ---- its bytes
 
-field_bytes : (name value : List ℕ) → print_field (written_field name value) ≡ field_text name value
+pub field_bytes : (name value : List ℕ) → print_field (written_field name value) ≡ field_text name value
 field_bytes name value = append_assoc name (58 ∷ 32 ∷ value) (13 ∷ 10 ∷ [])
 
 peer_bytes : (peer : Option PeerMark) → flat_map print_field (peer_fields peer) ≡ peer_text peer
@@ -82,7 +82,7 @@ length_bytes true body =
     append-nil (print_field (written_field (codes "Content-Length") (decimal (length body)))) ∙ field_bytes (codes "Content-Length") (decimal (length body))
 length_bytes false body = refl
 
-regroup : (h p l c e : List ℕ) → (h ++ (p ++ (l ++ c))) ++ e ≡ h ++ (p ++ (l ++ (c ++ e)))
+pub regroup : (h p l c e : List ℕ) → (h ++ (p ++ (l ++ c))) ++ e ≡ h ++ (p ++ (l ++ (c ++ e)))
 regroup h p l c e =
     append_assoc h (p ++ (l ++ c)) e ∙ ap (λ x. h ++ x) (append_assoc p (l ++ c) e ∙ ap (λ x. p ++ x) (append_assoc l c e))
 
@@ -133,10 +133,10 @@ digits_pass (d ∷ ds) all =
     let parts = and_parts (is_ascii_digit d) (all_ascii_digits ds) all in
     All-cons (λ b. IsTrue (is_ascii_digit b)) d ds parts.0 (digits_pass ds parts.1)
 
-decimal_digits : (n : ℕ) → n < 2 ^ 64 → AllPass is_ascii_digit (decimal n)
+pub decimal_digits : (n : ℕ) → n < 2 ^ 64 → AllPass is_ascii_digit (decimal n)
 decimal_digits n small = digits_pass (decimal n) (digits_decimal own n small)
 
-decimal_is_value : (n : ℕ) → n < 2 ^ 64 → IsValue (decimal n)
+pub decimal_is_value : (n : ℕ) → n < 2 ^ 64 → IsValue (decimal n)
 decimal_is_value n small =
     let digits = decimal_digits n small in
     let some = decimal_nonempty n small in
@@ -168,7 +168,7 @@ mark_is_value mark is =
           ∙ skip_run is_ascii_alphanumeric letter_no_ows (reverse mark.key) (reverse (number ++ 32 ∷ [])) (omega (arith, some, length-reverse mark.key)) back ∙ sym turned;
     }
 
-value_again : (name value : List ℕ) → IsValue value → name_and_value (written_field name value) ≡ (name, value)
+pub value_again : (name value : List ℕ) → IsValue value → name_and_value (written_field name value) ≡ (name, value)
 value_again name value is = ap (λ v. (name, v)) (trim_ows_space value is.front is.back)
 
 -- ---- the fields as they are read
@@ -187,7 +187,7 @@ close_pairs = (codes "Connection", codes "close") ∷ []
 abbrev pairs_of : Option PeerMark → Bool → List ℕ → List ℕ → List (List ℕ × List ℕ)
 pairs_of peer wanted body authority = (codes "Host", authority) ∷ (peer_pairs peer ++ (length_pairs wanted body ++ close_pairs))
 
-close_is_value : IsValue (codes "close")
+pub close_is_value : IsValue (codes "close")
 close_is_value = record { bytes = AllPass-from_list_all is_value_byte (codes "close") refl; front = refl; back = refl }
 
 peer_again : (peer : Option PeerMark) → IfSome peer IsMark → map name_and_value (peer_fields peer) ≡ peer_pairs peer
@@ -333,7 +333,7 @@ fits_again target peer wanted body authority slash is =
     and_from _ _ (and_from _ _ (hosts_again peer wanted body authority) (eq-eqb (unwrap_or (slice_get target 0) 0) 47 slash))
     (ap are_peers (peers_again peer wanted body authority) ∙ are_again peer is)
 
-said_again : (body : List ℕ) → length body < 1000000000 → length_of (decimal (length body) ∷ []) ≡ Some (Some (length body))
+pub said_again : (body : List ℕ) → length body < 1000000000 → length_of (decimal (length body) ∷ []) ≡ Some (Some (length body))
 said_again body small =
     let wide : length body < 2 ^ 64 = omega (arith, small) in
     rw (decimal_of-decimal 1 9 (length body) wide (decimal_nonempty (length body) wide) (length-decimal-le 9 (length body) (omega arith) (omega (arith, small)) wide)) refl
@@ -373,7 +373,7 @@ target_again path query slash pass text is = (nonempty path slash, uri query is,
     utf8 None is = subst IsUtf8 (sym (append-nil path)) text
     utf8 (Some q) is = IsUtf8-append path (63 ∷ q) text (IsUtf8-append (63 ∷ []) q (IsUtf8-from_ascii (63 ∷ []) (cons_ascii 63 [] (omega arith) nil_ascii)) is.1)
 
-field_is : (name value : List ℕ) → is_token name ≡ true → IsValue value → IsField (written_field name value)
+pub field_is : (name value : List ℕ) → is_token name ≡ true → IsValue value → IsField (written_field name value)
 field_is name value token is =
     let parts = and_parts (nat_lt 0 (length name)) (list_all is_token_byte name) token in
     record {

@@ -9,6 +9,7 @@ pub mod LawLemmas
 pub mod HeldLemmas
 pub mod KindLemmas
 pub mod NextLemmas
+pub mod ReplyLemmas
 pub mod RoomLemmas
 pub mod ScanLemmas
 pub mod TargetLemmas

@@ -1,5 +1,5 @@
 //! Bytes that were read from a source and belong to no message yet.
-ghost use Rattle.std.specs.Prelude.{◌≡◌, ◌≤◌, ◌<◌, [], ◌++◌, length, take, drop, IfOk, OnOk, OnErr, IfErr, IsErrOf, ◌+◌, ◌-◌, min};
+ghost use Rattle.std.specs.Prelude.{◌≡◌, ◌≤◌, ◌<◌, [], length, take, drop, IfOk, OnOk, OnErr, IfErr, IsErrOf, ◌+◌, ◌-◌, min};
 ghost use Rattle.std.specs.Io.KnownBytes.{Keeps};
 ghost use Rattle.ps_ports.specs.Causes.{HasCause, Rose};
 ghost use Rattle.ps_http.specs.Body.{HasBody, BodyFault, Filled, FillFault};

@@ -1,6 +1,6 @@
 //! Laws over the definitions.
 ghost use Rattle.ps_http.specs.Answer.{OneRequestAnswer, OneResponseAnswer};
-ghost use Rattle.ps_http.specs.Sendable.{RequestsReadAgain};
+ghost use Rattle.ps_http.specs.Sendable.{RequestsReadAgain, ResponsesReadAgain};
 
 /// The bytes of an input decide what reading it comes to, however its source cuts them: a request,
 /// nothing, or one refusal; a response, or one refusal.
@@ -16,4 +16,11 @@ pub fn law_one_answer()
 /// are within the limits.
 pub fn law_requests_read_again()
     ensures { RequestsReadAgain }
+{}
+
+/// The same of `response_bytes`, where the status has three digits, its phrase is one of visible
+/// bytes and blanks, there are methods only for 405, a field's value without white space at its
+/// ends, and head and body are within the limits.
+pub fn law_responses_read_again()
+    ensures { ResponsesReadAgain }
 {}

@@ -1,7 +1,7 @@
 //! A reader of messages.
-ghost use Rattle.std.specs.Prelude.{◌≡◌, ◌≤◌, ◌<◌, ◌↔◌, [], length, Some, IfOk, IfSome, IfErr, IsErrOf, OnOk, OnErr, is_err, Ok, Err, None, true, false};
+ghost use Rattle.std.specs.Prelude.{◌≡◌, ◌≤◌, ◌<◌, [], IfOk, IfSome, IfErr, IsErrOf, is_err, Ok, Err, None, true, false};
 ghost use Rattle.std.specs.Borrow.{sem};
-ghost use Rattle.std.specs.Io.KnownBytes.{prepend_known, IsAtEnd};
+ghost use Rattle.std.specs.Io.KnownBytes.{prepend_known};
 ghost use Rattle.ps_ports.specs.Causes.{Rose};
 ghost use Rattle.ps_http.specs.Answer.{IsBegun, requests, responses, Refuses, TakesMessage, WasAtEnd, WasDue};
 ghost use Rattle.ps_http.specs.Lent.{LendsSource};

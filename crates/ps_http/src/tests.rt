@@ -1,11 +1,11 @@
 //! Tests of what no clause says: that calls succeed with ample memory, and that the definitions mean
 //! what the standards do.
-ghost use Rattle.std.specs.Prelude.{◌≡◌, IsTrue, false};
+ghost use Rattle.std.specs.Prelude.{IsTrue, false};
 ghost use Rattle.std.specs.Io.KnownBytes.{Appends};
 ghost use Rattle.ps_http.specs.Written.{response_text, fault_response};
 
 use crate::fault::HttpFault;
-use crate::message::{HttpLimits, PeerMark, Request};
+use crate::message::{HttpLimits, MAX_HEAD, PeerMark, Request};
 use crate::reader::Reader;
 use crate::written::{fixed_reply, request_bytes, response_bytes};
 use ps_ports::all::write_all;
@@ -69,7 +69,7 @@ fn word(fault: HttpFault, count: usize) -> &'static str {
 }
 
 const LIMITS: HttpLimits = HttpLimits {
-    head: 16_384,
+    head: MAX_HEAD,
     body: 1_048_576,
 };
 
