@@ -1,0 +1,89 @@
+-- What a configuration of limits answers.
+use Rattle.std.specs.Prelude.{ℕ, ◌+◌, ◌<◌, ◌^◌, ℤ, int_lt, Bool, List, [], ◌∷◌, length, Option, Some, None, if◌then◌else◌}
+use Rattle.std.specs.Option.{unwrap_or}
+use Rattle.ps_time.specs.Span.{Span}
+use Rattle.ps_time.specs.declared.asker.Asker.{Asker}
+use Rattle.ps_time.specs.declared.asker.Verdict.{Verdict}
+use Rattle.ps_time.specs.declared.asker.Verdict.TheVariants.{Permitted, Stopped, Exhausted, AboveCeiling}
+use Rattle.plugin_core.specs.declared.test_spec.TestSpec.{TestSpec}
+use Rattle.limit_ident.specs.Classifier.{held_at}
+use Rattle.limit_ident.specs.declared.classifier.Classifier.{Classifier}
+use Rattle.limit_ident.specs.declared.identifier.Identifier.{Identifier}
+use Rattle.limit_ident.specs.declared.named.Named.{Named}
+use Rattle.limit_apply.specs.declared.application.Application.{Application}
+use Rattle.limit_apply.specs.declared.limit.Limit.{Limit}
+use Rattle.limit_apply.specs.declared.limits.Ceiling.{Ceiling}
+use Rattle.limit_apply.specs.declared.limits.Counts.{Counts}
+use Rattle.limit_apply.specs.declared.limits.Priorities.{Priorities}
+use Rattle.limit_apply.specs.Application.{decided}
+
+pub record Config : Type 0 where
+  pub identifiers : List (Named Identifier)
+  pub classifiers : List (Named Classifier)
+  pub limits : List (Named Limit)
+  pub applications : List Application
+  pub priorities : Priorities
+
+-- places and counts of entries fit 32 bits
+pub record IsCounted (config : Config) : Type 0 where
+  pub identifiers : length config.identifiers < 2 ^ 32
+  pub classifiers : length config.classifiers < 2 ^ 32
+  pub limits : length config.limits < 2 ^ 32
+  pub applications : length config.applications < 2 ^ 32
+
+abbrev pub counts_of : Config → Counts
+counts_of config = record {
+  identifiers = length config.identifiers;
+  classifiers = length config.classifiers;
+  limits = length config.limits;
+  applications = length config.applications;
+}
+
+-- the classifier at a place holds
+abbrev pub holds_at : Config → Asker → ℕ → Bool
+holds_at config asker place = held_at config.classifiers config.identifiers asker place
+
+-- ---- applications
+
+-- the list of applications, from that at `index` on, that take part, each with its index and what it decides
+abbrev pub written_from : Config → Asker → TestSpec → Option Span → ℕ → List Application → List (ℕ × Option Verdict)
+written_from config asker test run index [] = []
+written_from config asker test run index (a ∷ others) =
+    let rest = written_from config asker test run (index + 1) others in
+    if holds_at config asker a.classifier then (index, decided config.limits test run index a) ∷ rest else rest
+
+-- the first that decides
+abbrev pub first_verdict : List (ℕ × Option Verdict) → Verdict
+first_verdict [] = Exhausted
+first_verdict (entry ∷ entries) = unwrap_or entry.1 (first_verdict entries)
+
+abbrev pub verdict_at : Config → Asker → TestSpec → Option Span → Verdict
+verdict_at config asker test run = first_verdict (written_from config asker test run 0 config.applications)
+
+-- ---- priorities
+
+abbrev pub greater : ℤ → ℤ → ℤ
+greater a b = if int_lt a b then b else a
+
+abbrev pub ceiling_from : Config → Asker → ℤ → List Ceiling → ℤ
+ceiling_from config asker greatest [] = greatest
+ceiling_from config asker greatest (c ∷ cs) =
+    ceiling_from config asker (if holds_at config asker c.classifier then greater greatest c.ceiling else greatest) cs
+
+-- the greatest of the default and of the ceilings of classifiers that hold
+abbrev pub ceiling_of : Config → Asker → ℤ
+ceiling_of config asker = ceiling_from config asker config.priorities.default config.priorities.ceilings
+
+-- ---- the answers
+
+abbrev pub permits_of : Config → Asker → TestSpec → Span → ℤ → Verdict
+permits_of config asker test span priority = below (verdict_at config asker test (Some span))
+  where
+    below : Verdict → Verdict
+    below (Permitted index) = if int_lt (ceiling_of config asker) priority then AboveCeiling (ceiling_of config asker) else Permitted index
+    below (Stopped index) = Stopped index
+    below Exhausted = Exhausted
+    below (AboveCeiling ceiling) = AboveCeiling ceiling
+
+abbrev pub admits_of : Config → Asker → TestSpec → Verdict
+admits_of config asker test = verdict_at config asker test None

@@ -1,0 +1,78 @@
+-- Which configuration of limits a JSON tree is.
+use Rattle.std.specs.Prelude.{ℕ, ◌&&◌, ◌<◌, ◌^◌, pos, negsuc, int_le, List, length, Result, Ok, Err, ⊤, if◌then◌else◌, codes}
+use Rattle.serde_json.specs.Data.{Data, Members}
+use Rattle.serde_json.specs.Find.{get_member}
+use Rattle.ps_json.specs.Answer.{then_with}
+use Rattle.ps_json.specs.Fields.{without_member}
+use Rattle.ps_json.specs.Kinds.{integer_of}
+use Rattle.limit_ident.specs.Fault.{in_json}
+use Rattle.limit_ident.specs.Member.{required, optional, member_then, object_in, described}
+use Rattle.limit_ident.specs.ReadClassifiers.{classifiers_of}
+use Rattle.limit_ident.specs.ReadIdentifiers.{identifiers_of}
+use Rattle.limit_ident.specs.declared.classifier.Classifier.{Classifier}
+use Rattle.limit_ident.specs.declared.fault.LimitFault.{LimitFault}
+use Rattle.limit_ident.specs.declared.fault.LimitFault.TheVariants.{BadRange}
+use Rattle.limit_ident.specs.declared.identifier.Identifier.{Identifier}
+use Rattle.limit_ident.specs.declared.named.Named.{Named}
+use Rattle.limit_apply.specs.Limits.{Config}
+use Rattle.limit_apply.specs.ReadApplications.{applications_in, priorities_of}
+use Rattle.limit_apply.specs.ReadLimits.{limits_in}
+use Rattle.limit_apply.specs.declared.limits.Priorities.{Priorities}
+use Rattle.limit_apply.specs.declared.read.Lists.{Lists}
+
+-- a whole number from 1 to 5, which means nothing
+abbrev pub schema_in : List ℕ → Data → Result ⊤ LimitFault
+schema_in name d =
+    then_with (in_json (integer_of name (negsuc 9_223_372_036_854_775_807) (pos 9_223_372_036_854_775_807) d)) (λ z.
+    if int_le (pos 1) z && int_le z (pos 5) then Ok tt else Err (BadRange name))
+
+abbrev pub schema_of : Members → Result ⊤ LimitFault
+schema_of ms = optional tt schema_in (codes "schema") ms
+
+abbrev pub identifiers_in : List ℕ → Data → Result (List (Named Identifier)) LimitFault
+identifiers_in name d = identifiers_of d
+
+abbrev pub classifiers_in : List (Named Identifier) → List ℕ → Data → Result (List (Named Classifier)) LimitFault
+classifiers_in is name d = classifiers_of is d
+
+abbrev pub lists_of : Members → Result Lists LimitFault
+lists_of ms =
+    member_then (codes "identifiers") (required identifiers_in) ms (λ is ms.
+    member_then (codes "classifiers") (required (classifiers_in is)) ms (λ cs ms.
+    member_then (codes "limits") (required limits_in) ms (λ ls ms.
+    member_then (codes "applications") (required (applications_in cs ls)) ms (λ applications ms.
+    Ok (record { identifiers = is; classifiers = cs; limits = ls; applications = applications })))))
+
+abbrev pub after_lists : Members → Members
+after_lists ms =
+    without_member (codes "applications") (without_member (codes "limits") (without_member (codes "classifiers") (without_member (codes "identifiers") ms)))
+
+-- each list has fewer than 2^32 entries
+pub record AreCounted (lists : Lists) : Type 0 where
+  pub identifiers : length lists.identifiers < 2 ^ 32
+  pub classifiers : length lists.classifiers < 2 ^ 32
+  pub limits : length lists.limits < 2 ^ 32
+  pub applications : length lists.applications < 2 ^ 32
+
+abbrev pub config : Lists → Priorities → Config
+config lists priorities = record {
+  identifiers = lists.identifiers;
+  classifiers = lists.classifiers;
+  limits = lists.limits;
+  applications = lists.applications;
+  priorities = priorities;
+}
+
+-- the priorities, behind which a description may be, and nothing else but comments
+abbrev pub ended_priorities : List (Named Classifier) → Members → Result Priorities LimitFault
+ended_priorities cs ms =
+    then_with (priorities_of cs (get_member (codes "priorities") ms)) (λ priorities.
+    then_with (described (without_member (codes "priorities") ms)) (λ _. Ok priorities))
+
+abbrev pub config_of : Data → Result Config LimitFault
+config_of d =
+    then_with (object_in (codes "limits") d) (λ ms.
+    then_with (schema_of ms) (λ _.
+    let ms = without_member (codes "schema") ms in
+    then_with (lists_of ms) (λ lists.
+    then_with (ended_priorities lists.classifiers (after_lists ms)) (λ priorities. Ok (config lists priorities)))))

@@ -1,0 +1,105 @@
+-- Which applications and priorities a JSON tree is.
+use Rattle.std.specs.Prelude.{ℕ, ◌&&◌, ℤ, pos, negsuc, int_le, List, [], ◌∷◌, ◌++◌, Option, Some, None, Result, Ok, Err, if◌then◌else◌, false, codes}
+use Rattle.serde_json.specs.Data.{Data, Members}
+use Rattle.ps_json.specs.Answer.{then_with}
+use Rattle.ps_json.specs.Fields.{without_member}
+use Rattle.ps_json.specs.Kinds.{integer_of, list_of}
+use Rattle.limit_ident.specs.Fault.{in_json}
+use Rattle.limit_ident.specs.Member.{required, optional, member_then, flag_in, object_in, some_in, described}
+use Rattle.limit_ident.specs.Named.{place_in}
+use Rattle.limit_ident.specs.ReadClassifiers.{require_in, places_in}
+use Rattle.limit_ident.specs.declared.classifier.Classifier.{Classifier}
+use Rattle.limit_ident.specs.declared.fault.LimitFault.{LimitFault}
+use Rattle.limit_ident.specs.declared.fault.LimitFault.TheVariants.{BadRange}
+use Rattle.limit_ident.specs.declared.named.Named.{Named}
+use Rattle.limit_apply.specs.declared.application.Application.{Application}
+use Rattle.limit_apply.specs.declared.application.Group.{Group}
+use Rattle.limit_apply.specs.declared.limit.Limit.{Limit}
+use Rattle.limit_apply.specs.declared.limits.Ceiling.{Ceiling}
+use Rattle.limit_apply.specs.declared.limits.Priorities.{Priorities}
+
+-- ---- applications
+
+abbrev pub group_of : List (Named Limit) → Data → Result Group LimitFault
+group_of ls d =
+    then_with (object_in (codes "apply") d) (λ ms.
+    member_then (codes "require") (required require_in) ms (λ require ms.
+    member_then (codes "limits") (required (places_in ls)) ms (λ places ms.
+    then_with (described ms) (λ _. Ok (record { require = require; limits = places })))))
+
+abbrev pub groups_from : List (Named Limit) → List Group → List Data → Result (List Group) LimitFault
+groups_from ls done [] = Ok done
+groups_from ls done (d ∷ ds) = then_with (group_of ls d) (λ g. groups_from ls (done ++ g ∷ []) ds)
+
+abbrev pub apply_in : List (Named Limit) → List ℕ → Data → Result (List Group) LimitFault
+apply_in ls name d = then_with (some_in name d) (groups_from ls [])
+
+abbrev pub told_of : List (Named Classifier) → List (Named Limit) → Members → Result Application LimitFault
+told_of cs ls ms =
+    member_then (codes "classifier") (required (place_in cs)) ms (λ classifier ms.
+    member_then (codes "apply") (required (apply_in ls)) ms (λ apply ms.
+    member_then (codes "invert") (optional false flag_in) ms (λ invert ms.
+    member_then (codes "stop-on-failure") (optional false flag_in) ms (λ stop ms.
+    Ok (record { classifier = classifier; apply = apply; invert = invert; stop_on_failure = stop })))))
+
+abbrev pub after_told : Members → Members
+after_told ms =
+    without_member (codes "stop-on-failure") (without_member (codes "invert") (without_member (codes "apply") (without_member (codes "classifier") ms)))
+
+abbrev pub application_of : List (Named Classifier) → List (Named Limit) → Data → Result Application LimitFault
+application_of cs ls d =
+    then_with (object_in (codes "applications") d) (λ ms.
+    then_with (told_of cs ls ms) (λ application.
+    then_with (described (after_told ms)) (λ _. Ok application)))
+
+abbrev pub applications_from : List (Named Classifier) → List (Named Limit) → List Application → List Data → Result (List Application) LimitFault
+applications_from cs ls done [] = Ok done
+applications_from cs ls done (d ∷ ds) = then_with (application_of cs ls d) (λ a. applications_from cs ls (done ++ a ∷ []) ds)
+
+abbrev pub applications_in : List (Named Classifier) → List (Named Limit) → List ℕ → Data → Result (List Application) LimitFault
+applications_in cs ls name d = then_with (some_in name d) (applications_from cs ls [])
+
+-- ---- priorities
+
+-- a whole number from -1000 to 1000
+abbrev pub ceiling_in : List ℕ → Data → Result ℤ LimitFault
+ceiling_in name d =
+    then_with (in_json (integer_of name (negsuc 9_223_372_036_854_775_807) (pos 9_223_372_036_854_775_807) d)) (λ z.
+    if int_le (negsuc 999) z && int_le z (pos 1_000) then Ok z else Err (BadRange name))
+
+abbrev pub ceiling_of : List (Named Classifier) → Members → Result Ceiling LimitFault
+ceiling_of cs ms =
+    member_then (codes "classifier") (required (place_in cs)) ms (λ classifier ms.
+    member_then (codes "ceiling") (required ceiling_in) ms (λ ceiling ms.
+    Ok (record { classifier = classifier; ceiling = ceiling })))
+
+abbrev pub entry_of : List (Named Classifier) → Data → Result Ceiling LimitFault
+entry_of cs d =
+    then_with (object_in (codes "classifiers") d) (λ ms.
+    then_with (ceiling_of cs ms) (λ entry.
+    let ms = without_member (codes "ceiling") (without_member (codes "classifier") ms) in
+    then_with (described ms) (λ _. Ok entry)))
+
+abbrev pub entries_from : List (Named Classifier) → List Ceiling → List Data → Result (List Ceiling) LimitFault
+entries_from cs done [] = Ok done
+entries_from cs done (d ∷ ds) = then_with (entry_of cs d) (λ c. entries_from cs (done ++ c ∷ []) ds)
+
+abbrev pub entries_in : List (Named Classifier) → List ℕ → Data → Result (List Ceiling) LimitFault
+entries_in cs name d = then_with (in_json (list_of name d)) (entries_from cs [])
+
+abbrev pub default_of : Members → Result ℤ LimitFault
+default_of ms = optional (pos 0) ceiling_in (codes "default") ms
+
+abbrev pub ceilings_of : List (Named Classifier) → Members → Result (List Ceiling) LimitFault
+ceilings_of cs ms = optional [] (entries_in cs) (codes "classifiers") ms
+
+-- what is left out is 0 for all
+abbrev pub priorities_of : List (Named Classifier) → Option Data → Result Priorities LimitFault
+priorities_of cs None = Ok (record { default = pos 0; ceilings = [] })
+priorities_of cs (Some d) =
+    then_with (object_in (codes "priorities") d) (λ ms.
+    then_with (default_of ms) (λ default.
+    let ms = without_member (codes "default") ms in
+    then_with (ceilings_of cs ms) (λ ceilings.
+    let ms = without_member (codes "classifiers") ms in
+    then_with (described ms) (λ _. Ok (record { default = default; ceilings = ceilings })))))

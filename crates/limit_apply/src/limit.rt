@@ -1,0 +1,237 @@
+//! Limits: what may be true of a run.
+ghost use Rattle.std.specs.Prelude.{◌≡◌, Option};
+ghost use Rattle.ps_time.specs.Span.{Span};
+ghost use Rattle.limit_apply.specs.Limit.{test_name, duration_in, interval_in, dawdle_in, timeout_in, lies, kept, lengths_kept, is_listed, in_dates, in_range, rule_holds, limit_holds, is_run_rule};
+
+use plugin_core::test_spec::TestSpec;
+use ps_time::duplicate::Duplicate;
+use ps_time::interval::Interval;
+use ps_time::items::Items;
+use ps_time::memory::Memory;
+use ps_time::moment::{Length, Moment};
+use ps_time::text::Text;
+use std::alloc::Global;
+
+/// From `lower` to `upper`, both among them.
+#[derive(Clone, Copy, Debug, PartialEq, Eq)]
+pub struct Bounds {
+    pub lower: u64,
+    pub upper: u64,
+}
+
+/// Bounds of a test's lengths.
+#[derive(Clone, Copy, Debug, PartialEq, Eq)]
+pub struct Lengths {
+    pub duration: Option<Bounds>,
+    pub interval: Option<Bounds>,
+    pub dawdle: Option<Bounds>,
+    pub timeout: Option<Bounds>,
+}
+
+/// Moments from `start` up to and without `end`.
+#[derive(Clone, Copy, Debug, PartialEq, Eq)]
+pub struct DateRange {
+    pub start: Moment,
+    pub end: Moment,
+    /// Whether a part of the run is enough.
+    pub overlap: bool,
+}
+
+/// When a limit is true, before it is inverted.
+#[derive(Drop)]
+pub enum Rule {
+    PassFail(bool),
+    /// Names of tests.
+    TestType(Items<Text>),
+    /// The name of a test.
+    Test { test: Text, lengths: Lengths },
+    RunDateRange(DateRange),
+}
+
+#[derive(Drop)]
+pub struct Limit {
+    pub rule: Rule,
+    pub invert: bool,
+}
+
+impl Duplicate for Rule {
+    fn duplicate(&self, alloc: Global) -> Result<Rule, Memory> {
+        match self {
+            Rule::PassFail(pass) => Ok(Rule::PassFail(*pass)),
+            Rule::TestType(types) => Ok(Rule::TestType(types.copy(alloc)?)),
+            Rule::Test { test, lengths } => Ok(Rule::Test {
+                test: test.copy(alloc)?,
+                lengths: *lengths,
+            }),
+            Rule::RunDateRange(range) => Ok(Rule::RunDateRange(*range)),
+        }
+    }
+}
+
+impl Duplicate for Limit {
+    fn duplicate(&self, alloc: Global) -> Result<Limit, Memory> {
+        Ok(Limit {
+            rule: self.rule.duplicate(alloc)?,
+            invert: self.invert,
+        })
+    }
+}
+
+fn test_name(test: &TestSpec) -> &'static str
+    ensures { result.now ≡ test_name test.now }
+{
+    match test {
+        TestSpec::Idle { .. } => "idle",
+        TestSpec::Idleex { .. } => "idleex",
+        TestSpec::Idlebgm { .. } => "idlebgm",
+        TestSpec::Idlemany { .. } => "idlemany",
+        TestSpec::Simplestream { .. } => "simplestream",
+    }
+}
+
+fn duration_in(test: &TestSpec) -> Option<Length>
+    ensures { result ≡ duration_in test.now }
+{
+    match test {
+        TestSpec::Idle { duration, .. } => Some(*duration),
+        TestSpec::Idleex { duration, .. } => Some(*duration),
+        TestSpec::Idlebgm { duration, .. } => Some(*duration),
+        TestSpec::Idlemany { duration, .. } => Some(*duration),
+        TestSpec::Simplestream { .. } => None,
+    }
+}
+
+fn interval_in(test: &TestSpec) -> Option<Length>
+    ensures { result ≡ interval_in test.now }
+{
+    match test {
+        TestSpec::Idlebgm { interval, .. } => Some(*interval),
+        _ => None,
+    }
+}
+
+fn dawdle_in(test: &TestSpec) -> Option<Length>
+    ensures { result ≡ dawdle_in test.now }
+{
+    match test {
+        TestSpec::Simplestream { dawdle, .. } => Some(*dawdle),
+        _ => None,
+    }
+}
+
+fn timeout_in(test: &TestSpec) -> Option<Length>
+    ensures { result ≡ timeout_in test.now }
+{
+    match test {
+        TestSpec::Simplestream { timeout, .. } => Some(*timeout),
+        _ => None,
+    }
+}
+
+impl Bounds {
+    pub fn contains(self, number: u64) -> bool
+        ensures { result ≡ lies self number }
+    {
+        self.lower <= number && number <= self.upper
+    }
+}
+
+fn is_kept(bounds: Option<Bounds>, length: Option<Length>) -> bool
+    ensures { result ≡ kept bounds length }
+{
+    let Some(bounds) = bounds else {
+        return true;
+    };
+    match length {
+        Some(length) => bounds.contains(length),
+        None => false,
+    }
+}
+
+impl Lengths {
+    fn are_kept(&self, test: &TestSpec) -> bool
+        ensures { result ≡ lengths_kept self.now test.now }
+    {
+        is_kept(self.duration, duration_in(test))
+            && is_kept(self.interval, interval_in(test))
+            && is_kept(self.dawdle, dawdle_in(test))
+            && is_kept(self.timeout, timeout_in(test))
+    }
+}
+
+fn is_listed(name: &str, names: &[Text]) -> bool
+    ensures { result ≡ is_listed name.now names.now }
+{
+    for other in names {
+        if other.as_str() == name {
+            return true;
+        }
+    }
+    false
+}
+
+impl DateRange {
+    fn has(&self, run: &Interval) -> bool
+        ensures { result ≡ in_dates self.now run.now }
+    {
+        if self.overlap {
+            self.start.max(run.start) < self.end.min(run.end)
+        } else {
+            self.start <= run.start && run.end <= self.end
+        }
+    }
+}
+
+fn is_in_range(range: &DateRange, run: &Option<Interval>) -> bool
+    ensures { result ≡ in_range range.now run.now }
+{
+    match run {
+        Some(run) => range.has(run),
+        None => false,
+    }
+}
+
+impl Rule {
+    fn holds(&self, test: &TestSpec, run: &Option<Interval>) -> bool
+        ensures { result ≡ rule_holds test.now run.now self.now }
+    {
+        match self {
+            Rule::PassFail(pass) => *pass,
+            Rule::TestType(types) => is_listed(test_name(test), types.as_slice()),
+            Rule::Test {
+                test: name,
+                lengths,
+            } => { name.as_str() == test_name(test) && lengths.are_kept(test) }
+            Rule::RunDateRange(range) => is_in_range(range, run),
+        }
+    }
+
+    fn is_of_runs(&self) -> bool
+        ensures { result ≡ is_run_rule self.now }
+    {
+        match self {
+            Rule::PassFail(_) => false,
+            Rule::TestType(_) => false,
+            Rule::Test { .. } => false,
+            Rule::RunDateRange(_) => true,
+        }
+    }
+}
+
+impl Limit {
+    /// Whether the limit is true of a test, and of a run of it where there is one; one that speaks of runs is
+    /// never true without a run, before it is inverted.
+    pub(crate) fn holds(&self, test: &TestSpec, run: &Option<Interval>) -> bool
+        ensures { result ≡ limit_holds test.now run.now self.now }
+    {
+        let holds = self.rule.holds(test, run);
+        if self.invert { !holds } else { holds }
+    }
+
+    /// Whether it speaks of runs.
+    pub(crate) fn is_of_runs(&self) -> bool
+        ensures { result ≡ is_run_rule self.now.rule }
+    {
+        self.rule.is_of_runs()
+    }
+}

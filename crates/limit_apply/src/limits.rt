@@ -1,0 +1,178 @@
+//! A configuration of limits, and what it answers.
+ghost use Rattle.std.specs.Prelude.{◌≡◌, IfOk};
+ghost use Rattle.limit_apply.specs.Limits.{verdict_at, permits_of, admits_of, ceiling_of, holds_at, counts_of};
+
+use crate::application::Application;
+use crate::limit::Limit;
+use limit_ident::classifier::Classifiers;
+use limit_ident::identifier::Identifiers;
+use limit_ident::named::Named;
+use plugin_core::test_spec::TestSpec;
+use ps_time::asker::{Asker, Verdict};
+use ps_time::duplicate::Duplicate;
+use ps_time::interval::Interval;
+use ps_time::items::Items;
+use ps_time::memory::Memory;
+use std::alloc::Global;
+use std::marker::Model;
+
+/// The greatest priority of those of whom a classifier holds.
+#[derive(Clone, Copy, Debug, PartialEq, Eq)]
+pub struct Ceiling {
+    /// The place of the classifier.
+    pub classifier: usize,
+    pub ceiling: i16,
+}
+
+impl Duplicate for Ceiling {
+    fn duplicate(&self, _alloc: Global) -> Result<Ceiling, Memory> {
+        Ok(*self)
+    }
+}
+
+#[derive(Drop)]
+pub struct Priorities {
+    /// The ceiling of those of whom no classifier holds that has one.
+    pub default: i16,
+    pub ceilings: Items<Ceiling>,
+}
+
+impl Duplicate for Priorities {
+    fn duplicate(&self, alloc: Global) -> Result<Priorities, Memory> {
+        Ok(Priorities {
+            default: self.default,
+            ceilings: self.ceilings.copy(alloc)?,
+        })
+    }
+}
+
+/// How many entries a configuration has.
+#[derive(Clone, Copy, Debug, PartialEq, Eq)]
+pub struct Counts {
+    pub identifiers: u32,
+    pub classifiers: u32,
+    pub limits: u32,
+    pub applications: u32,
+}
+
+/// A configuration, seen by contracts as the lists of its entries, each of fewer than 2^32.
+#[derive(Drop)]
+pub struct Limits {
+    pub(crate) identifiers: Identifiers,
+    pub(crate) classifiers: Classifiers,
+    pub(crate) limits: Items<Named<Limit>>,
+    pub(crate) applications: Items<Application>,
+    pub(crate) priorities: Priorities,
+}
+
+impl Model for Limits {
+    ghost use Rattle.limit_apply.specs.Limits.{Config, IsCounted};
+
+    ghost Value = { Config };
+
+    ghost view = { λ l. record { identifiers = l.identifiers; classifiers = l.classifiers; limits = l.limits; applications = l.applications; priorities = l.priorities } };
+
+    ghost invariant = { λ l. IsCounted (record { identifiers = l.identifiers; classifiers = l.classifiers; limits = l.limits; applications = l.applications; priorities = l.priorities }) };
+}
+
+impl Limits {
+    pub fn counts(&self) -> Counts
+        ensures { result ≡ counts_of self.now }
+    {
+        Counts {
+            identifiers: self.identifiers.len() as u32,
+            classifiers: self.classifiers.len() as u32,
+            limits: self.limits.len() as u32,
+            applications: self.applications.len() as u32,
+        }
+    }
+
+    /// Whether the classifier at this place holds; none stands past the end, and doesn't hold.
+    fn holds(&self, place: usize, asker: &Asker) -> bool
+        ensures { result ≡ holds_at self.now asker.now place }
+    {
+        place < self.classifiers.len() && self.classifiers.holds(place, &self.identifiers, asker)
+    }
+
+    /// The greatest priority that the asker may have: the greatest of the default and of those of
+    /// classifiers that hold.
+    pub fn ceiling(&self, asker: &Asker) -> i16
+        ensures { result ≡ ceiling_of self.now asker.now }
+    {
+        let mut greatest = self.priorities.default;
+        for entry in self.priorities.ceilings.as_slice() {
+            if self.holds(entry.classifier, asker) {
+                greatest = greatest.max(entry.ceiling);
+            }
+        }
+        greatest
+    }
+
+    /// What the first application decides that takes part and decides anything.
+    fn walk(&self, asker: &Asker, test: &TestSpec, run: &Option<Interval>) -> Verdict
+        ensures { result ≡ verdict_at self.now asker.now test.now run.now }
+    {
+        for index in 0..self.applications.len() {
+            let application = &self.applications[index];
+            if self.holds(application.classifier, asker) {
+                if let Some(verdict) = application.decided(
+                    index as u32,
+                    self.limits.as_slice(),
+                    test,
+                    run,
+                ) {
+                    return verdict;
+                }
+            }
+        }
+        Verdict::Exhausted
+    }
+
+    /// What the limits say of a run of the test at this priority.
+    pub fn permits(
+        &self,
+        asker: &Asker,
+        test: &TestSpec,
+        interval: &Interval,
+        priority: i16,
+    ) -> Verdict
+        ensures { result ≡ permits_of self.now asker.now test.now interval.now priority }
+    {
+        let verdict = self.walk(asker, test, &Some(*interval));
+        let ceiling = self.ceiling(asker);
+        match verdict {
+            Verdict::Permitted(_) if priority > ceiling => Verdict::AboveCeiling(ceiling),
+            _ => verdict,
+        }
+    }
+
+    /// What they say of the test before there is a run.
+    pub fn admits(&self, asker: &Asker, test: &TestSpec) -> Verdict
+        ensures { result ≡ admits_of self.now asker.now test.now }
+    {
+        self.walk(asker, test, &None)
+    }
+
+    pub fn copy(&self, alloc: Global) -> Result<Limits, Memory>
+        ensures { IfOk result (λ made. made ≡ self.now) }
+    {
+        let identifiers = self.identifiers.copy(alloc)?;
+        let classifiers = self.classifiers.copy(alloc)?;
+        let (limits, applications) = self.copy_uses(alloc)?;
+        let priorities = self.priorities.duplicate(alloc)?;
+        Ok(Limits {
+            identifiers,
+            classifiers,
+            limits,
+            applications,
+            priorities,
+        })
+    }
+
+    fn copy_uses(&self, alloc: Global) -> Result<(Items<Named<Limit>>, Items<Application>), Memory>
+        ensures { IfOk result (λ made. made ≡ (self.now.limits, self.now.applications)) }
+    {
+        let limits = self.limits.copy(alloc)?;
+        Ok((limits, self.applications.copy(alloc)?))
+    }
+}

@@ -1,0 +1,9 @@
+pub mod Address
+pub mod Classifier
+pub mod Fault
+pub mod Identifier
+pub mod Member
+pub mod Named
+pub mod ReadClassifiers
+pub mod ReadIdentifiers
+pub mod Require

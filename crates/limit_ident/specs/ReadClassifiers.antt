@@ -1,0 +1,58 @@
+-- Which classifiers a JSON tree is.
+use Rattle.std.specs.Prelude.{ℕ, List, [], ◌∷◌, ◌++◌, Option, Some, None, Result, Ok, Err, if◌then◌else◌, bytes_eq, codes}
+use Rattle.serde_json.specs.Data.{Data, Members}
+use Rattle.ps_json.specs.Answer.{then_with}
+use Rattle.ps_json.specs.declared.fault.JsonFault.TheVariants.{WrongKind}
+use Rattle.limit_ident.specs.declared.classifier.Classifier.{Classifier}
+use Rattle.limit_ident.specs.declared.fault.LimitFault.{LimitFault}
+use Rattle.limit_ident.specs.declared.fault.LimitFault.TheVariants.{Json}
+use Rattle.limit_ident.specs.declared.identifier.Identifier.{Identifier}
+use Rattle.limit_ident.specs.declared.named.Named.{Named}
+use Rattle.limit_ident.specs.declared.require.Require.{Require}
+use Rattle.limit_ident.specs.declared.require.Require.TheVariants.{All as all, Any as any, One as one, None as no_one}
+use Rattle.limit_ident.specs.Member.{required, optional, member_then, text_in, object_in, some_in, described}
+use Rattle.limit_ident.specs.Named.{new_in, place_in}
+
+abbrev pub require_of : List ℕ → Option Require
+require_of bs =
+    if bytes_eq bs (codes "all") then Some all
+    else if bytes_eq bs (codes "any") then Some any
+    else if bytes_eq bs (codes "one") then Some one
+    else if bytes_eq bs (codes "none") then Some no_one
+    else None
+
+abbrev pub require_in : List ℕ → Data → Result Require LimitFault
+require_in name d = then_with (text_in name d) (λ bs. known (require_of bs))
+  where
+    known : Option Require → Result Require LimitFault
+    known None = Err (Json (WrongKind name))
+    known (Some require) = Ok require
+
+-- the places of the entries that the items name
+abbrev pub places_from : {T : Type 0} → List (Named T) → List ℕ → List ℕ → List Data → Result (List ℕ) LimitFault
+places_from es name done [] = Ok done
+places_from es name done (d ∷ ds) = then_with (place_in es name d) (λ place. places_from es name (done ++ place ∷ []) ds)
+
+abbrev pub places_in : {T : Type 0} → List (Named T) → List ℕ → Data → Result (List ℕ) LimitFault
+places_in es name d = then_with (some_in name d) (places_from es name [])
+
+-- what stands behind the name
+abbrev pub rest_of : List (Named Identifier) → Members → Result Classifier LimitFault
+rest_of is ms =
+    member_then (codes "identifiers") (required (places_in is)) ms (λ places ms.
+    member_then (codes "require") (optional any require_in) ms (λ require ms.
+    then_with (described ms) (λ _. Ok (record { identifiers = places; require = require }))))
+
+abbrev pub classifier_of : List (Named Identifier) → List (Named Classifier) → Data → Result (Named Classifier) LimitFault
+classifier_of is before d =
+    then_with (object_in (codes "classifiers") d) (λ ms.
+    member_then (codes "name") (required (new_in before)) ms (λ name ms.
+    then_with (rest_of is ms) (λ classifier. Ok (record { name = name; value = classifier }))))
+
+abbrev pub classifiers_from : List (Named Identifier) → List (Named Classifier) → List Data → Result (List (Named Classifier)) LimitFault
+classifiers_from is done [] = Ok done
+classifiers_from is done (d ∷ ds) = then_with (classifier_of is done d) (λ c. classifiers_from is (done ++ c ∷ []) ds)
+
+-- a list of classifiers over these identifiers, which isn't empty
+abbrev pub classifiers_of : List (Named Identifier) → Data → Result (List (Named Classifier)) LimitFault
+classifiers_of is d = then_with (some_in (codes "classifiers") d) (classifiers_from is [])

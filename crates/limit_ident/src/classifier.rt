@@ -1,0 +1,109 @@
+//! Classifiers: which identifiers have to be true.
+ghost use Rattle.std.specs.Prelude.{◌≡◌, ◌<◌, length, map, false, IfOk};
+ghost use Rattle.limit_ident.specs.Identifier.{identified_at};
+ghost use Rattle.limit_ident.specs.Require.{walked};
+ghost use Rattle.limit_ident.specs.Classifier.{held, held_at};
+
+use crate::identifier::Identifiers;
+use crate::named::{Named, copy_places};
+use crate::require::Require;
+use ps_time::asker::Asker;
+use ps_time::duplicate::Duplicate;
+use ps_time::items::Items;
+use ps_time::memory::Memory;
+use std::alloc::Global;
+use std::marker::Model;
+
+#[derive(Drop)]
+pub struct Classifier {
+    /// Places of identifiers.
+    pub identifiers: Items<usize>,
+    pub require: Require,
+}
+
+/// The classifiers of a configuration, seen by contracts as a list.
+#[derive(Drop)]
+pub struct Classifiers {
+    list: Items<Named<Classifier>>,
+}
+
+impl Model for Classifiers {
+    ghost use Rattle.std.specs.Prelude.{List};
+    ghost use Rattle.limit_ident.specs.declared.named.Named.{Named};
+    ghost use Rattle.limit_ident.specs.declared.classifier.Classifier.{Classifier};
+
+    ghost Value = { List (Named Classifier) };
+
+    ghost view = { λ c. c.list };
+}
+
+impl Duplicate for Classifier {
+    fn duplicate(&self, alloc: Global) -> Result<Classifier, Memory> {
+        Ok(Classifier {
+            identifiers: copy_places(alloc, self.identifiers.as_slice())?,
+            require: self.require,
+        })
+    }
+}
+
+impl Classifier {
+    /// It looks at identifiers as far as the first that decides.
+    fn walk(&self, identifiers: &Identifiers, asker: &Asker) -> bool
+        ensures { result ≡ walked self.now.require false
+            (map (identified_at identifiers.now asker.now) self.now.identifiers) }
+    {
+        let mut found = false;
+        for place in self.identifiers.as_slice() {
+            let outcome = identifiers.is_true(*place, asker);
+            if let Some(answer) = self.require.decided(found, outcome) {
+                return answer;
+            }
+            found = found || outcome;
+        }
+        self.require.ended(found)
+    }
+
+    #[tactic(auto, using(crate::proofs::RequireLemmas::walked_met))]
+    fn holds(&self, identifiers: &Identifiers, asker: &Asker) -> bool
+        ensures { result ≡ held identifiers.now asker.now self.now }
+    {
+        self.walk(identifiers, asker)
+    }
+}
+
+impl Classifiers {
+    pub fn from_items(list: Items<Named<Classifier>>) -> Classifiers
+        ensures { result ≡ list }
+    {
+        Classifiers { list }
+    }
+
+    /// The classifiers, in their order.
+    pub fn as_slice(&self) -> &[Named<Classifier>]
+        ensures { result.now ≡ self.now }
+    {
+        self.list.as_slice()
+    }
+
+    pub fn len(&self) -> usize
+        ensures { result ≡ length self.now }
+    {
+        self.list.len()
+    }
+
+    /// Whether the classifier at this place holds of who asks.
+    pub fn holds(&self, index: usize, identifiers: &Identifiers, asker: &Asker) -> bool
+        requires { index < length self.now }
+        ensures { result ≡ held_at self.now identifiers.now asker.now index }
+    {
+        self.list[index].value.holds(identifiers, asker)
+    }
+
+    pub fn copy(&self, alloc: Global) -> Result<Classifiers, Memory>
+        ensures { IfOk result (λ made. made ≡ self.now) }
+    {
+        Ok(Classifiers {
+            list: self.list.copy(alloc)?,
+        })
+    }
+}

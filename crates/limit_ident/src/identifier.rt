@@ -1,0 +1,208 @@
+//! Identifiers: what may be true of who asks.
+ghost use Rattle.std.specs.Prelude.{◌≡◌, ◌==◌, ◌<◌, ◌≤◌, drop, length, IfOk};
+ghost use Rattle.std.specs.List.{starts_with};
+ghost use Rattle.limit_ident.specs.Identifier.{hint_text, contains_text, matches, in_blocks, condition_holds, identified, identified_at};
+
+use crate::address::{Block, read_address};
+use crate::named::Named;
+use ps_time::asker::Asker;
+use ps_time::duplicate::Duplicate;
+use ps_time::items::Items;
+use ps_time::memory::Memory;
+use ps_time::text::Text;
+use std::alloc::Global;
+use std::marker::Model;
+
+/// What is known of who asks.
+#[derive(Clone, Copy, Debug, PartialEq, Eq)]
+pub enum Hint {
+    /// The address from which the task was posted.
+    Requester,
+    /// The name of the lead.
+    Server,
+}
+
+/// How a hint is compared with a text.
+#[derive(Clone, Copy, Debug, PartialEq, Eq)]
+pub enum Style {
+    /// It is the text.
+    Exact,
+    /// It contains the text.
+    Contains,
+}
+
+/// When an identifier is true, before it is inverted.
+#[derive(Drop)]
+pub enum Condition {
+    Always,
+    Hint {
+        hint: Hint,
+        style: Style,
+        text: Text,
+    },
+    /// The requester reads as an address in one of the blocks.
+    CidrList(Items<Block>),
+}
+
+#[derive(Drop)]
+pub struct Identifier {
+    pub condition: Condition,
+    pub invert: bool,
+}
+
+/// The identifiers of a configuration, seen by contracts as a list.
+#[derive(Drop)]
+pub struct Identifiers {
+    list: Items<Named<Identifier>>,
+}
+
+impl Model for Identifiers {
+    ghost use Rattle.std.specs.Prelude.{List};
+    ghost use Rattle.limit_ident.specs.declared.named.Named.{Named};
+    ghost use Rattle.limit_ident.specs.declared.identifier.Identifier.{Identifier};
+
+    ghost Value = { List (Named Identifier) };
+
+    ghost view = { λ i. i.list };
+}
+
+impl Duplicate for Condition {
+    fn duplicate(&self, alloc: Global) -> Result<Condition, Memory> {
+        match self {
+            Condition::Always => Ok(Condition::Always),
+            Condition::Hint { hint, style, text } => Ok(Condition::Hint {
+                hint: *hint,
+                style: *style,
+                text: text.copy(alloc)?,
+            }),
+            Condition::CidrList(blocks) => Ok(Condition::CidrList(blocks.copy(alloc)?)),
+        }
+    }
+}
+
+impl Duplicate for Identifier {
+    fn duplicate(&self, alloc: Global) -> Result<Identifier, Memory> {
+        Ok(Identifier {
+            condition: self.condition.duplicate(alloc)?,
+            invert: self.invert,
+        })
+    }
+}
+
+fn hint_text(hint: Hint, asker: &Asker) -> &str
+    ensures { result.now ≡ hint_text hint asker.now }
+{
+    match hint {
+        Hint::Requester => asker.requester.as_str(),
+        Hint::Server => asker.server.as_str(),
+    }
+}
+
+fn stands_at(text: &[u8], start: usize, part: &[u8]) -> bool
+    requires { start ≤ length text.now }
+    ensures { result ≡ starts_with ◌==◌ (drop start text.now) part.now }
+{
+    text[start..].starts_with(part)
+}
+
+fn contains(text: &[u8], part: &[u8]) -> bool
+    ensures { result ≡ contains_text part.now text.now }
+{
+    for start in 0..text.len() {
+        if stands_at(text, start, part) {
+            return true;
+        }
+    }
+    part.is_empty()
+}
+
+fn matches(style: Style, hint: &str, text: &str) -> bool
+    ensures { result ≡ matches style hint.now text.now }
+{
+    match style {
+        Style::Exact => hint == text,
+        Style::Contains => contains(hint.as_bytes(), text.as_bytes()),
+    }
+}
+
+fn is_in_blocks(requester: &str, blocks: &[Block]) -> bool
+    ensures { result ≡ in_blocks requester.now blocks.now }
+{
+    let Some(address) = read_address(requester) else {
+        return false;
+    };
+    for block in blocks {
+        if block.contains(address) {
+            return true;
+        }
+    }
+    false
+}
+
+impl Condition {
+    fn holds(&self, asker: &Asker) -> bool
+        ensures { result ≡ condition_holds asker.now self.now }
+    {
+        match self {
+            Condition::Always => true,
+            Condition::Hint { hint, style, text } => {
+                matches(*style, hint_text(*hint, asker), text.as_str())
+            }
+            Condition::CidrList(blocks) => {
+                is_in_blocks(asker.requester.as_str(), blocks.as_slice())
+            }
+        }
+    }
+}
+
+impl Identifier {
+    fn is_true(&self, asker: &Asker) -> bool
+        ensures { result ≡ identified asker.now self.now }
+    {
+        let holds = self.condition.holds(asker);
+        if self.invert { !holds } else { holds }
+    }
+}
+
+impl Identifiers {
+    pub fn from_items(list: Items<Named<Identifier>>) -> Identifiers
+        ensures { result ≡ list }
+    {
+        Identifiers { list }
+    }
+
+    pub(crate) fn as_slice(&self) -> &[Named<Identifier>]
+        ensures { result.now ≡ self.now }
+    {
+        self.list.as_slice()
+    }
+
+    pub fn len(&self) -> usize
+        ensures { result ≡ length self.now }
+    {
+        self.list.len()
+    }
+
+    /// Whether the identifier at this place is true of who asks.
+    pub fn identifies(&self, index: usize, asker: &Asker) -> bool
+        requires { index < length self.now }
+        ensures { result ≡ identified_at self.now asker.now index }
+    {
+        self.list[index].value.is_true(asker)
+    }
+
+    /// The same, where a place past the end is one of no identifier, which isn't true.
+    pub(crate) fn is_true(&self, place: usize, asker: &Asker) -> bool
+        ensures { result ≡ identified_at self.now asker.now place }
+    {
+        place < self.len() && self.identifies(place, asker)
+    }
+
+    pub fn copy(&self, alloc: Global) -> Result<Identifiers, Memory>
+        ensures { IfOk result (λ made. made ≡ self.now) }
+    {
+        Ok(Identifiers {
+            list: self.list.copy(alloc)?,
+        })
+    }
+}

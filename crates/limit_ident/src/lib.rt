@@ -1,0 +1,14 @@
+//! Who asks: the identifiers and classifiers of a limit configuration.
+#![tactic(auto)]
+
+pub mod address;
+pub mod classifier;
+pub mod fault;
+pub mod identifier;
+pub mod member;
+pub mod named;
+pub mod read_classifiers;
+pub mod read_identifiers;
+pub mod require;
+#[cfg(test)]
+mod tests;
