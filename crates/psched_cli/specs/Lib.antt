@@ -1,3 +1,4 @@
 pub mod Command
+pub mod Limits
 pub mod Outcome
 pub mod Psched

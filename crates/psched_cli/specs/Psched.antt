@@ -1,18 +1,20 @@
 -- What a call of psched makes of its source and its sink.
-use Rattle.std.specs.Prelude.{◌≡◌, ◌⊎◌, ℕ, List, [], Option, Some, IfSome, Ok}
+use Rattle.std.specs.Prelude.{◌≡◌, ◌⊎◌, ℕ, true, List, [], Option, Some, IfSome, Ok}
 use Rattle.std.specs.Io.KnownBytes.{Appends}
 use Rattle.ps_ports.specs.All.{WrotePrefix}
 use Rattle.ps_ports.specs.Causes.{Rose}
 use Rattle.world_law.specs.Laws.{Booked}
+use Rattle.limit_apply.specs.Limits.{Config}
 use Rattle.psched_rehearse.specs.declared.script.Script.{Script}
 use Rattle.psched_rehearse.specs.Rehearsal.{report_of}
 use Rattle.psched_rehearse.specs.Script.{script_of}
 use Rattle.psched_rehearse.specs.World.{world_of}
+use Rattle.psched_cli.specs.Command.{takes_input}
+use Rattle.psched_cli.specs.Limits.{limits_of, valid_text}
 use Rattle.psched_cli.specs.declared.command.Command.{Command}
-use Rattle.psched_cli.specs.declared.command.Command.TheVariants.{Rehearse}
 use Rattle.psched_cli.specs.declared.outcome.Outcome.{Outcome}
-use Rattle.psched_cli.specs.declared.outcome.Outcome.TheVariants.{Report, CannotRead}
-use Rattle.psched_cli.specs.Outcome.{outcome_of, status_of, text_of}
+use Rattle.psched_cli.specs.declared.outcome.Outcome.TheVariants.{Report, Valid, CannotRead}
+use Rattle.psched_cli.specs.Outcome.{line, outcome_of, status_of, text_of}
 
 -- where the source tells its bytes, this is all that it held
 abbrev pub IsAll : Option (List ℕ) → List ℕ → Type 0
@@ -28,10 +30,10 @@ pub record IsGiven (command : Option Command) (held : Option (List ℕ)) (outcom
   pub all : IsAll held input
   pub given : outcome ≡ outcome_of command input
 
--- a rehearsal whose source failed, so that its count rose
+-- a command that reads, whose source failed, so that its count rose
 pub record IsReadFault (asked : Option Command) (before now : ℕ) (outcome : Outcome) : Type 0 where
   pub fault : outcome ≡ CannotRead
-  pub command : asked ≡ Some Rehearse
+  pub reads : takes_input asked ≡ true
   pub cause : Rose before now
 
 -- why this outcome comes
@@ -58,6 +60,24 @@ pub record IsSafeReport (input : List ℕ) (outcome : Outcome) : Type 0 where
   pub safe : Booked (world_of script)
   pub report : outcome ≡ Report (report_of script)
 
+-- the input was read to its end and is a configuration of limits
+pub record Checked (held left : Option (List ℕ)) : Type 0 where
+  pub input : List ℕ
+  pub all : IsAll held input
+  pub ended : IsReadToEnd held left
+  pub config : Config
+  pub grammar : limits_of input ≡ Ok config
+
+-- the line of its counts is the outcome
+abbrev pub IsChecked : Option (List ℕ) → Option (List ℕ) → Outcome → Type 0
+IsChecked held left outcome = (c : Checked held left) × (outcome ≡ Valid (line (valid_text c.config)))
+
+-- the input is a configuration of limits, and the line of its counts is the outcome
+pub record IsValid (input : List ℕ) (outcome : Outcome) : Type 0 where
+  pub config : Config
+  pub grammar : limits_of input ≡ Ok config
+  pub counts : outcome ≡ Valid (line (valid_text config))
+
 -- the status of the outcome that comes, whose text was written whole
 pub record Told (command : Option Command) (held : Option (List ℕ)) (before now : ℕ) (old new : Option (List ℕ)) (status : ℕ) : Type 0 where
   pub outcome : Outcome
@@ -78,3 +98,7 @@ pub record CutShort (command : Option Command) (held : Option (List ℕ)) (befor
 -- the report on the script was written
 abbrev pub Reported : Option (List ℕ) → Option (List ℕ) → Option (List ℕ) → Option (List ℕ) → Type 0
 Reported held left old new = (r : Rehearsed held left) × Appends old new (report_of r.script)
+
+-- the line of the configuration's counts was written
+abbrev pub Validated : Option (List ℕ) → Option (List ℕ) → Option (List ℕ) → Option (List ℕ) → Type 0
+Validated held left old new = (c : Checked held left) × Appends old new (line (valid_text c.config))

@@ -7,6 +7,8 @@ ghost use Rattle.psched_cli.specs.Command.{command_of, command_of_word};
 pub enum Command {
     /// `rehearse`: runs a script and reports what its hosts did.
     Rehearse,
+    /// `validate-limits`: tells whether a text is a configuration of limits.
+    ValidateLimits,
     /// `--help`: tells the words that psched takes.
     Help,
     /// `--version`: tells which version this is.
@@ -18,6 +20,7 @@ fn read_word(word: &str) -> Option<Command>
 {
     match word {
         "rehearse" => Some(Command::Rehearse),
+        "validate-limits" => Some(Command::ValidateLimits),
         "--help" => Some(Command::Help),
         "--version" => Some(Command::Version),
         _ => None,

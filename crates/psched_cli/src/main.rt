@@ -9,6 +9,9 @@ use std::process::ExitCode;
 use std::{env, io};
 
 mod command;
+mod limits;
+#[cfg(test)]
+mod limits_tests;
 mod outcome;
 mod psched;
 #[cfg(test)]

@@ -16,9 +16,11 @@ pub enum Outcome {
     Version,
     /// The report on the script.
     Report(Text),
+    /// The input is a configuration of limits: how many entries it has.
+    Valid(Text),
     /// The words aren't in the grammar.
     WrongWords,
-    /// The input isn't a script: its first bad line, and why.
+    /// The input isn't in the command's grammar: its first refusal.
     Refused(Text),
     /// More than `MAX_INPUT` bytes came.
     TooLong,
@@ -31,7 +33,7 @@ impl Outcome {
         ensures { result ≡ status_of self.now }
     {
         match self {
-            Outcome::Usage | Outcome::Version | Outcome::Report(_) => 0,
+            Outcome::Usage | Outcome::Version | Outcome::Report(_) | Outcome::Valid(_) => 0,
             Outcome::WrongWords => 1,
             Outcome::Refused(_) | Outcome::TooLong => 2,
             Outcome::CannotRead => 3,
@@ -44,7 +46,7 @@ impl Outcome {
         match self {
             Outcome::Usage | Outcome::WrongWords => USAGE,
             Outcome::Version => "psched 0.1.0\n",
-            Outcome::Report(text) | Outcome::Refused(text) => text.as_str(),
+            Outcome::Report(text) | Outcome::Valid(text) | Outcome::Refused(text) => text.as_str(),
             Outcome::TooLong => "input too long\n",
             Outcome::CannotRead => "cannot read\n",
         }

@@ -1,14 +1,15 @@
 //! The top call: psched over any source and sink.
-ghost use Rattle.std.specs.Prelude.{◌≡◌, ◌≢◌, ◌≤◌, ◌<◌, Some, None, IfOk, IfSome, IsErr};
+ghost use Rattle.std.specs.Prelude.{◌≡◌, ◌≢◌, ◌≤◌, ◌<◌, true, false, Some, None, IfOk, IfSome, IsErr};
 ghost use Rattle.std.specs.Io.KnownBytes.{Appends};
 ghost use Rattle.ps_ports.specs.All.{WrotePrefix};
 ghost use Rattle.ps_ports.specs.Causes.{Rose};
 ghost use Rattle.psched_rehearse.specs.Script.{script_of};
-ghost use Rattle.psched_cli.specs.Command.{asked};
-ghost use Rattle.psched_cli.specs.Outcome.{outcome_of, outcome_of_script, status_of, text_of};
-ghost use Rattle.psched_cli.specs.Psched.{Comes, CutShort, Exactly, IsRehearsed, IsSafeReport, Reported, Told};
+ghost use Rattle.psched_cli.specs.Command.{asked, takes_input};
+ghost use Rattle.psched_cli.specs.Outcome.{outcome_of, outcome_of_script, status_of, text_of, unread_of};
+ghost use Rattle.psched_cli.specs.Psched.{Comes, CutShort, Exactly, IsChecked, IsRehearsed, IsSafeReport, Reported, Told, Validated};
 
 use crate::command::{Command, read_command};
+use crate::limits::validate_bytes;
 use crate::outcome::Outcome;
 use ps_ports::all::{read_all, write_all};
 use ps_ports::fault::AllFault;
@@ -44,6 +45,17 @@ fn rehearse_bytes(alloc: Global, bytes: &[u8]) -> Result<Outcome, Memory>
     }
 }
 
+// What a command comes to whose input didn't come whole.
+fn without_input(fault: AllFault) -> Result<Outcome, Memory>
+    ensures { IfOk result (λ outcome. unread_of fault ≡ Some outcome) }
+{
+    match fault {
+        AllFault::TooLong => Ok(Outcome::TooLong),
+        AllFault::ReadFault => Ok(Outcome::CannotRead),
+        AllFault::Memory => Err(Memory),
+    }
+}
+
 fn rehearse_source<S: Source>(alloc: Global, source: &mut S) -> Result<Outcome, Memory>
     ensures comes { IfOk result (Comes (Some Command.Rehearse) (S.left source.old) (S.read_faults source.old) (S.read_faults source.new)) }
     ensures rehearsed { IfOk result (λ outcome. status_of outcome ≡ 0 → IsRehearsed (S.left source.old) (S.left source.new) outcome) }
@@ -52,22 +64,34 @@ fn rehearse_source<S: Source>(alloc: Global, source: &mut S) -> Result<Outcome, 
 {
     match read_all(alloc, source, MAX_INPUT) {
         Ok(bytes) => rehearse_bytes(alloc, &bytes),
-        Err(AllFault::TooLong) => Ok(Outcome::TooLong),
-        Err(AllFault::ReadFault) => Ok(Outcome::CannotRead),
-        Err(AllFault::Memory) => Err(Memory),
+        Err(fault) => without_input(fault),
+    }
+}
+
+fn validate_source<S: Source>(alloc: Global, source: &mut S) -> Result<Outcome, Memory>
+    ensures comes { IfOk result (Comes (Some Command.ValidateLimits) (S.left source.old) (S.read_faults source.old) (S.read_faults source.new)) }
+    ensures validated { IfOk result (λ outcome. status_of outcome ≡ 0 → IsChecked (S.left source.old) (S.left source.new) outcome) }
+    ensures later { S.read_faults source.old ≤ S.read_faults source.new }
+    ensures kept { S.kept source.old source.new }
+{
+    match read_all(alloc, source, MAX_INPUT) {
+        Ok(bytes) => validate_bytes(alloc, &bytes),
+        Err(fault) => without_input(fault),
     }
 }
 
 fn run<S: Source>(alloc: Global, words: &[String], source: &mut S) -> Result<Outcome, Memory>
     ensures comes { IfOk result (Comes (asked words.now) (S.left source.old) (S.read_faults source.old) (S.read_faults source.new)) }
     ensures rehearsed { IfOk result (λ outcome. status_of outcome ≡ 0 → asked words.now ≡ Some Command.Rehearse → IsRehearsed (S.left source.old) (S.left source.new) outcome) }
-    ensures memory { IsErr result → asked words.now ≡ Some Command.Rehearse }
-    ensures unread { asked words.now ≢ Some Command.Rehearse → source.new ≡ source.old }
+    ensures validated { IfOk result (λ outcome. status_of outcome ≡ 0 → asked words.now ≡ Some Command.ValidateLimits → IsChecked (S.left source.old) (S.left source.new) outcome) }
+    ensures memory { IsErr result → takes_input (asked words.now) ≡ true }
+    ensures unread { takes_input (asked words.now) ≡ false → source.new ≡ source.old }
     ensures later { S.read_faults source.old ≤ S.read_faults source.new }
     ensures kept { S.kept source.old source.new }
 {
     match read_command(words) {
         Some(Command::Rehearse) => rehearse_source(alloc, source),
+        Some(Command::ValidateLimits) => validate_source(alloc, source),
         Some(Command::Help) => Ok(Outcome::Usage),
         Some(Command::Version) => Ok(Outcome::Version),
         None => Ok(Outcome::WrongWords),
@@ -107,6 +131,9 @@ pub fn psched<S: Source, K: Sink>(
     // A rehearsal that succeeds wrote the report on its script, and no two booked runs of a host conflict.
     ensures rehearsed { result ≡ 0 → asked words.now ≡ Some Command.Rehearse → Reported (S.left source.old) (S.left source.new) (K.written sink.old) (K.written sink.new) }
 
+    // A check that succeeds wrote how many entries the configuration has.
+    ensures validated { result ≡ 0 → asked words.now ≡ Some Command.ValidateLimits → Validated (S.left source.old) (S.left source.new) (K.written sink.old) (K.written sink.new) }
+
     ensures wrong_words { result ≡ 1 → asked words.now ≡ None }
     ensures read_fault { result ≡ 3 → Rose (S.read_faults source.old) (S.read_faults source.new) }
     ensures write_fault { result ≡ 4 → Rose (K.write_faults sink.old) (K.write_faults sink.new) }
@@ -114,13 +141,13 @@ pub fn psched<S: Source, K: Sink>(
     // A part of the front of the text that was due went out.
     ensures prefix { result ≡ 4 → CutShort (asked words.now) (S.left source.old) (S.read_faults source.old) (S.read_faults source.new) (K.written sink.old) (K.written sink.new) }
 
-    // Want of memory, in a rehearsal alone. Nothing was written.
+    // Want of memory, in a command that reads alone. Nothing was written.
     ensures memory { 4 < result → result ≡ 10 }
-    ensures memory_wanted { result ≡ 10 → asked words.now ≡ Some Command.Rehearse }
+    ensures memory_wanted { result ≡ 10 → takes_input (asked words.now) ≡ true }
     ensures memory_unsaid { result ≡ 10 → sink.new ≡ sink.old }
 
-    // Only a rehearsal reads.
-    ensures unread { asked words.now ≢ Some Command.Rehearse → source.new ≡ source.old }
+    // The other commands, and words that aren't in the grammar, read nothing.
+    ensures unread { takes_input (asked words.now) ≡ false → source.new ≡ source.old }
 
     ensures read_later { S.read_faults source.old ≤ S.read_faults source.new }
     ensures write_later { K.write_faults sink.old ≤ K.write_faults sink.new }

@@ -26,14 +26,14 @@ a 150 200 exclusive 0 pending 00010000-0000-8001-8000-000000020000
 
 /// What a call answered and did.
 #[derive(Drop)]
-struct Ran {
+pub struct Ran {
     status: u8,
     sink: MemorySink,
     source: MemorySource,
 }
 
 /// Calls psched with words that are cut at each space, over a source and a sink in memory.
-fn run(
+pub fn run(
     alloc: Global,
     words: &str,
     input: &[u8],
@@ -55,7 +55,7 @@ fn run(
 }
 
 /// A call that answers this status and writes this text.
-fn expect(
+pub fn expect(
     rt: &impl Abort,
     alloc: Global,
     words: &str,
@@ -85,6 +85,8 @@ fn words(rt: HostRuntime) -> Result<(), Fail> {
         "--help --version",
         "-h",
         "generate 1",
+        "validate_limits",
+        "validate-limits rehearse",
     ] {
         expect(&rt, alloc, words, TOUCHING.as_bytes(), 1, USAGE)?;
     }
@@ -223,7 +225,7 @@ fn refusals(rt: HostRuntime) -> Result<(), Fail> {
 }
 
 /// A call whose sink or source fails, with what was written by then.
-fn expect_fault(rt: &impl Abort, ran: Ran, status: u8, written: &str) {
+pub fn expect_fault(rt: &impl Abort, ran: Ran, status: u8, written: &str) {
     assert_eq!(rt; ran.status, status);
     assert!(rt; ran.sink.written() == written.as_bytes(), "{written}");
     assert_eq!(rt; ran.source.faults(), if status == 3 { 1 } else { 0 });

@@ -9,6 +9,10 @@ pub returns-in-Some-Rehearse-clause-rehearsed : goal.returns-in-Some-Rehearse-cl
 returns-in-Some-Rehearse-clause-rehearsed g c =
     IfOk-map c.rehearse_source.result (λ outcome done zero _. done zero) c.rehearse_source.ensures.rehearsed
 
+pub returns-in-Some-ValidateLimits-clause-validated : goal.returns-in-Some-ValidateLimits-clause-validated
+returns-in-Some-ValidateLimits-clause-validated g c =
+    IfOk-map c.validate_source.result (λ outcome done zero _. done zero) c.validate_source.ensures.validated
+
 pub returns-in-Some-Help-clause-comes : goal.returns-in-Some-Help-clause-comes
 returns-in-Some-Help-clause-comes g c =
     let is : asked c.args.words.now ≡ Some Help = search rules in
