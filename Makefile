@@ -1,12 +1,16 @@
-# make rehearse SCRIPT=FILE  writes the report on a script
-# make build                 proves psched and the crates below it, and leaves it at build/psched
-# make examples              runs examples/ on build/psched
-# make test                  the gate: every proof and test, then the examples
-# make bench                 times build/psched
-.PHONY: rehearse build examples test bench
+# make rehearse SCRIPT=FILE         writes the report on a script
+# make validate-limits LIMITS=FILE  says whether a configuration of limits is valid
+# make build                        proves psched and the crates below it, and leaves it at build/psched
+# make examples                     runs examples/ on build/psched
+# make test                         the gate: every proof and test, then the examples
+# make bench                        times build/psched
+.PHONY: rehearse validate-limits build examples test bench
 
 rehearse:
 	@bin/rehearse "$(SCRIPT)"
+
+validate-limits:
+	@bin/validate-limits "$(LIMITS)"
 
 # Built by its first run, which tells its version.
 build:
