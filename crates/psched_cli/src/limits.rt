@@ -27,7 +27,9 @@ fn valid_line(alloc: Global, counts: Counts) -> Result<Text, Memory>
     let classifiers = counts.classifiers;
     let limits = counts.limits;
     let applications = counts.applications;
-    let line = format!(in alloc; "valid: {identifiers} identifiers, {classifiers} classifiers, {limits} limits, {applications} applications\n")?;
+    let line = format!(in alloc;
+        "valid: {identifiers} identifiers, {classifiers} classifiers, {limits} limits, {applications} applications\n"
+    )?;
     Ok(Text::from_string(line))
 }
 

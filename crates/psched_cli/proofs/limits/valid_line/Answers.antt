@@ -9,4 +9,4 @@ pub returns : goal.returns
 returns c =
     let n = c.args.counts in
     c.from_string.ensures ∙ c.in_ok-line.ensures.ok ∙ sym (regroup (codes "valid: ") (decimal n.identifiers) (codes " identifiers, ") (decimal n.classifiers) (codes " classifiers, ")
-      (decimal n.limits) (codes " limits, ") (decimal n.applications) (codes " applications") (10 ∷ []))
+    (decimal n.limits) (codes " limits, ") (decimal n.applications) (codes " applications") (10 ∷ []))

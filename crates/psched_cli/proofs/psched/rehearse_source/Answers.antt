@@ -9,7 +9,7 @@ returns-in-Ok-clause-rehearsed g c =
 pub returns-in-Err-clause-comes : goal.returns-in-Err-clause-comes
 returns-in-Err-clause-comes g c =
     IfOk-map c.without_input.result (λ outcome is. comes_unread _ _ (g.S.Source.left c.read_all.new.source) _ _ c.in-Err.fault outcome refl
-      (λ e. c.read_all.ensures.too_long (search rules)) (λ e. c.read_all.ensures.held_more (search rules)) (λ e. c.read_all.ensures.fault (search rules)) is) c.without_input.ensures
+    (λ e. c.read_all.ensures.too_long (search rules)) (λ e. c.read_all.ensures.held_more (search rules)) (λ e. c.read_all.ensures.fault (search rules)) is) c.without_input.ensures
 
 pub returns-in-Err-clause-rehearsed : goal.returns-in-Err-clause-rehearsed
 returns-in-Err-clause-rehearsed g c =
