@@ -8,3 +8,5 @@ pub mod open;
 pub mod read;
 pub mod read_applications;
 pub mod read_limits;
+#[cfg(test)]
+mod tests;
