@@ -109,11 +109,50 @@ wrong kind end <- "limits":[{"name":"l","type":"run-daterange","data":{"start":"
 bad range end <- "limits":[{"name":"l","type":"run-daterange","data":{"start":"1970-01-01T00:01","end":"1970-01-01T00:00:59"}}]
 wrong kind overlap <- "limits":[{"name":"l","type":"run-daterange","data":{"start":"1970-01-01T00:00","end":"1970-01-01T00:00","overlap":1}}]
 unknown member x <- "limits":[{"name":"l","type":"run-daterange","data":{"start":"1970-01-01T00:00","end":"1970-01-01T00:00","x":1}}]
-none <- "limits":[{"name":"l","type":"run-daterange","data":{"start":"1970-01-01T00:00","end":"1970-01-01T00:00"}}]"#;
+none <- "limits":[{"name":"l","type":"run-daterange","data":{"start":"1970-01-01T00:00","end":"1970-01-01T00:00"}}]
+missing data <- "limits":[{"name":"l","type":"run-schedule"}]"#;
 
 #[test]
 fn tests_and_dates(rt: HostRuntime) -> Result<(), Fail> {
     check(rt.alloc(), WHO, TESTS, USES)
+}
+
+static SCHEDULES: &str = r##"wrong kind data <- 1
+wrong kind month <- {"month":1}
+wrong kind hour <- {"hour":{"lower":1,"upper":2}}
+empty hour <- {"hour":[]}
+bad range month <- {"month":[0]}
+bad range month <- {"month":[1,13]}
+bad range monthday <- {"monthday":[0]}
+bad range monthday <- {"monthday":[32]}
+bad range weekday <- {"weekday":[0]}
+bad range weekday <- {"weekday":[8]}
+bad range hour <- {"hour":[-1]}
+bad range hour <- {"hour":[24]}
+bad range minute <- {"minute":[60]}
+wrong kind hour <- {"hour":["1"]}
+wrong kind hour <- {"hour":[1.5]}
+wrong kind hour <- {"hour":[[1]]}
+missing lower <- {"hour":[{}]}
+missing upper <- {"hour":[{"lower":1}]}
+wrong kind upper <- {"hour":[{"lower":1,"upper":"2"}]}
+bad range hour <- {"hour":[{"lower":24,"upper":"2"}]}
+bad range hour <- {"hour":[{"lower":2,"upper":24}]}
+bad range hour <- {"hour":[{"lower":2,"upper":1,"x":1}]}
+unknown member x <- {"hour":[{"lower":2,"upper":2,"x":1}]}
+wrong kind overlap <- {"overlap":1}
+unknown member year <- {"year":[2024],"zone":1}
+bad range month <- {"hour":[24],"month":[13]}
+none <- {"hour":[{"lower":2,"upper":2,"#x":1},0],"#":1}
+none <- {}"##;
+
+#[test]
+fn schedules(rt: HostRuntime) -> Result<(), Fail> {
+    let before = format!(in rt.alloc();
+        "{WHO}\"limits\":[{{\"name\":\"l\",\"type\":\"run-schedule\",\"data\":"
+    )?;
+    let behind = format!(in rt.alloc(); "}}]{USES}")?;
+    check(rt.alloc(), before.as_str(), SCHEDULES, behind.as_str())
 }
 
 static APPLICATIONS: &str = r##"missing applications <- "x":1
