@@ -1,8 +1,7 @@
 //! Of which tests and runs a limit is true.
 use crate::limits::Limits;
-use crate::tests::{asker, read};
+use crate::tests::{asker, idle, letter, permits, read};
 use plugin_core::test_spec::TestSpec;
-use ps_time::asker::{Asker, Verdict};
 use ps_time::interval::Interval;
 use ps_time::items::Items;
 use ps_time::memory::Memory;
@@ -15,14 +14,6 @@ static BEFORE: &str =
 
 static BEHIND: &str =
     r#"}],"applications":[{"classifier":"c","apply":[{"require":"all","limits":["l"]}]}]}"#;
-
-fn idle(duration: u64) -> TestSpec {
-    TestSpec::Idle {
-        duration,
-        starting_comment: None,
-        parting_comment: None,
-    }
-}
 
 /// The five tests, of 10 s, with an interval of 2 s, a dawdle of 3 s and a timeout of 4 s.
 fn test(alloc: Global, number: usize) -> Result<TestSpec, Memory> {
@@ -54,21 +45,24 @@ fn test(alloc: Global, number: usize) -> Result<TestSpec, Memory> {
     }
 }
 
-fn letter(verdict: Verdict) -> &'static str {
-    match verdict {
-        Verdict::Permitted(_) => "y",
-        _ => "n",
-    }
+fn test_held(alloc: Global, limits: &Limits, number: usize) -> Result<&'static str, Memory> {
+    let asker = asker(alloc, "::1")?;
+    let test = test(alloc, number)?;
+    let run = Interval { start: 0, end: 10 };
+    Ok(letter(permits(limits, asker, test, run, 0)))
 }
 
-fn tests_held(alloc: Global, limits: &Limits, asker: &Asker) -> Result<String, Fail> {
-    let run = Interval { start: 0, end: 10 };
+fn tests_held(alloc: Global, limits: &Limits) -> Result<String, Fail> {
     let mut told = String::new(alloc);
     for number in 0..5_usize {
-        let verdict = limits.permits(asker, &test(alloc, number)?, &run, 0);
-        told.push_str(letter(verdict))?;
+        told.push_str(test_held(alloc, limits, number)?)?;
     }
     Ok(told)
+}
+
+fn tests_told(alloc: Global, text: &str) -> Result<String, Fail> {
+    let limits = read(alloc, text)?;
+    tests_held(alloc, &limits)
 }
 
 // Of idle, idleex, idlebgm, idlemany, simplestream.
@@ -101,8 +95,7 @@ fn tests(rt: HostRuntime) -> Result<(), Fail> {
     for case in TESTS.split('\n') {
         let (want, limit) = case.split_once(" <- ").ok_or("no case")?;
         let text = format!(in alloc; "{BEFORE}{limit}{BEHIND}")?;
-        let limits = read(alloc, text.as_str())?;
-        let told = tests_held(alloc, &limits, &asker(alloc, "::1")?)?;
+        let told = tests_told(alloc, text.as_str())?;
         if told.as_str() != want {
             return Err(Fail::new(format_args!("{limit} is told {told}")));
         }
@@ -131,19 +124,26 @@ fn interval(start: u64, end: u64) -> Option<Interval> {
     }
 }
 
-fn runs_held(
-    alloc: Global,
-    limits: &Limits,
-    asker: &Asker,
-    runs: &[(u64, u64)],
-) -> Result<String, Fail> {
+fn run_held(alloc: Global, limits: &Limits, start: u64, end: u64) -> Result<&'static str, Fail> {
+    let run = interval(start, end).ok_or("no run")?;
+    let asker = asker(alloc, "::1")?;
+    Ok(letter(permits(limits, asker, idle(10), run, 0)))
+}
+
+fn runs_held(alloc: Global, limits: &Limits, runs: &[(u64, u64)]) -> Result<String, Fail> {
     let mut told = String::new(alloc);
     for (start, end) in runs {
-        let run = interval(*start, *end).ok_or("no run")?;
-        told.push_str(letter(limits.permits(asker, &idle(10), &run, 0)))?;
+        told.push_str(run_held(alloc, limits, *start, *end)?)?;
     }
     Ok(told)
 }
+
+fn runs_told(alloc: Global, text: &str) -> Result<String, Fail> {
+    let limits = read(alloc, text)?;
+    runs_held(alloc, &limits, &RUNS)
+}
+
+static DATED: &str = r#""type":"run-daterange","data":"#;
 
 // 1970-01-01T00:01:40 is 100, T00:03:20 is 200.
 static DATES: &str = r#"ynnyynnnn <- {"start":"1970-01-01T00:01:40","end":"1970-01-01T00:03:20"}
@@ -159,9 +159,8 @@ fn dates(rt: HostRuntime) -> Result<(), Fail> {
     let alloc = rt.alloc();
     for case in DATES.split('\n') {
         let (want, data) = case.split_once(" <- ").ok_or("no case")?;
-        let text = format!(in alloc; "{BEFORE}\"type\":\"run-daterange\",\"data\":{data}{BEHIND}")?;
-        let limits = read(alloc, text.as_str())?;
-        let told = runs_held(alloc, &limits, &asker(alloc, "::1")?, &RUNS)?;
+        let text = format!(in alloc; "{BEFORE}{DATED}{data}{BEHIND}")?;
+        let told = runs_told(alloc, text.as_str())?;
         if told.as_str() != want {
             return Err(Fail::new(format_args!("{data} is told {told}")));
         }

@@ -1,9 +1,7 @@
 //! Schedules of runs.
 use crate::civil::civil_at;
 use crate::limits::Limits;
-use crate::tests::{asker, read};
-use plugin_core::test_spec::TestSpec;
-use ps_time::asker::Verdict;
+use crate::tests::{asker, idle, letter, permits, read};
 use ps_time::interval::Interval;
 use ps_time::moment::Round;
 use ps_time::read_moment::read_moment;
@@ -69,16 +67,15 @@ fn run(start: &str, length: &str) -> Option<Interval> {
     }
 }
 
-fn letter(alloc: Global, limits: &Limits, run: &Interval) -> Result<&'static str, Fail> {
-    let test = TestSpec::Idle {
-        duration: 10,
-        starting_comment: None,
-        parting_comment: None,
-    };
-    match limits.permits(&asker(alloc, "::1")?, &test, run, 0) {
-        Verdict::Permitted(_) => Ok("y"),
-        _ => Ok("n"),
-    }
+fn held(alloc: Global, limits: &Limits, run: Interval) -> Result<&'static str, Fail> {
+    let asker = asker(alloc, "::1")?;
+    Ok(letter(permits(limits, asker, idle(10), run, 0)))
+}
+
+fn told(alloc: Global, data: &str, run: Interval) -> Result<&'static str, Fail> {
+    let text = format!(in alloc; "{BEFORE}{data}{BEHIND}")?;
+    let limits = read(alloc, text.as_str())?;
+    held(alloc, &limits, run)
 }
 
 fn check(alloc: Global, cases: &str) -> Result<(), Fail> {
@@ -86,10 +83,8 @@ fn check(alloc: Global, cases: &str) -> Result<(), Fail> {
         let (want, rest) = case.split_once(' ').ok_or("no case")?;
         let (start, rest) = rest.split_once(' ').ok_or("no start")?;
         let (length, data) = rest.split_once(' ').ok_or("no length")?;
-        let text = format!(in alloc; "{BEFORE}{data}{BEHIND}")?;
-        let limits = read(alloc, text.as_str())?;
         let run = run(start, length).ok_or("no run")?;
-        if letter(alloc, &limits, &run)? != want {
+        if told(alloc, data, run)? != want {
             return Err(Fail::new(format_args!("{case}")));
         }
     }

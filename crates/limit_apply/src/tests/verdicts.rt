@@ -1,8 +1,9 @@
 //! What configurations answer to those who ask.
-use crate::limits::Limits;
-use crate::tests::{asker, read, told};
-use plugin_core::test_spec::TestSpec;
+use crate::limits::{Counts, Limits};
+use crate::tests::{admits, asker, idle, permits, read, told};
+use limit_ident::fault::LimitFault;
 use ps_time::interval::Interval;
+use ps_time::memory::Memory;
 use std::alloc::Global;
 use std::test::Fail;
 
@@ -10,15 +11,7 @@ use std::test::Fail;
 static USUAL: &str =
     r#"{"identifiers":[{"name":"everybody","type":"always","data":{}},{"name":"local","type":"ip-cidr-list","data":{"cidrs":["127.0.0.0/8","::1/128"]}},{"name":"friends","type":"ip-cidr-list","data":{"cidrs":["10.1.0.0/16","192.0.2.0/24"]}},{"name":"hostile","type":"ip-cidr-list","data":{"cidrs":["198.51.100.0/24"]}}],"classifiers":[{"name":"hostiles","identifiers":["hostile"]},{"name":"locals","identifiers":["local"]},{"name":"friends","identifiers":["friends"]},{"name":"default","identifiers":["everybody"]}],"limits":[{"name":"always","type":"pass-fail","data":{"pass":true}},{"name":"never","type":"pass-fail","data":{"pass":false}},{"name":"innocuous","type":"test-type","data":{"types":["idle","idlebgm"]}},{"name":"idle-short","type":"test","data":{"test":"idle","limit":{"duration":{"range":{"lower":"PT1S","upper":"PT10M"}}}}}],"applications":[{"classifier":"hostiles","apply":[{"require":"all","limits":["never"]}],"stop-on-failure":true},{"classifier":"locals","apply":[{"require":"all","limits":["always"]}]},{"classifier":"friends","apply":[{"require":"any","limits":["innocuous"]}]},{"classifier":"default","apply":[{"require":"any","limits":["idle-short"]}]}],"priorities":{"default":0,"classifiers":[{"classifier":"locals","ceiling":100}]}}"#;
 
-fn idle(duration: u64) -> TestSpec {
-    TestSpec::Idle {
-        duration,
-        starting_comment: None,
-        parting_comment: None,
-    }
-}
-
-fn permits(
+fn permitted(
     alloc: Global,
     limits: &Limits,
     requester: &str,
@@ -26,15 +19,20 @@ fn permits(
     priority: i16,
 ) -> Result<String, Fail> {
     let run = Interval { start: 0, end: 10 };
-    let verdict = limits.permits(&asker(alloc, requester)?, &idle(duration), &run, priority);
+    let asker = asker(alloc, requester)?;
+    let verdict = permits(limits, asker, idle(duration), run, priority);
     Ok(told(alloc, verdict)?)
 }
 
-fn admits(alloc: Global, limits: &Limits, requester: &str, duration: u64) -> Result<String, Fail> {
-    Ok(told(
-        alloc,
-        limits.admits(&asker(alloc, requester)?, &idle(duration)),
-    )?)
+fn admitted(
+    alloc: Global,
+    limits: &Limits,
+    requester: &str,
+    duration: u64,
+) -> Result<String, Fail> {
+    let asker = asker(alloc, requester)?;
+    let verdict = admits(limits, asker, idle(duration));
+    Ok(told(alloc, verdict)?)
 }
 
 // Who asks, for how many seconds of `idle`, at which priority; and what is permitted, and admitted.
@@ -58,34 +56,48 @@ fn check_rows(
     limits: &Limits,
     rows: &[(&str, u64, i16, &str, &str)],
 ) -> Result<(), Fail> {
-    for (requester, duration, priority, permitted, admitted) in rows {
-        let told = permits(alloc, limits, requester, *duration, *priority)?;
-        if told.as_str() != *permitted {
+    for (requester, duration, priority, run, before) in rows {
+        let told = permitted(alloc, limits, requester, *duration, *priority)?;
+        if told.as_str() != *run {
             return Err(Fail::new(format_args!("{requester} is told {told}")));
         }
-        let told = admits(alloc, limits, requester, *duration)?;
-        if told.as_str() != *admitted {
+        let told = admitted(alloc, limits, requester, *duration)?;
+        if told.as_str() != *before {
             return Err(Fail::new(format_args!("{requester} is told {told} before")));
         }
     }
     Ok(())
 }
 
+fn check_read(alloc: Global, rows: &[(&str, u64, i16, &str, &str)]) -> Result<(), Fail> {
+    let limits = read(alloc, USUAL)?;
+    check_rows(alloc, &limits, rows)
+}
+
+fn count(alloc: Global, text: &str) -> Result<Counts, LimitFault> {
+    Ok(read(alloc, text)?.counts())
+}
+
 #[test]
 fn the_usual_configuration(rt: HostRuntime) -> Result<(), Fail> {
-    let limits = read(rt.alloc(), USUAL)?;
-    let counts = limits.counts();
-    assert_eq!(rt; counts.identifiers, 4);
-    assert_eq!(rt; counts.classifiers, 4);
-    assert_eq!(rt; counts.limits, 4);
-    assert_eq!(rt; counts.applications, 4);
-    check_rows(rt.alloc(), &limits, &USUAL_ROWS)
+    let counts = count(rt.alloc(), USUAL)?;
+    assert!(rt; counts.identifiers == 4 && counts.classifiers == 4);
+    assert!(rt; counts.limits == 4 && counts.applications == 4);
+    check_read(rt.alloc(), &USUAL_ROWS)
+}
+
+fn copied(alloc: Global, limits: Limits) -> Result<Limits, Memory> {
+    limits.copy(alloc)
+}
+
+fn check_copy(alloc: Global, rows: &[(&str, u64, i16, &str, &str)]) -> Result<(), Fail> {
+    let limits = copied(alloc, read(alloc, USUAL)?)?;
+    check_rows(alloc, &limits, rows)
 }
 
 #[test]
 fn a_copy(rt: HostRuntime) -> Result<(), Fail> {
-    let limits = read(rt.alloc(), USUAL)?.copy(rt.alloc())?;
-    check_rows(rt.alloc(), &limits, &USUAL_ROWS)
+    check_copy(rt.alloc(), &USUAL_ROWS)
 }
 
 static OPEN_ROWS: [(&str, u64, i16, &str, &str); 3] = [
@@ -94,11 +106,18 @@ static OPEN_ROWS: [(&str, u64, i16, &str, &str); 3] = [
     ("", 10, 1_001, "above 1000", "permitted 0"),
 ];
 
+fn open(alloc: Global) -> Result<Limits, Memory> {
+    Limits::open(alloc)
+}
+
+fn check_open(alloc: Global, rows: &[(&str, u64, i16, &str, &str)]) -> Result<(), Fail> {
+    let limits = open(alloc)?;
+    check_rows(alloc, &limits, rows)
+}
+
 #[test]
 fn the_open_configuration(rt: HostRuntime) -> Result<(), Fail> {
-    let limits = Limits::open(rt.alloc())?;
-    assert_eq!(rt; limits.counts().applications, 1);
-    check_rows(rt.alloc(), &limits, &OPEN_ROWS)
+    check_open(rt.alloc(), &OPEN_ROWS)
 }
 
 // Before the applications: `c` is everybody, `n` nobody; `yes` and `too` are true, `no` isn't; `dates` are
@@ -106,14 +125,22 @@ fn the_open_configuration(rt: HostRuntime) -> Result<(), Fail> {
 static BEFORE: &str =
     r#"{"identifiers":[{"name":"i","type":"always"}],"classifiers":[{"name":"c","identifiers":["i"]},{"name":"n","identifiers":["i"],"require":"none"}],"limits":[{"name":"yes","type":"pass-fail","data":{"pass":true}},{"name":"no","type":"pass-fail"},{"name":"too","type":"test-type","data":{"types":["idle"]}},{"name":"dates","type":"run-daterange","data":{"start":"1970-01-01T00:00","end":"1970-01-01T00:00:10"}},{"name":"late","type":"run-daterange","data":{"start":"1970-01-01T00:00:05","end":"1970-01-01T00:01"}},{"name":"not-late","type":"run-daterange","data":{"start":"1970-01-01T00:00:05","end":"1970-01-01T00:01"},"invert":true}],"applications":["#;
 
+fn both(alloc: Global, limits: &Limits) -> Result<String, Fail> {
+    let run = permitted(alloc, limits, "::1", 10, 0)?;
+    let before = admitted(alloc, limits, "::1", 10)?;
+    Ok(format!(in alloc; "{run}, {before}")?)
+}
+
+fn both_told(alloc: Global, text: &str) -> Result<String, Fail> {
+    let limits = read(alloc, text)?;
+    both(alloc, &limits)
+}
+
 fn check(alloc: Global, cases: &str) -> Result<(), Fail> {
     for case in cases.split('\n') {
         let (want, applications) = case.split_once(" <- ").ok_or("no case")?;
         let text = format!(in alloc; "{BEFORE}{applications}]}}")?;
-        let limits = read(alloc, text.as_str())?;
-        let permitted = permits(alloc, &limits, "::1", 10, 0)?;
-        let admitted = admits(alloc, &limits, "::1", 10)?;
-        let told = format!(in alloc; "{permitted}, {admitted}")?;
+        let told = both_told(alloc, text.as_str())?;
         if told.as_str() != want {
             return Err(Fail::new(format_args!("{applications} is told {told}")));
         }
@@ -190,16 +217,28 @@ static CEILINGS: &str = r#"0 0 <- }
 1000 5 <- ,"priorities":{"default":5,"classifiers":[{"classifier":"h","ceiling":1000},{"classifier":"n","ceiling":900}]}}
 3 -1000 <- ,"priorities":{"default":-1000,"classifiers":[{"classifier":"h","ceiling":2},{"classifier":"h","ceiling":3}]}}"#;
 
+fn ceiling(alloc: Global, limits: &Limits, requester: &str) -> Result<i16, Memory> {
+    Ok(limits.ceiling(&asker(alloc, requester)?))
+}
+
+fn two_ceilings(alloc: Global, limits: &Limits) -> Result<String, Fail> {
+    let first = ceiling(alloc, limits, "::1")?;
+    let second = ceiling(alloc, limits, "::2")?;
+    Ok(format!(in alloc; "{first} {second}")?)
+}
+
+fn ceilings_told(alloc: Global, text: &str) -> Result<String, Fail> {
+    let limits = read(alloc, text)?;
+    two_ceilings(alloc, &limits)
+}
+
 #[test]
 fn ceilings(rt: HostRuntime) -> Result<(), Fail> {
     let alloc = rt.alloc();
     for case in CEILINGS.split('\n') {
         let (want, priorities) = case.split_once(" <- ").ok_or("no case")?;
         let text = format!(in alloc; "{WHO}{priorities}")?;
-        let limits = read(alloc, text.as_str())?;
-        let first = limits.ceiling(&asker(alloc, "::1")?);
-        let second = limits.ceiling(&asker(alloc, "::2")?);
-        let told = format!(in alloc; "{first} {second}")?;
+        let told = ceilings_told(alloc, text.as_str())?;
         if told.as_str() != want {
             return Err(Fail::new(format_args!("{priorities} is told {told}")));
         }
