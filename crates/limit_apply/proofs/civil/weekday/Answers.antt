@@ -1,4 +1,3 @@
-use Rattle.std.proofs.Common.{refl}
 use Rattle.limit_apply.proofs.CivilLemmas.{weekday_is}
 use Rattle.limit_apply.proofs.civil.weekday.Goals as goal
 
