@@ -1,2 +1,3 @@
+pub mod CivilLemmas
 pub mod SignedLemmas
 pub mod WalkLemmas

@@ -5,11 +5,14 @@ use Rattle.ps_time.specs.Span.{Span}
 use Rattle.plugin_core.specs.declared.test_spec.TestSpec.{TestSpec}
 use Rattle.plugin_core.specs.declared.test_spec.TestSpec.TheVariants.{Idle, Idleex, Idlebgm, Idlemany, Simplestream}
 use Rattle.limit_ident.specs.Identifier.{turned}
-use Rattle.limit_apply.specs.declared.limit.Bounds.{Bounds}
+use Rattle.limit_apply.specs.declared.bounds.Bounds.{Bounds}
+use Rattle.limit_apply.specs.declared.schedule.Schedule.{Schedule}
+use Rattle.limit_apply.specs.Bounds.{lies}
+use Rattle.limit_apply.specs.Schedule.{in_schedule}
 use Rattle.limit_apply.specs.declared.limit.Lengths.{Lengths}
 use Rattle.limit_apply.specs.declared.limit.DateRange.{DateRange}
 use Rattle.limit_apply.specs.declared.limit.Rule.{Rule}
-use Rattle.limit_apply.specs.declared.limit.Rule.TheVariants.{PassFail, TestType, Test, RunDateRange}
+use Rattle.limit_apply.specs.declared.limit.Rule.TheVariants.{PassFail, TestType, Test, RunDateRange, RunSchedule}
 use Rattle.limit_apply.specs.declared.limit.Limit.{Limit}
 
 -- ---- tests
@@ -41,10 +44,6 @@ abbrev pub timeout_in : TestSpec → Option ℕ
 timeout_in (Simplestream dest material dawdle timeout) = Some timeout
 timeout_in _ = None
 
--- from the lower bound to the upper one, both among them
-abbrev pub lies : Bounds → ℕ → Bool
-lies bounds n = nat_le bounds.lower n && nat_le n bounds.upper
-
 -- without bounds any length or none will do, with them a length that the test doesn't have won't
 abbrev pub kept : Option Bounds → Option ℕ → Bool
 kept None len = true
@@ -73,6 +72,10 @@ abbrev pub in_range : DateRange → Option Span → Bool
 in_range range None = false
 in_range range (Some run) = in_dates range run
 
+abbrev pub in_times : Schedule → Option Span → Bool
+in_times schedule None = false
+in_times schedule (Some run) = in_schedule schedule run
+
 -- ---- limits
 
 abbrev pub rule_holds : TestSpec → Option Span → Rule → Bool
@@ -80,9 +83,11 @@ rule_holds test run (PassFail pass) = pass
 rule_holds test run (TestType types) = is_listed (test_name test) types
 rule_holds test run (Test name lengths) = bytes_eq name (test_name test) && lengths_kept lengths test
 rule_holds test run (RunDateRange range) = in_range range run
+rule_holds test run (RunSchedule schedule) = in_times schedule run
 
 abbrev pub is_run_rule : Rule → Bool
 is_run_rule (RunDateRange range) = true
+is_run_rule (RunSchedule schedule) = true
 is_run_rule _ = false
 
 abbrev pub limit_holds : TestSpec → Option Span → Limit → Bool

@@ -15,14 +15,15 @@ use Rattle.limit_ident.specs.Named.{new_in}
 use Rattle.limit_ident.specs.declared.fault.LimitFault.{LimitFault}
 use Rattle.limit_ident.specs.declared.fault.LimitFault.TheVariants.{Json, UnknownType, BadRange}
 use Rattle.limit_ident.specs.declared.named.Named.{Named}
-use Rattle.limit_apply.specs.declared.limit.Bounds.{Bounds}
+use Rattle.limit_apply.specs.declared.bounds.Bounds.{Bounds}
 use Rattle.limit_apply.specs.declared.limit.DateRange.{DateRange}
 use Rattle.limit_apply.specs.declared.limit.Lengths.{Lengths}
 use Rattle.limit_apply.specs.declared.limit.Limit.{Limit}
 use Rattle.limit_apply.specs.declared.limit.Rule.{Rule}
-use Rattle.limit_apply.specs.declared.limit.Rule.TheVariants.{PassFail as pass_fail, TestType as test_type, Test as of_test, RunDateRange as run_date_range}
+use Rattle.limit_apply.specs.declared.limit.Rule.TheVariants.{PassFail as pass_fail, TestType as test_type, Test as of_test, RunDateRange as run_date_range, RunSchedule as run_schedule}
 use Rattle.limit_apply.specs.declared.read_limits.Kind.{Kind}
-use Rattle.limit_apply.specs.declared.read_limits.Kind.TheVariants.{PassFail, TestType, Test, RunDateRange}
+use Rattle.limit_apply.specs.declared.read_limits.Kind.TheVariants.{PassFail, TestType, Test, RunDateRange, RunSchedule}
+use Rattle.limit_apply.specs.ReadSchedule.{schedule_in}
 
 abbrev pub kind_of : List ℕ → Option Kind
 kind_of bs =
@@ -30,6 +31,7 @@ kind_of bs =
     else if bytes_eq bs (codes "test-type") then Some TestType
     else if bytes_eq bs (codes "test") then Some Test
     else if bytes_eq bs (codes "run-daterange") then Some RunDateRange
+    else if bytes_eq bs (codes "run-schedule") then Some RunSchedule
     else None
 
 abbrev pub kind_in : List ℕ → Data → Result Kind LimitFault
@@ -124,11 +126,15 @@ dates_in name d =
     let ms = without_member (codes "overlap") (without_member (codes "end") (without_member (codes "start") ms)) in
     then_with (ended ms) (λ _. Ok (run_date_range range))))
 
+abbrev pub times_in : List ℕ → Data → Result Rule LimitFault
+times_in name d = then_with (schedule_in name d) (λ schedule. Ok (run_schedule schedule))
+
 unfoldable pub rule_of : Kind → List ℕ → Members → Result Rule LimitFault
 rule_of PassFail name ms = pass_of (get_member name ms)
 rule_of TestType name ms = required test_type_in name ms
 rule_of Test name ms = required test_in name ms
 rule_of RunDateRange name ms = required dates_in name ms
+rule_of RunSchedule name ms = required times_in name ms
 
 -- ---- entries
 

@@ -1,8 +1,10 @@
 //! Limits: what may be true of a run.
 ghost use Rattle.std.specs.Prelude.{◌≡◌, Option};
 ghost use Rattle.ps_time.specs.Span.{Span};
-ghost use Rattle.limit_apply.specs.Limit.{test_name, duration_in, interval_in, dawdle_in, timeout_in, lies, kept, lengths_kept, is_listed, in_dates, in_range, rule_holds, limit_holds, is_run_rule};
+ghost use Rattle.limit_apply.specs.Limit.{test_name, duration_in, interval_in, dawdle_in, timeout_in, kept, lengths_kept, is_listed, in_dates, in_range, in_times, rule_holds, limit_holds, is_run_rule};
 
+use crate::bounds::Bounds;
+use crate::schedule::Schedule;
 use plugin_core::test_spec::TestSpec;
 use ps_time::duplicate::Duplicate;
 use ps_time::interval::Interval;
@@ -11,13 +13,6 @@ use ps_time::memory::Memory;
 use ps_time::moment::{Length, Moment};
 use ps_time::text::Text;
 use std::alloc::Global;
-
-/// From `lower` to `upper`, both among them.
-#[derive(Clone, Copy, Debug, PartialEq, Eq)]
-pub struct Bounds {
-    pub lower: u64,
-    pub upper: u64,
-}
 
 /// Bounds of a test's lengths.
 #[derive(Clone, Copy, Debug, PartialEq, Eq)]
@@ -46,6 +41,7 @@ pub enum Rule {
     /// The name of a test.
     Test { test: Text, lengths: Lengths },
     RunDateRange(DateRange),
+    RunSchedule(Schedule),
 }
 
 #[derive(Drop)]
@@ -64,6 +60,7 @@ impl Duplicate for Rule {
                 lengths: *lengths,
             }),
             Rule::RunDateRange(range) => Ok(Rule::RunDateRange(*range)),
+            Rule::RunSchedule(schedule) => Ok(Rule::RunSchedule(schedule.duplicate(alloc)?)),
         }
     }
 }
@@ -128,14 +125,6 @@ fn timeout_in(test: &TestSpec) -> Option<Length>
     }
 }
 
-impl Bounds {
-    pub fn contains(self, number: u64) -> bool
-        ensures { result ≡ lies self number }
-    {
-        self.lower <= number && number <= self.upper
-    }
-}
-
 fn is_kept(bounds: Option<Bounds>, length: Option<Length>) -> bool
     ensures { result ≡ kept bounds length }
 {
@@ -191,6 +180,15 @@ fn is_in_range(range: &DateRange, run: &Option<Interval>) -> bool
     }
 }
 
+fn is_in_schedule(schedule: &Schedule, run: &Option<Interval>) -> bool
+    ensures { result ≡ in_times schedule.now run.now }
+{
+    match run {
+        Some(run) => schedule.has(run),
+        None => false,
+    }
+}
+
 impl Rule {
     fn holds(&self, test: &TestSpec, run: &Option<Interval>) -> bool
         ensures { result ≡ rule_holds test.now run.now self.now }
@@ -203,6 +201,7 @@ impl Rule {
                 lengths,
             } => { name.as_str() == test_name(test) && lengths.are_kept(test) }
             Rule::RunDateRange(range) => is_in_range(range, run),
+            Rule::RunSchedule(schedule) => is_in_schedule(schedule, run),
         }
     }
 
@@ -214,6 +213,7 @@ impl Rule {
             Rule::TestType(_) => false,
             Rule::Test { .. } => false,
             Rule::RunDateRange(_) => true,
+            Rule::RunSchedule(_) => true,
         }
     }
 }

@@ -4,9 +4,11 @@ ghost use Rattle.serde_json.specs.View.{view};
 ghost use Rattle.ps_json.specs.Answer.{GivesUnless};
 ghost use Rattle.ps_json.specs.Fields.{without_member};
 ghost use Rattle.limit_ident.specs.Member.{required, optional};
-ghost use Rattle.limit_apply.specs.ReadLimits.{kind_of, kind_in, pass_of, names_from, test_type_in, length_in, moment_in, range_in, bounds_in, some_bounds_in, lengths_in, test_in, dates_in, dates_of, rule_of, told_of, after_told, rest_of, limit_of, limits_from, limits_in};
+ghost use Rattle.limit_apply.specs.ReadLimits.{kind_of, kind_in, pass_of, names_from, test_type_in, length_in, moment_in, range_in, bounds_in, some_bounds_in, lengths_in, test_in, dates_in, dates_of, times_in, rule_of, told_of, after_told, rest_of, limit_of, limits_from, limits_in};
 
-use crate::limit::{Bounds, DateRange, Lengths, Limit, Rule};
+use crate::bounds::Bounds;
+use crate::limit::{DateRange, Lengths, Limit, Rule};
+use crate::read_schedule::read_schedule;
 use limit_ident::fault::LimitFault;
 use limit_ident::member::{end_described, need_text, read_some, take_flag};
 use limit_ident::named::{Named, need_name};
@@ -28,6 +30,7 @@ enum Kind {
     TestType,
     Test,
     RunDateRange,
+    RunSchedule,
 }
 
 fn read_kind(text: &str) -> Option<Kind>
@@ -38,6 +41,7 @@ fn read_kind(text: &str) -> Option<Kind>
         "test-type" => Some(Kind::TestType),
         "test" => Some(Kind::Test),
         "run-daterange" => Some(Kind::RunDateRange),
+        "run-schedule" => Some(Kind::RunSchedule),
         _ => None,
     }
 }
@@ -203,6 +207,12 @@ fn read_date_data(alloc: Global, value: Value) -> Result<Rule, LimitFault>
     Ok(Rule::RunDateRange(range))
 }
 
+fn read_time_data(alloc: Global, value: Value) -> Result<Rule, LimitFault>
+    ensures { GivesUnless LimitFault.Memory result (times_in (codes "data") (view value)) }
+{
+    Ok(Rule::RunSchedule(read_schedule(alloc, value)?))
+}
+
 #[tactic(auto, unfolding(crate::specs::ReadLimits::rule_of))]
 fn take_rule(alloc: Global, fields: &mut Fields, kind: Kind) -> Result<Rule, LimitFault>
     ensures value { GivesUnless LimitFault.Memory result (rule_of kind (codes "data") fields.old) }
@@ -213,6 +223,7 @@ fn take_rule(alloc: Global, fields: &mut Fields, kind: Kind) -> Result<Rule, Lim
         Kind::TestType => read_type_data(alloc, fields.need(alloc, "data")?),
         Kind::Test => read_test_data(alloc, fields.need(alloc, "data")?),
         Kind::RunDateRange => read_date_data(alloc, fields.need(alloc, "data")?),
+        Kind::RunSchedule => read_time_data(alloc, fields.need(alloc, "data")?),
     }
 }
 
