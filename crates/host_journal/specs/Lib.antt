@@ -1,0 +1,6 @@
+pub mod Calls
+pub mod Format
+pub mod Pair
+pub mod Reading
+pub mod State
+pub mod Told
