@@ -82,7 +82,7 @@ module _ (generation start end : ℕ) (list : List (List ℕ)) where
     staged_long c staged = omega (arith, ap length staged.split, length-append staged.front (staged.gate ∷ (staged.frame ++ staged.last ∷ staged.tail)), staged.is_end)
 
     -- another gate
-    regated : (c d : List ℕ) (gate : ℕ) (staged : IsStaged generation start end next list payload c) → d ≡ staged.front ++ gate ∷ (staged.frame ++ staged.last ∷ staged.tail) → IsStaged generation start end next list payload d
+    abbrev regated : (c d : List ℕ) (gate : ℕ) (staged : IsStaged generation start end next list payload c) → d ≡ staged.front ++ gate ∷ (staged.frame ++ staged.last ∷ staged.tail) → IsStaged generation start end next list payload d
     regated c d gate staged split = record {
       front = staged.front;
       gate = gate;
@@ -135,11 +135,11 @@ module _ (generation start end : ℕ) (list : List (List ℕ)) where
     }
 
     pub staged_open : (c : List ℕ) (staged : IsStaged generation start end next list payload c) → staged.gate ≡ 1 → IsWhole generation start next (list ++ payload ∷ []) c
-    staged_open c staged open = record {
+    staged_open c staged opened_gate = record {
       front = staged.front ++ 1 ∷ staged.frame;
       gate = staged.last;
       tail = staged.tail;
-      split = staged.split ∙ ap (λ (g : ℕ). staged.front ++ g ∷ (staged.frame ++ staged.last ∷ staged.tail)) open ∙ sym (append_assoc staged.front (1 ∷ staged.frame) (staged.last ∷ staged.tail));
+      split = staged.split ∙ ap (λ (g : ℕ). staged.front ++ g ∷ (staged.frame ++ staged.last ∷ staged.tail)) opened_gate ∙ sym (append_assoc staged.front (1 ∷ staged.frame) (staged.last ∷ staged.tail));
       is_shut = staged.is_shut;
       snapshot = staged.snapshot;
       records = staged.records ++ payload ∷ [];
@@ -151,7 +151,7 @@ module _ (generation start end : ℕ) (list : List (List ℕ)) where
 
     pub staged_either : (c : List ℕ) → IsStaged generation start end next list payload c → IsWhole generation start end list c ⊎ IsWhole generation start next (list ++ payload ∷ []) c
     staged_either c staged = elim (cases_eq staged.gate 1) [
-      | inl open ↦ inr (staged_open c staged open)
+      | inl at_one ↦ inr (staged_open c staged at_one)
       | inr shut ↦ inl (staged_shut c staged shut)
     ]
 

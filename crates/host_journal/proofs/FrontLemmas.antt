@@ -1,41 +1,41 @@
 -- Fronts of disks, behind which gates stand: where they begin, how a record makes one longer, and what bytes stand for that have one.
-use Rattle.std.proofs.Common.{◌≡◌, ◌≢◌, inl, inr, ℕ, zero, suc, ◌+◌, ◌-◌, ◌≤◌, ◌<◌, Bool, true, false, ◌==◌, if◌then◌else◌, List, [], ◌∷◌, ◌++◌, length, take, drop, Result, Ok, Err, Option, Some, None, refl, sym, ◌∙◌, ap, subst, arith, append_assoc, length-append, length-take, length-drop, take-append-drop}
+use Rattle.std.proofs.Common.{◌≡◌, ◌≢◌, inl, inr, ℕ, zero, suc, ◌+◌, ◌-◌, ◌≤◌, ◌<◌, Bool, true, false, if◌then◌else◌, List, [], ◌∷◌, ◌++◌, length, take, drop, Result, Ok, Err, Option, Some, None, refl, sym, ◌∙◌, ap, subst, arith, append_assoc, length-append, length-take, length-drop, take-append-drop}
+use Rattle.std.specs.Prelude.{◌==◌}
 use Rattle.std.specs.Int.{w32, w64, from_be_bytes}
 use Rattle.std.proofs.lemmas.List.{append-nil, take_at, drop_at, drop-append-le}
 use Rattle.std.proofs.lemmas.Bool.{cases_eq}
-use Rattle.std.proofs.lemmas.Bool.Decides.{nat_tests}
 use Rattle.host_journal.specs.Format.{magic, open_head, agreeing, stands, sized, Body, with_snapshot, body_of, record_bytes, joined, records_of}
 use Rattle.host_journal.specs.Pair.{gates_at}
 use Rattle.host_journal.specs.State.{IsFront, IsWhole, Stands}
-use Rattle.host_journal.proofs.FormatLemmas.{agreeing_front, Sized, sized_made, sized_is, body_made, Bodied, body_is, record_bytes-append, joined-joined, joined-none, records_of-shut, records_of-open, records_of-bad}
+use Rattle.host_journal.proofs.FormatLemmas.{eq_from, agreeing_front, Sized, sized_made, sized_is, body_made, Bodied, body_is, record_bytes-append, joined-joined, joined-none, records_of-shut, records_of-open, records_of-bad}
 
 -- a head, a generation and a snapshot
+abbrev pub first_front : List ℕ → List ℕ → List ℕ → List ℕ → List ℕ
+first_front head number size snapshot = head ++ (number ++ (size ++ snapshot))
+
+pub first_split : (head number size snapshot gates : List ℕ) → first_front head number size snapshot ++ gates ≡ head ++ (number ++ (size ++ (snapshot ++ gates)))
+first_split head number size snapshot gates =
+    append_assoc head (number ++ (size ++ snapshot)) gates
+    ∙ ap (λ (l : List ℕ). head ++ l) (append_assoc number (size ++ snapshot) gates ∙ ap (λ (l : List ℕ). number ++ l) (append_assoc size snapshot gates))
+
 module _ (head number size snapshot : List ℕ) (generation : ℕ)
     (nine : length head ≡ 9) (opens : stands head ≡ true) (eight : length number ≡ 8) (number_is : from_be_bytes w64 number ≡ generation) (four : length size ≡ 4) (size_is : from_be_bytes w32 size ≡ length snapshot) where
-  abbrev pub first_front : List ℕ
-  first_front = head ++ (number ++ (size ++ snapshot))
-
-  first_split : (gates : List ℕ) → first_front ++ gates ≡ head ++ (number ++ (size ++ (snapshot ++ gates)))
-  first_split gates =
-      append_assoc head (number ++ (size ++ snapshot)) gates
-      ∙ ap (λ (l : List ℕ). head ++ l) (append_assoc number (size ++ snapshot) gates ∙ ap (λ (l : List ℕ). number ++ l) (append_assoc size snapshot gates))
-
-  first_stands : (gates : List ℕ) → stands (first_front ++ gates) ≡ true
+  first_stands : (gates : List ℕ) → stands (first_front head number size snapshot ++ gates) ≡ true
   first_stands gates =
-      ap stands (first_split gates)
+      ap stands (first_split head number size snapshot gates)
       ∙ ap (λ (n : ℕ). n == 9) (agreeing_front open_head head (number ++ (size ++ (snapshot ++ gates))) (omega (arith, nine)))
       ∙ opens
 
-  first_body : (gate : ℕ) (rest : List ℕ) → body_of (drop 9 (first_front ++ gate ∷ rest)) ≡ Some (record { generation = generation; snapshot = snapshot; gates = gate ∷ rest })
+  first_body : (gate : ℕ) (rest : List ℕ) → body_of (drop 9 (first_front head number size snapshot ++ gate ∷ rest)) ≡ Some (record { generation = generation; snapshot = snapshot; gates = gate ∷ rest })
   first_body gate rest =
       let gates = gate ∷ rest in
-      ap (λ (l : List ℕ). body_of (drop 9 l)) (first_split gates)
+      ap (λ (l : List ℕ). body_of (drop 9 l)) (first_split head number size snapshot gates)
       ∙ ap body_of (drop_at head (number ++ (size ++ (snapshot ++ gates))) 9 nine)
       ∙ body_made number (size ++ (snapshot ++ gates)) eight
       ∙ ap (λ (o : Option (List ℕ × List ℕ)). with_snapshot (from_be_bytes w64 number) o) (sized_made size snapshot gates four size_is (omega arith))
       ∙ ap (λ (n : ℕ). Some (record { generation = n; snapshot = snapshot; gates = gates })) number_is
 
-  pub is_first_front : IsFront generation snapshot [] first_front
+  pub is_first_front : IsFront generation snapshot [] (first_front head number size snapshot)
   is_first_front = record {
     is_standing = first_stands;
     frames = [];
@@ -86,10 +86,7 @@ agreeing_short (w ∷ wanted) (b ∷ bytes) = by_test (b == w) (agreeing_short w
     by_test false le = omega arith
 
 pub long_enough : (bytes : List ℕ) → stands bytes ≡ true → 9 ≤ length bytes
-long_enough bytes opens = let nine : agreeing open_head bytes ≡ 9 = eqb_true (agreeing open_head bytes) 9 opens in omega (arith, agreeing_short open_head bytes, nine)
-  where
-    eqb_true : (n m : ℕ) → (n == m) ≡ true → n ≡ m
-    eqb_true n m is = grind (arith, nat_tests)
+long_enough bytes opens = let nine : agreeing open_head bytes ≡ 9 = eq_from (agreeing open_head bytes) 9 opens in omega (arith, agreeing_short open_head bytes, nine)
 
 ok_more : (payload : List ℕ) (r : Result (List (List ℕ)) ℕ) (more : List (List ℕ)) → joined (payload ∷ []) r ≡ Ok more → (rest : List (List ℕ)) × (r ≡ Ok rest) × (more ≡ payload ∷ rest)
 ok_more payload (Ok rest) more is = (rest, refl, sym (cc is))
@@ -136,7 +133,8 @@ module _ (generation : ℕ) (snapshot bytes : List ℕ) where
         is_end = sym is_front.size;
       })
 
-  pub walk_whole : (most : ℕ) → Walks most
+  pub walk_whole : (most : ℕ) (records : List (List ℕ)) (front gates : List ℕ) (more : List (List ℕ)) → length gates ≤ most → IsFront generation snapshot records front → bytes ≡ front ++ gates → 0 < length gates → records_of gates ≡ Ok more
+      → IsWhole generation (gates_at snapshot) (gates_at snapshot + record_bytes (records ++ more)) (snapshot ∷ (records ++ more)) bytes
   walk_whole zero records front gates more le is_front split some are = absurd (omega arith)
   walk_whole (suc most) records front [] more le is_front split some are = absurd (omega arith)
   walk_whole (suc most) records front (gate ∷ rest) more le is_front split some are = elim (cases_eq gate 1) [
@@ -157,9 +155,9 @@ whole_from bytes body records opens is_body are =
     let whole : head ++ drop 9 bytes ≡ bytes = take-append-drop 9 bytes in
     let head_opens : stands head ≡ true =
     ap (λ (n : ℕ). n == 9) (sym (agreeing_front open_head head (drop 9 bytes) (omega (arith, nine)))) ∙ ap stands whole ∙ opens in
-    let front = first_front head parts.number sized_parts.size body.snapshot body.generation nine head_opens parts.eight parts.is sized_parts.four sized_parts.is in
+    let front = first_front head parts.number sized_parts.size body.snapshot in
     let split : bytes ≡ front ++ body.gates =
     sym whole ∙ ap (λ (l : List ℕ). head ++ l) (parts.split ∙ ap (λ (l : List ℕ). parts.number ++ l) sized_parts.split)
-    ∙ sym (first_split head parts.number sized_parts.size body.snapshot body.generation nine head_opens parts.eight parts.is sized_parts.four sized_parts.is body.gates) in
+    ∙ sym (first_split head parts.number sized_parts.size body.snapshot body.gates) in
     walk_whole body.generation body.snapshot bytes (length body.gates) [] front body.gates records (omega arith)
     (is_first_front head parts.number sized_parts.size body.snapshot body.generation nine head_opens parts.eight parts.is sized_parts.four sized_parts.is) split sized_parts.gate are

@@ -1,17 +1,11 @@
 -- Heads of disks, open and closed.
-use Rattle.std.proofs.Common.{◌≡◌, ◌≢◌, ◌⊎◌, inl, inr, ℕ, zero, suc, ◌+◌, ◌≤◌, Bool, true, false, ◌==◌, if◌then◌else◌, List, [], ◌∷◌, ◌++◌, length, get_or, take, drop, Some, refl, sym, ◌∙◌, ap, subst, arith, length-take, take-append-drop}
-use Rattle.std.proofs.lemmas.List.{drop_more, take_at}
+use Rattle.std.proofs.Common.{◌≡◌, ◌≢◌, ◌⊎◌, inl, inr, ℕ, zero, suc, ◌+◌, ◌≤◌, Bool, true, false, if◌then◌else◌, List, [], ◌∷◌, ◌++◌, length, get_or, take, drop, Some, refl, sym, ◌∙◌, ap, subst, arith, length-take, take-append-drop}
+use Rattle.std.specs.Prelude.{◌==◌}
+use Rattle.std.proofs.lemmas.List.{drop_more}
 use Rattle.std.proofs.lemmas.Bool.{cases_eq}
-use Rattle.std.proofs.lemmas.Bool.Decides.{nat_tests}
 use Rattle.host_journal.specs.Format.{magic, open_head, agreeing, stands, body_of}
 use Rattle.host_journal.specs.State.{IsClosed, IsOlder, HasOlder, IsAside, IsBelow}
-use Rattle.host_journal.proofs.FormatLemmas.{agreeing_front}
-
-eq_from : (n m : ℕ) → (n == m) ≡ true → n ≡ m
-eq_from n m is = grind (arith, nat_tests)
-
-ne_false : (n m : ℕ) → n ≢ m → (n == m) ≡ false
-ne_false n m is = grind (arith, nat_tests)
+use Rattle.host_journal.proofs.FormatLemmas.{eq_from, ne_false, agreeing_front}
 
 -- all of the wanted bytes are there
 pub agreeing_all : (wanted bytes : List ℕ) → agreeing wanted bytes ≡ length wanted → bytes ≡ wanted ++ drop (length wanted) bytes

@@ -5,4 +5,5 @@ mod FrontLemmas
 mod HeadLemmas
 mod OpenLemmas
 mod PairLemmas
+mod SnapshotLemmas
 mod StateLemmas

@@ -1,16 +1,17 @@
 -- From what two disks stand for to what each of them is.
-use Rattle.std.proofs.Common.{◌≡◌, ◌≢◌, ◌⊎◌, inl, inr, ⊎_elim, ℕ, zero, suc, ◌+◌, ◌≤◌, Bool, true, false, not, ◌==◌, if◌then◌else◌, List, [], ◌∷◌, ◌++◌, length, drop, Result, Ok, Err, Option, Some, None, refl, sym, ◌∙◌, ap, subst, arith}
-use Rattle.std.specs.Prelude.{nat_le}
-use Rattle.std.proofs.lemmas.Bool.Decides.{nat_tests}
+use Rattle.std.proofs.Common.{◌≡◌, ◌≢◌, ◌⊎◌, inl, inr, ⊎_elim, ℕ, zero, suc, ◌+◌, ◌≤◌, Bool, true, false, not, if◌then◌else◌, List, [], ◌∷◌, ◌++◌, length, drop, Result, Ok, Err, Option, Some, None, refl, sym, ◌∙◌, ap, subst, arith}
+use Rattle.std.specs.Prelude.{nat_le, ◌==◌}
 use Rattle.ps_ports.specs.Disk.{Only}
 use Rattle.host_journal.specs.Format.{magic, open_head, agreeing, stands, Body, body_of, record_bytes, records_of}
-use Rattle.host_journal.specs.Pair.{gates_at, bad, with_records, counted, need_body, need_head, greater, pair_by, pair_of}
+use Rattle.host_journal.specs.Pair.{gates_at, with_records, counted, need_body, unless_at, need_head, greater, pair_by, pair_of}
 use Rattle.host_journal.specs.State.{State, IsLess, IsClosed, IsOlder, IsAside, IsBelow, IsWhole, IsSound}
 use Rattle.host_journal.specs.declared.pending.Pending.TheVariants.{Nothing}
 use Rattle.host_journal.specs.declared.reading.Counted.{Counted}
 use Rattle.host_journal.specs.declared.reading.Place.{Place}
+use Rattle.host_journal.proofs.FormatLemmas.{eq_from, le_from}
 use Rattle.host_journal.proofs.FrontLemmas.{whole_from}
 use Rattle.host_journal.proofs.HeadLemmas.{older_has}
+use Rattle.host_journal.proofs.PairLemmas.{place_at, by_stands}
 
 -- the disk that counts is whole, and the other one lies below it
 pub record Opened (k : Counted) (counting other : List ℕ) : Type 0 where
@@ -21,17 +22,23 @@ abbrev pub either : {A : Type 0} → Bool → A → A → A
 either second one other = if second then one else other
 
 -- One disk counts.
+abbrev found : Bool → Body → List (List ℕ) → Counted
+found second body records = record {
+  second = second;
+  generation = body.generation;
+  start = gates_at body.snapshot;
+  end = gates_at body.snapshot + record_bytes records;
+  list = body.snapshot ∷ records;
+}
+
+ok_is : (r : Result Counted Place) (a b : Counted) → r ≡ Ok a → r ≡ Ok b → a ≡ b
+ok_is r a b one two = cc (one, two)
+
 with_is : (second : Bool) (body : Body) (k : Counted) (bytes : List ℕ) (r : Result (List (List ℕ)) ℕ) → stands bytes ≡ true → body_of (drop 9 bytes) ≡ Some body → records_of body.gates ≡ r → with_records second body r ≡ Ok k
     → (k.second ≡ second) × (k.generation ≡ body.generation) × IsWhole k.generation k.start k.end k.list bytes
 with_is second body k bytes (Err at) opens is_body are is = absurd (cc is)
 with_is second body k bytes (Ok records) opens is_body are is =
-    let made : record {
-      second = second;
-      generation = body.generation;
-      start = gates_at body.snapshot;
-      end = gates_at body.snapshot + record_bytes records;
-      list = body.snapshot ∷ records;
-    } ≡ k = cc is in (
+    let made = ok_is (Ok (found second body records)) (found second body records) k refl is in (
       ap (λ (c : Counted). c.second) (sym made),
       ap (λ (c : Counted). c.generation) (sym made),
       subst (λ (c : Counted). IsWhole c.generation c.start c.end c.list bytes) made (whole_from bytes body records opens is_body are),
@@ -49,7 +56,7 @@ counted_is second k bytes opens is =
 
 -- The other has a head.
 head_by : (second : Bool) (k : Counted) (bytes : List ℕ) (next : Result Counted Place) (p q : Bool) → stands bytes ≡ false → (agreeing magic bytes == 8) ≡ p → nat_le 9 (length bytes) ≡ q
-    → (if p then (if q then next else bad second 8) else bad second (agreeing magic bytes)) ≡ Ok k → IsClosed bytes × (next ≡ Ok k)
+    → unless_at (if p then (if q then None else Some (place_at second 8)) else Some (place_at second (agreeing magic bytes))) next ≡ Ok k → IsClosed bytes × (next ≡ Ok k)
 head_by second k bytes next true true shut eight nine is = (
   record {
     not_standing = shut;
@@ -58,12 +65,6 @@ head_by second k bytes next true true shut eight nine is = (
   },
   is,
 )
-  where
-    eq_from : (n m : ℕ) → (n == m) ≡ true → n ≡ m
-    eq_from n m is = grind (arith, nat_tests)
-
-    le_from : (n m : ℕ) → nat_le n m ≡ true → n ≤ m
-    le_from n m is = grind (arith, nat_tests)
 head_by second k bytes next true false shut eight nine is = absurd (cc is)
 head_by second k bytes next false q shut eight nine is = absurd (cc is)
 

@@ -29,7 +29,9 @@ gate_torn old new rest gate split torn =
     sym (take-append-drop 8 new) ∙ ap (λ (l : List ℕ). l ++ drop 8 new) front ∙ ap (λ (l : List ℕ). magic ++ l) next
 
 pub gate_written : (old rest : List ℕ) (gate byte : ℕ) → old ≡ magic ++ gate ∷ rest → written 8 (byte ∷ []) old ≡ magic ++ byte ∷ rest
-gate_written old rest gate byte split = ap (written 8 (byte ∷ [])) split
+gate_written old rest gate byte split =
+    let long : 8 ≤ length old = omega (arith, ap length split) in
+    written_within 8 (byte ∷ []) old long ∙ ap (λ (l : List ℕ). take 8 l ++ (byte ∷ []) ++ drop 9 l) split
 
 -- the bytes that close a head gate: none where it is known to be closed
 abbrev pub closing : Bool → List ℕ
@@ -59,7 +61,7 @@ module _ (generation : ℕ) (image : List ℕ) (fits : generation < 2 ^ 64) (sma
   size = to_be_bytes w32 (length image)
 
   abbrev pub front : List ℕ
-  front = first_front open_head number size image generation refl refl refl (from_be_bytes-to_be_bytes_8 generation fits) refl (from_be_bytes-to_be_bytes_4 (length image) small)
+  front = first_front open_head number size image
 
   pub image_whole : IsWhole generation (gates_at image) (gates_at image) (image ∷ []) (magic ++ 1 ∷ image_bytes generation image)
   image_whole =
@@ -100,14 +102,14 @@ module _ (generation start : ℕ) (image : List ℕ) where
   image_torn old new is torn = record { gate = get_or new 8 0; rest = is.rest; split = gate_torn old new is.rest is.gate is.split torn; is_whole = is.is_whole }
 
   pub image_open : (bytes : List ℕ) (is : IsImage generation start image bytes) → is.gate ≡ 1 → IsWhole generation start start (image ∷ []) bytes
-  image_open bytes is open = subst (IsWhole generation start start (image ∷ [])) (sym (is.split ∙ ap (λ (g : ℕ). magic ++ g ∷ is.rest) open)) is.is_whole
+  image_open bytes is opened_gate = subst (IsWhole generation start start (image ∷ [])) (sym (is.split ∙ ap (λ (g : ℕ). magic ++ g ∷ is.rest) opened_gate)) is.is_whole
 
   pub image_shut : (bytes : List ℕ) (is : IsImage generation start image bytes) → is.gate ≢ 1 → IsClosed bytes
   image_shut bytes is shut = subst IsClosed (sym is.split) (closed_made is.gate is.rest shut)
 
   pub image_either : (bytes : List ℕ) → IsImage generation start image bytes → IsClosed bytes ⊎ IsWhole generation start start (image ∷ []) bytes
   image_either bytes is = elim (cases_eq is.gate 1) [
-    | inl open ↦ inr (image_open bytes is open)
+    | inl at_one ↦ inr (image_open bytes is at_one)
     | inr shut ↦ inl (image_shut bytes is shut)
   ]
 

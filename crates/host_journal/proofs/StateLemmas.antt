@@ -40,18 +40,18 @@ pub images_in : {D : Type 0} (may_leave : D → List ℕ → Type 0) (second : B
 images_in may_leave false counting other P each = each
 images_in may_leave true counting other P each = λ c d now now_other. each d c now_other now
 
+-- a journal whose last call was Ok
+pub record Ready {D : Type 0} (seen : D → List ℕ) (may_leave : D → List ℕ → Type 0) (s : State D) : Type 0 where
+  pub list : List (List ℕ)
+  pub counting : (c : List ℕ) → may_leave s.counting c → IsWhole s.generation s.start s.end list c
+  pub other : (d : List ℕ) → may_leave s.other d → IsAside s.second s.generation s.shut d
+  pub fixed : Only (seen s.counting) (may_leave s.counting)
+  pub fixed_other : Only (seen s.other) (may_leave s.other)
+
 module _ {D : Type 0} (seen : D → List ℕ) (may_leave : D → List ℕ → Type 0) (moment : D → ℕ) (left_since : D → ℕ → List ℕ → Type 0)
     (reads_now : (disk : D) → may_leave disk (seen disk)) (only_now : (disk : D) (c : List ℕ) → left_since disk (moment disk) c → may_leave disk c) where
-  -- a journal whose last call was Ok
-  pub record Ready (s : State D) : Type 0 where
-    pub list : List (List ℕ)
-    pub counting : (c : List ℕ) → may_leave s.counting c → IsWhole s.generation s.start s.end list c
-    pub other : (d : List ℕ) → may_leave s.other d → IsAside s.second s.generation s.shut d
-    pub fixed : Only (seen s.counting) (may_leave s.counting)
-    pub fixed_other : Only (seen s.other) (may_leave s.other)
-
-  ready_by : (s : State D) (p : Pending) → s.pending ≡ p → is_ready p ≡ true → IsSound seen may_leave s → Ready s
-  ready_by s Nothing is yes sound =
+  ready_by : (s : State D) (p : Pending) → s.pending ≡ p → is_ready p ≡ true → IsSound seen may_leave s → Ready seen may_leave s
+  ready_by s Nothing is ready_now sound =
       let fixed = sound.fixed (ap is_ready is) in
       record {
         list = sound.list;
@@ -60,14 +60,14 @@ module _ {D : Type 0} (seen : D → List ℕ) (may_leave : D → List ℕ → Ty
         fixed = fixed.0;
         fixed_other = fixed.1;
       }
-  ready_by s Unopened is yes sound = absurd (cc yes)
-  ready_by s (Record next) is yes sound = absurd (cc yes)
-  ready_by s (Snapshot start) is yes sound = absurd (cc yes)
+  ready_by s Unopened is ready_now sound = absurd (cc ready_now)
+  ready_by s (Record next) is ready_now sound = absurd (cc ready_now)
+  ready_by s (Snapshot start) is ready_now sound = absurd (cc ready_now)
 
-  pub ready : (s : State D) → is_ready s.pending ≡ true → IsSound seen may_leave s → Ready s
-  ready s yes sound = ready_by s s.pending refl yes sound
+  pub ready : (s : State D) → is_ready s.pending ≡ true → IsSound seen may_leave s → Ready seen may_leave s
+  ready s ready_now sound = ready_by s s.pending refl ready_now sound
 
-  module _ (s : State D) (at : Ready s) where
+  module _ (s : State D) (at : Ready seen may_leave s) where
     below : (d : List ℕ) → may_leave s.other d → IsBelow s.second s.generation d
     below d now = aside_below s.second s.generation s.shut d (at.other d now)
 
@@ -178,7 +178,7 @@ module _ {D : Type 0} (seen : D → List ℕ) (may_leave : D → List ℕ → Ty
       list = at.list;
       counting = images;
       other = at.other;
-      fixed = λ yes. absurd (cc yes);
+      fixed = λ ready_now. absurd (cc ready_now);
     }
 
     pub sound_record : (new : D) (room : ℕ) (payload : List ℕ) (end : ℕ) → end ≡ next payload → ((c : List ℕ) → may_leave new c → IsStaged s.generation s.start s.end (next payload) at.list payload c)
@@ -187,7 +187,7 @@ module _ {D : Type 0} (seen : D → List ℕ) (may_leave : D → List ℕ → Ty
       list = at.list;
       counting = λ c now. (payload, subst (λ (n : ℕ). IsStaged s.generation s.start s.end n at.list payload c) (sym is) (images c now));
       other = at.other;
-      fixed = λ yes. absurd (cc yes);
+      fixed = λ ready_now. absurd (cc ready_now);
     }
 
     pub sound_nothing : (new : D) (room end : ℕ) (list : List (List ℕ)) → IsWhole s.generation s.start end list (seen new) → Only (seen new) (may_leave new)

@@ -35,10 +35,19 @@ abbrev pub need_body : Bool → Option Body → (Body → Result Counted Place) 
 need_body second None next = bad second 9
 need_body second (Some body) next = next body
 
--- a disk that doesn't stand has the magic and a gate
+-- where a disk that doesn't stand isn't the magic and a gate
+abbrev pub headless : Bool → List ℕ → Option Place
+headless second bytes =
+    if agreeing magic bytes == 8
+    then (if nat_le 9 (length bytes) then None else Some (record { disk = number_of second; place = 8 }))
+    else Some (record { disk = number_of second; place = agreeing magic bytes })
+
+abbrev pub unless_at : Option Place → Result Counted Place → Result Counted Place
+unless_at None next = next
+unless_at (Some place) next = Err place
+
 abbrev pub need_head : Bool → List ℕ → Result Counted Place → Result Counted Place
-need_head second bytes next =
-    if agreeing magic bytes == 8 then (if nat_le 9 (length bytes) then next else bad second 8) else bad second (agreeing magic bytes)
+need_head second bytes next = unless_at (headless second bytes) next
 
 -- the one of the greater generation counts, and of two with one generation the first
 abbrev pub greater : Body → Body → Result Counted Place

@@ -1,14 +1,17 @@
 //! What the bytes of two disks stand for.
-ghost use Rattle.std.specs.Prelude.{◌≡◌, ◌+◌, ◌≤◌, ◌<◌, ◌^◌, true, false, length, drop, IfOk, IfSome, IfNone, Some, None};
+ghost use Rattle.std.specs.Prelude.{◌≡◌, ◌+◌, ◌≤◌, ◌<◌, ◌^◌, true, false, length, drop, IfOk, IfSome, IfNone, Some, None, Ok, [], ◌∷◌};
 ghost use Rattle.host_journal.specs.Format.{agreeing, stands, sized, body_of, records_of};
-ghost use Rattle.host_journal.specs.Pair.{number_of, bad, counted, need_body, need_head, greater, pair_of};
+ghost use Rattle.host_journal.specs.Pair.{number_of, counted, need_body, headless, greater, pair_of};
 ghost use Rattle.host_journal.specs.Reading.{Walked, IsWithin};
 
 use ps_time::items::Items;
 use ps_time::memory::Memory;
 use std::alloc::Global;
 
-/// The magic with which a disk begins, and an open gate.
+/// The magic with which a disk begins.
+const MAGIC: [u8; 8] = *b"PSCHJRN1";
+
+/// The magic, and an open gate.
 const OPEN_HEAD: [u8; 9] = *b"PSCHJRN1\x01";
 
 /// What two disks stand for.
@@ -43,16 +46,22 @@ struct Body<'a> {
 
 type Read<T> = Result<Result<T, Place>, Memory>;
 
+// How many bytes at the front are as wanted.
 fn agreeing_with(wanted: &[u8], bytes: &[u8]) -> usize
     ensures count { result ≡ agreeing wanted.now bytes.now }
     ensures bound { result ≤ length wanted.now }
 {
-    for (at, byte) in wanted.iter().enumerate() {
-        if at >= bytes.len() || bytes[at] != *byte {
-            return at;
-        }
+    let [want, wanted @ ..] = wanted else {
+        return 0;
+    };
+    let [byte, bytes @ ..] = bytes else {
+        return 0;
+    };
+    if *byte == *want {
+        1 + agreeing_with(wanted, bytes)
+    } else {
+        0
     }
-    wanted.len()
 }
 
 /// The magic and an open gate.
@@ -81,6 +90,7 @@ fn read_sized(bytes: &[u8]) -> Option<(&[u8], &[u8])>
 fn read_body(bytes: &[u8]) -> Option<Body<'_>>
     ensures some { IfSome result (λ body. body_of bytes.now ≡ Some (record { generation = body.generation; snapshot = body.snapshot.now; gates = body.gates.now })) }
     ensures size { IfSome result (λ body. length body.snapshot.now + length body.gates.now + 12 ≡ length bytes.now) }
+    ensures gate { IfSome result (λ body. 0 < length body.gates.now) }
     ensures none { IfNone result (body_of bytes.now ≡ None) }
 {
     let [a, b, c, d, e, f, g, h, rest @ ..] = bytes else {
@@ -101,6 +111,17 @@ fn copy_bytes(alloc: Global, bytes: &[u8]) -> Result<Items<u8>, Memory>
     Ok(Items::from_vec(bytes.to_vec(alloc)?))
 }
 
+// What lies behind an open gate.
+fn behind_open(gates: &[u8]) -> Option<&[u8]>
+    ensures some { IfSome result (λ rest. gates.now ≡ 1 ∷ rest.now) }
+    ensures none { IfNone result (records_of gates.now ≡ Ok []) }
+{
+    match gates {
+        [1, rest @ ..] => Some(rest),
+        _ => None,
+    }
+}
+
 // Adds the records to the list. Answers how many bytes they take, or the place of an open gate that
 // has no whole record.
 fn read_records(
@@ -108,11 +129,12 @@ fn read_records(
     gates: &[u8],
     list: &mut Items<Items<u8>>,
 ) -> Result<Result<usize, usize>, Memory>
+    requires { 0 < length gates.now }
     ensures walked { IfOk result (λ r. Walked list.old list.new r (records_of gates.now)) }
     ensures bound { IfOk result (λ r. IsWithin r (length gates.now)) }
 {
     let mut rest = gates;
-    while let [1, behind @ ..] = rest {
+    while let Some(behind) = behind_open(rest) {
         let Some((payload, next)) = read_sized(behind) else {
             return Ok(Err(gates.len() - rest.len()));
         };
@@ -129,8 +151,9 @@ fn disk_number(second: bool) -> u8
 }
 
 fn read_counted(alloc: Global, second: bool, body: Body<'_>) -> Read<Counted>
-    requires { length body.snapshot.now + length body.gates.now + 21 < 2 ^ 64 }
-    ensures counted { IfOk result (λ r. r ≡ counted second (record { generation = body.generation; snapshot = body.snapshot.now; gates = body.gates.now })) }
+    requires size { length body.snapshot.now + length body.gates.now + 21 < 2 ^ 64 }
+    requires gate { 0 < length body.gates.now }
+    ensures counted { IfOk result (λ r. r ≡ counted second (record { generation = body.entry.generation; snapshot = body.entry.snapshot.now; gates = body.entry.gates.now })) }
     ensures bound { IfOk result (λ r. IfOk r (λ k. (k.end + 1 < 2 ^ 64) × (k.start ≤ k.end))) }
 {
     let mut list = Items::new(alloc);
@@ -152,15 +175,22 @@ fn read_counted(alloc: Global, second: bool, body: Body<'_>) -> Read<Counted>
 }
 
 // Where a disk that doesn't stand isn't the magic and a gate.
-fn headless_at(bytes: &[u8]) -> Option<u64>
-    ensures some { IfSome result (λ place. (second : _) (next : _) → need_head second bytes.now next ≡ bad second place) }
-    ensures none { IfNone result ((second : _) (next : _) → need_head second bytes.now next ≡ next) }
+fn headless_at(second: bool, bytes: &[u8]) -> Option<Place>
+    ensures { result ≡ headless second bytes.now }
 {
-    let agreeing = agreeing_with(&OPEN_HEAD[..8], bytes);
-    if agreeing == 8 && bytes.len() >= 9 {
-        None
+    let agreeing = agreeing_with(&MAGIC, bytes);
+    let disk = disk_number(second);
+    if agreeing == 8 {
+        if bytes.len() >= 9 {
+            None
+        } else {
+            Some(Place { disk, place: 8 })
+        }
     } else {
-        Some(agreeing as u64)
+        Some(Place {
+            disk,
+            place: agreeing as u64,
+        })
     }
 }
 
@@ -208,8 +238,8 @@ pub fn read_pair(alloc: Global, first: &[u8], second: &[u8]) -> Read<Counted>
         if is_standing(second) {
             return read_both(alloc, first, second);
         }
-        if let Some(place) = headless_at(second) {
-            return Ok(Err(Place { disk: 2, place }));
+        if let Some(place) = headless_at(true, second) {
+            return Ok(Err(place));
         }
         return read_one(alloc, false, first);
     }
@@ -217,8 +247,8 @@ pub fn read_pair(alloc: Global, first: &[u8], second: &[u8]) -> Read<Counted>
         let place = agreeing_with(&OPEN_HEAD, first) as u64;
         return Ok(Err(Place { disk: 1, place }));
     }
-    if let Some(place) = headless_at(first) {
-        return Ok(Err(Place { disk: 1, place }));
+    if let Some(place) = headless_at(false, first) {
+        return Ok(Err(place));
     }
     read_one(alloc, true, second)
 }
