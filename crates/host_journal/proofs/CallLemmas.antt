@@ -1,6 +1,6 @@
 -- How a run of calls on one disk goes on: its images at every moment, and the calls that it tells.
 use Rattle.std.proofs.Common.{◌≡◌, inl, inr, ⊎_elim, take-append-drop, ℕ, ◌+◌, ◌-◌, ◌≤◌, ◌<◌, List, [], ◌∷◌, ◌++◌, length, take, drop, refl, sym, ◌∙◌, ap, subst, arith, append_assoc, length-append, length-take, length-drop}
-use Rattle.std.specs.Prelude.{Option, Some, None}
+use Rattle.std.specs.Prelude.{Option, Some, None, Result, Ok, Err, OnErr}
 use Rattle.std.proofs.lemmas.List.{take_all}
 use Rattle.std.proofs.Math.Seq.{take-add}
 use Rattle.ps_ports.specs.Disk.{Follows, NoMore, Elapses, LeavesOnly, ReadsAt}
@@ -56,6 +56,11 @@ leaves_more moment left_since old new P Q so_far more = record {
   each = λ c left. more c (so_far.each c left);
   before = λ t c le left. ⊎_elim (λ past. inl past) (λ p. inr (more c p)) (so_far.before t c le left);
 }
+
+-- a fact that holds in any case holds where the answer is `Err`
+pub on_err : {T E : Type 0} (P : Type 0) (r : Result T E) → P → OnErr r P
+on_err P (Ok x) p = tt
+on_err P (Err e) p = p
 
 pub tells_on : (a b c : Option (List DiskCall)) (xs ys : List DiskCall) → TellsAll a b xs → TellsAll b c ys → TellsAll a c (xs ++ ys)
 tells_on a b None xs ys one two = tt

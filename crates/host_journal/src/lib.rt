@@ -1,6 +1,9 @@
 //! A journal on two disks: a snapshot and the records behind it, right at every moment.
 #![tactic(auto)]
 
+mod disk_calls;
 pub mod fault;
 pub mod pending;
 pub mod reading;
+#[cfg(test)]
+mod tests;
