@@ -129,3 +129,25 @@ opened_sound seen may_leave k counting other shut room opened is_shut only only_
   other = λ d now. subst (IsAside k.second k.generation shut) (sym (only_other d now)) (aside_is shut k.second k.generation (seen other) is_shut opened.below);
   fixed = λ _. (only, only_other);
 }
+
+-- The two disks in the order in which the journal holds them.
+module _ {D : Type 0} (seen : D → List ℕ) (may_leave : D → List ℕ → Type 0) (k : Counted) (shut : Bool) where
+  abbrev Held : D → D → Type 0
+  Held counting other = Opened k (seen counting) (seen other) × (shut ≡ not (stands (seen other))) × Only (seen counting) (may_leave counting) × Only (seen other) (may_leave other)
+
+  held : (side : Bool) (first second counting other : D) → Opened k (either side (seen second) (seen first)) (either side (seen first) (seen second)) → shut ≡ not (stands (either side (seen first) (seen second)))
+      → Only (seen first) (may_leave first) → Only (seen second) (may_leave second) → counting ≡ either side second first → other ≡ either side first second → Held counting other
+  held false first second counting other opened is_shut only only_too is_counting is_other =
+      subst (λ (x : D). Held x other) (sym is_counting) (subst (λ (y : D). Held first y) (sym is_other) (opened, is_shut, only, only_too))
+  held true first second counting other opened is_shut only only_too is_counting is_other =
+      subst (λ (x : D). Held x other) (sym is_counting) (subst (λ (y : D). Held second y) (sym is_other) (opened, is_shut, only_too, only))
+
+  pub opened_journal : (first second counting other : D) (one two : List ℕ) (room : ℕ) → pair_of one two ≡ Ok k → seen first ≡ one → seen second ≡ two → shut ≡ not (stands (either k.second one two))
+      → Only (seen first) (may_leave first) → Only (seen second) (may_leave second) → counting ≡ either k.second second first → other ≡ either k.second first second
+      → IsSound seen may_leave (record { counting = counting; other = other; second = k.second; generation = k.generation; start = k.start; end = k.end; shut = shut; pending = Nothing; room = room })
+  opened_journal first second counting other one two room is same same_too is_shut only only_too is_counting is_other =
+      let now : pair_of (seen first) (seen second) ≡ Ok k = ap (λ (l : List ℕ). pair_of l (seen second)) same ∙ ap (pair_of one) same_too ∙ is in
+      let shut_now : shut ≡ not (stands (either k.second (seen first) (seen second))) =
+      is_shut ∙ sym (ap (λ (l : List ℕ). not (stands (either k.second l (seen second)))) same ∙ ap (λ (l : List ℕ). not (stands (either k.second one l))) same_too) in
+      let all = held k.second first second counting other (opened_pair k (seen first) (seen second) now) shut_now only only_too is_counting is_other in
+      opened_sound seen may_leave k counting other shut room all.0 all.1 all.2 all.3

@@ -3,6 +3,7 @@
 
 mod disk_calls;
 pub mod fault;
+pub mod journal;
 pub mod pending;
 pub mod reading;
 #[cfg(test)]
