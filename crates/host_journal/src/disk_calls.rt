@@ -58,7 +58,9 @@ pub fn read_whole<D: Disk>(alloc: Global, disk: &mut D) -> Result<Vec<u8>, OpenR
     ensures cause { IsErrOf result OpenReason.DiskFault → Rose (D.disk_faults disk.old) (D.disk_faults disk.new) }
     ensures journal { (place : _) → IsErrOf result (OpenReason.NotAJournal place) → ⊥ }
 {
-    disk.sync()?;
+    if disk.sync().is_err() {
+        return Err(OpenReason::DiskFault);
+    }
     read_rest(alloc, disk)
 }
 

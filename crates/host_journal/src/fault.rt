@@ -1,9 +1,9 @@
 //! Why a call on a journal failed.
 
 use crate::reading::Place;
-use ps_time::memory::Memory;
 use ps_ports::disk::Disk;
 use ps_ports::fault::Failed;
+use ps_time::memory::Memory;
 
 /// A call of a disk failed.
 #[derive(Clone, Copy, Debug, PartialEq, Eq)]

@@ -160,7 +160,11 @@ fn in_order<D>(second: bool, first: D, other: D) -> (D, D)
     ensures one { result.0 ≡ (if second then other else first) }
     ensures two { result.1 ≡ (if second then first else other) }
 {
-    if second { (other, first) } else { (first, other) }
+    if second {
+        (other, first)
+    } else {
+        (first, other)
+    }
 }
 
 // What two disks stand for, and whether the head gate of the one that doesn't count is closed.

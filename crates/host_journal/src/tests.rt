@@ -1,18 +1,19 @@
 //! What the bytes of two disks stand for: pairs worked out by hand from the format.
+use crate::fault::OpenReason;
+use crate::journal::Journal;
 use crate::reading::{Counted, Place, read_pair};
+use ps_ports::memory_disk::MemoryDisk;
 use ps_ports::rack::{FRESH_FIRST, FRESH_SECOND};
 use ps_time::items::Items;
-use std::alloc::Global;
+use std::alloc::{AllocError, Global};
 use std::process::Abort;
 use std::test::Fail;
 
 // The bytes 01 02, appended to a new pair.
-const ONE_RECORD: [u8; 29] =
-    *b"PSCHJRN1\x01\0\0\0\0\0\0\0\x01\0\0\0\0\x01\0\0\0\x02\x01\x02\0";
+const ONE_RECORD: [u8; 29] = *b"PSCHJRN1\x01\0\0\0\0\0\0\0\x01\0\0\0\0\x01\0\0\0\x02\x01\x02\0";
 
 // The same, its gate torn to 7, which is closed.
-const TORN_GATE: [u8; 29] =
-    *b"PSCHJRN1\x01\0\0\0\0\0\0\0\x01\0\0\0\0\x07\0\0\0\x02\x01\x02\0";
+const TORN_GATE: [u8; 29] = *b"PSCHJRN1\x01\0\0\0\0\0\0\0\x01\0\0\0\0\x07\0\0\0\x02\x01\x02\0";
 
 // The same, without the gate behind the record.
 const NO_GATE: [u8; 28] = *b"PSCHJRN1\x01\0\0\0\0\0\0\0\x01\0\0\0\0\x01\0\0\0\x02\x01\x02";
@@ -41,12 +42,27 @@ type Row<'a> = (&'a [u8], &'a [u8], (bool, u64, u64, u64), &'a [&'a [u8]]);
 
 const JOURNALS: [Row<'static>; 7] = [
     (&FRESH_FIRST, &FRESH_SECOND, (false, 1, 21, 21), &[b""]),
-    (&ONE_RECORD, &FRESH_SECOND, (false, 1, 21, 28), &[b"", &[1, 2]]),
+    (
+        &ONE_RECORD,
+        &FRESH_SECOND,
+        (false, 1, 21, 28),
+        &[b"", &[1, 2]],
+    ),
     (&TORN_GATE, &FRESH_SECOND, (false, 1, 21, 21), &[b""]),
     (&ONE_RECORD, &SNAPSHOT, (true, 2, 22, 22), &[&[0xab]]),
     (&SNAPSHOT, &ONE_RECORD, (false, 2, 22, 22), &[&[0xab]]),
-    (&ONE_RECORD, &TWO_RECORDS, (false, 1, 21, 28), &[b"", &[1, 2]]),
-    (&FRESH_SECOND, &TWO_RECORDS, (true, 1, 22, 33), &[&[0xab], b"", &[9]]),
+    (
+        &ONE_RECORD,
+        &TWO_RECORDS,
+        (false, 1, 21, 28),
+        &[b"", &[1, 2]],
+    ),
+    (
+        &FRESH_SECOND,
+        &TWO_RECORDS,
+        (true, 1, 22, 33),
+        &[&[0xab], b"", &[9]],
+    ),
 ];
 
 fn stands_for(alloc: Global, row: &Row<'_>) -> bool {
@@ -81,7 +97,12 @@ const NO_JOURNALS: [(&[u8], &[u8], u8, u64); 9] = [
     (&FRESH_FIRST, b"", 2, 0),
     (&FRESH_FIRST, b"PSCHJRN1", 2, 8),
     (&FRESH_FIRST, b"PSCHJRN2\0", 2, 7),
-    (b"PSCHJRN1\x01\0\0\0\0\0\0\0\x01\0\0\0\0", &FRESH_SECOND, 1, 9),
+    (
+        b"PSCHJRN1\x01\0\0\0\0\0\0\0\x01\0\0\0\0",
+        &FRESH_SECOND,
+        1,
+        9,
+    ),
     (&FRESH_FIRST, b"PSCHJRN1\x01\0", 2, 9),
     (&NO_GATE, &FRESH_SECOND, 1, 21),
     (b"PSCHJRN0", &FRESH_FIRST, 1, 7),
@@ -101,7 +122,61 @@ fn pairs_that_are_no_journal(rt: HostRuntime) -> Result<(), Fail> {
             disk: *disk,
             place: *place,
         };
-        assert!(rt; is_bad(rt.alloc(), first, second, wanted), "disk {disk}, place {place}");
+        assert!(rt;
+            is_bad(rt.alloc(), first, second, wanted),
+            "disk {disk}, place {place}"
+        );
+    }
+    Ok(())
+}
+
+fn disk_of(alloc: Global, bytes: &[u8]) -> Result<MemoryDisk, AllocError> {
+    let bytes = bytes.to_vec(alloc)?;
+    Ok(MemoryDisk::new(alloc, bytes, Vec::new(alloc)))
+}
+
+// What an opening does to its disks: one sync each, and no byte.
+#[test]
+fn a_pair_is_opened_and_given_back(rt: HostRuntime) -> Result<(), Fail> {
+    let alloc = rt.alloc();
+    let first = disk_of(alloc, &ONE_RECORD)?;
+    let second = disk_of(alloc, &SNAPSHOT)?;
+    match Journal::open(alloc, first, second) {
+        Ok((journal, list)) => {
+            assert!(rt; is_list(&list, &[&[0xab]]));
+            assert!(rt; journal.is_ready());
+            assert_eq!(rt; journal.generation(), 2);
+            assert_eq!(rt; journal.record_bytes(), 0);
+            assert_eq!(rt; journal.calls(), (1, 1));
+            let (first, second) = journal.into_disks();
+            assert_eq!(rt; first.bytes(), ONE_RECORD.as_slice());
+            assert_eq!(rt; second.bytes(), SNAPSHOT.as_slice());
+        }
+        Err(_) => assert!(rt; false),
+    }
+    Ok(())
+}
+
+// A refused opening gives the reason, and both disks.
+#[test]
+fn a_refused_pair_is_given_back(rt: HostRuntime) -> Result<(), Fail> {
+    let alloc = rt.alloc();
+    let first = disk_of(alloc, b"PSCHK")?;
+    let mut second = disk_of(alloc, b"")?;
+    second.fail_at(Some(2));
+    match Journal::open(alloc, first, second) {
+        Ok(_) => assert!(rt; false),
+        Err(fault) => {
+            let wanted = Place { disk: 1, place: 4 };
+            assert!(rt; fault.reason == OpenReason::NotAJournal(wanted));
+            assert_eq!(rt; fault.first.bytes(), b"PSCHK".as_slice());
+            let mut second = fault.second;
+            second.fail_at(Some(1));
+            match Journal::open(alloc, fault.first, second) {
+                Ok(_) => assert!(rt; false),
+                Err(fault) => assert!(rt; fault.reason == OpenReason::DiskFault),
+            }
+        }
     }
     Ok(())
 }
