@@ -135,48 +135,58 @@ fn disk_of(alloc: Global, bytes: &[u8]) -> Result<MemoryDisk, AllocError> {
     Ok(MemoryDisk::new(alloc, bytes, Vec::new(alloc)))
 }
 
+fn opened(
+    alloc: Global,
+    first: MemoryDisk,
+    second: MemoryDisk,
+) -> Option<(Journal<MemoryDisk>, Items<Items<u8>>)> {
+    match Journal::open(alloc, first, second) {
+        Ok(found) => Some(found),
+        Err(_fault) => None,
+    }
+}
+
+fn is_given_back(journal: Journal<MemoryDisk>, first: &[u8], second: &[u8]) -> bool {
+    let disks = journal.into_disks();
+    disks.0.bytes() == first && disks.1.bytes() == second
+}
+
 // What an opening does to its disks: one sync each, and no byte.
 #[test]
 fn a_pair_is_opened_and_given_back(rt: HostRuntime) -> Result<(), Fail> {
     let alloc = rt.alloc();
     let first = disk_of(alloc, &ONE_RECORD)?;
     let second = disk_of(alloc, &SNAPSHOT)?;
-    match Journal::open(alloc, first, second) {
-        Ok((journal, list)) => {
-            assert!(rt; is_list(&list, &[&[0xab]]));
-            assert!(rt; journal.is_ready());
-            assert_eq!(rt; journal.generation(), 2);
-            assert_eq!(rt; journal.record_bytes(), 0);
-            assert_eq!(rt; journal.calls(), (1, 1));
-            let (first, second) = journal.into_disks();
-            assert_eq!(rt; first.bytes(), ONE_RECORD.as_slice());
-            assert_eq!(rt; second.bytes(), SNAPSHOT.as_slice());
-        }
-        Err(_) => assert!(rt; false),
+    let found = opened(alloc, first, second);
+    assert!(rt; found.is_some());
+    if let Some((journal, list)) = found {
+        assert!(rt; is_list(&list, &[&[0xab]]));
+        assert!(rt; journal.is_ready());
+        assert_eq!(rt; journal.generation(), 2);
+        assert_eq!(rt; journal.record_bytes(), 0);
+        assert_eq!(rt; journal.calls(), (1, 1));
+        assert!(rt; is_given_back(journal, &ONE_RECORD, &SNAPSHOT));
     }
     Ok(())
 }
 
-// A refused opening gives the reason, and both disks.
+fn refusal(alloc: Global, first: MemoryDisk, second: MemoryDisk) -> Option<OpenReason> {
+    match Journal::open(alloc, first, second) {
+        Ok(_found) => None,
+        Err(fault) => Some(fault.reason),
+    }
+}
+
 #[test]
-fn a_refused_pair_is_given_back(rt: HostRuntime) -> Result<(), Fail> {
+fn openings_are_refused(rt: HostRuntime) -> Result<(), Fail> {
     let alloc = rt.alloc();
     let first = disk_of(alloc, b"PSCHK")?;
-    let mut second = disk_of(alloc, b"")?;
-    second.fail_at(Some(2));
-    match Journal::open(alloc, first, second) {
-        Ok(_) => assert!(rt; false),
-        Err(fault) => {
-            let wanted = Place { disk: 1, place: 4 };
-            assert!(rt; fault.reason == OpenReason::NotAJournal(wanted));
-            assert_eq!(rt; fault.first.bytes(), b"PSCHK".as_slice());
-            let mut second = fault.second;
-            second.fail_at(Some(1));
-            match Journal::open(alloc, fault.first, second) {
-                Ok(_) => assert!(rt; false),
-                Err(fault) => assert!(rt; fault.reason == OpenReason::DiskFault),
-            }
-        }
-    }
+    let second = disk_of(alloc, b"")?;
+    let wanted = Place { disk: 1, place: 4 };
+    assert!(rt; refusal(alloc, first, second) == Some(OpenReason::NotAJournal(wanted)));
+    let first = disk_of(alloc, &ONE_RECORD)?;
+    let mut second = disk_of(alloc, &FRESH_SECOND)?;
+    second.fail_at(Some(1));
+    assert!(rt; refusal(alloc, first, second) == Some(OpenReason::DiskFault));
     Ok(())
 }
