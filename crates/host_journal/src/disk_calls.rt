@@ -1,10 +1,10 @@
 //! Runs of calls on one disk, or on both.
-ghost use Rattle.std.specs.Prelude.{◌≡◌, ◌+◌, ◌≤◌, ◌<◌, ◌^◌, ◌∷◌, [], ◌⊎◌, length, take, IfOk, OnOk, OnErr, IsErrOf};
+ghost use Rattle.std.specs.Prelude.{◌≡◌, ◌+◌, ◌≤◌, ◌<◌, ◌^◌, ◌∷◌, [], ◌⊎◌, ◌==◌, slice_index_or, length, take, IfOk, OnOk, OnErr, IsErrOf};
 ghost use Rattle.ps_ports.specs.Disk.{written, Torn, Shortened, Follows, Only, LeavesOnly};
 ghost use Rattle.ps_ports.specs.Causes.{Rose};
 ghost use Rattle.ps_ports.specs.declared.disk.DiskCall.TheVariants.{Write, Cut, Sync};
 ghost use Rattle.host_journal.specs.Told.{TellsAll, TellsFirst};
-ghost use Rattle.host_journal.specs.Calls.{PartAfter, IsRead};
+ghost use Rattle.host_journal.specs.Calls.{PartAfter, KeepsHead, IsRead};
 
 use crate::fault::{DiskFault, OpenReason};
 use ps_ports::disk::Disk;
@@ -43,6 +43,25 @@ pub fn cut_and_sync<D: Disk>(disk: &mut D, len: u64) -> Result<(), DiskFault>
     ensures cause { OnErr result (Rose (D.disk_faults disk.old) (D.disk_faults disk.new)) }
 {
     disk.cut(len)?;
+    disk.sync()?;
+    Ok(())
+}
+
+/// Cuts a disk to its head, writes a piece behind that, and makes sure of it.
+pub fn replace_rest<D: Disk>(disk: &mut D, piece: &[u8]) -> Result<(), DiskFault>
+    ensures written { D.premise → OnOk result (D.seen disk.new ≡ written 9 piece.now (take 9 (D.seen disk.old))) }
+    ensures fixed { D.premise → OnOk result (Only (D.seen disk.new) (D.may_leave disk.new)) }
+    ensures images { D.premise → Follows KeepsHead (D.may_leave disk.old) (D.may_leave disk.new) }
+    ensures moments { D.premise → LeavesOnly D.moment D.left_since disk.old disk.new (PartAfter KeepsHead (D.may_leave disk.old)) }
+    ensures reach { OnOk result (9 + length piece.now < 2 ^ 64) }
+    ensures told { OnOk result (TellsAll (D.told disk.old) (D.told disk.new) (Cut 9 ∷ Write 9 piece.now ∷ Sync ∷ [])) }
+    ensures told_first { OnErr result (TellsFirst (D.told disk.old) (D.told disk.new) (Cut 9 ∷ Write 9 piece.now ∷ Sync ∷ [])) }
+    ensures later { D.disk_faults disk.old ≤ D.disk_faults disk.new }
+    ensures calm { OnOk result (D.disk_faults disk.new ≡ D.disk_faults disk.old) }
+    ensures cause { OnErr result (Rose (D.disk_faults disk.old) (D.disk_faults disk.new)) }
+{
+    disk.cut(9)?;
+    disk.write_at(9, piece)?;
     disk.sync()?;
     Ok(())
 }
@@ -103,4 +122,17 @@ pub fn sync_both<D: Disk>(one: &mut D, other: &mut D) -> Result<(), DiskFault>
     one.sync()?;
     other.sync()?;
     Ok(())
+}
+
+/// Whether the byte at a place is an open gate.
+pub fn is_open_at<D: Disk>(disk: &mut D, at: u64) -> Result<bool, DiskFault>
+    ensures gate { D.premise → IfOk result (λ opens. opens ≡ (slice_index_or (D.seen disk.old) at 0 == 1)) }
+    ensures read { D.premise → IsRead D.seen D.may_leave D.moment D.left_since disk.old disk.new }
+    ensures told { D.told disk.new ≡ D.told disk.old }
+    ensures later { D.disk_faults disk.old ≤ D.disk_faults disk.new }
+    ensures cause { OnErr result (Rose (D.disk_faults disk.old) (D.disk_faults disk.new)) }
+{
+    let mut gate = [0; 1];
+    let count = disk.read(at, &mut gate)?;
+    Ok(count == 1 && gate[0] == 1)
 }

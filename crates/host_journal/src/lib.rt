@@ -6,5 +6,7 @@ pub mod fault;
 pub mod journal;
 pub mod pending;
 pub mod reading;
+pub mod reload;
+pub mod snapshot;
 #[cfg(test)]
 mod tests;
