@@ -5,6 +5,8 @@ mod FrontLemmas
 mod HeadLemmas
 mod OpenLemmas
 mod PairLemmas
+mod ReloadLemmas
 mod RestLemmas
 mod SnapshotLemmas
 mod StateLemmas
+mod TakenLemmas

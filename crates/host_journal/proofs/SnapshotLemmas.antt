@@ -11,7 +11,7 @@ use Rattle.ps_ports.proofs.DiskLemmas.{written_within, written_behind, torn_fron
 use Rattle.host_journal.specs.Calls.{KeepsHead}
 use Rattle.host_journal.specs.Format.{magic, open_head, stands, body_of}
 use Rattle.host_journal.specs.Pair.{gates_at}
-use Rattle.host_journal.specs.State.{IsClosed, IsOlder, HasOlder, IsAside, IsLess, IsWhole, IsImage, image_bytes}
+use Rattle.host_journal.specs.State.{IsClosed, IsOlder, HasOlder, IsAside, IsLess, IsWhole, IsImage, image_bytes, closing}
 use Rattle.host_journal.proofs.FrontLemmas.{first_front, is_first_front, stands_whole}
 use Rattle.host_journal.proofs.HeadLemmas.{closed_made, closed_same, closed_split, stands_split}
 
@@ -32,10 +32,6 @@ pub gate_written : (old rest : List ℕ) (gate byte : ℕ) → old ≡ magic ++ 
 gate_written old rest gate byte split =
     let long : 8 ≤ length old = omega (arith, ap length split) in
     written_within 8 (byte ∷ []) old long ∙ ap (λ (l : List ℕ). take 8 l ++ (byte ∷ []) ++ drop 9 l) split
-
--- the bytes that close a head gate: none where it is known to be closed
-abbrev pub closing : Bool → List ℕ
-closing shut = if shut then [] else 0 ∷ []
 
 pub close_torn : (second : Bool) (generation : ℕ) (shut : Bool) (old new : List ℕ) → IsAside second generation shut old → Torn 8 (length (closing shut)) old new → IsAside second generation shut new
 close_torn second generation true old new closed torn =

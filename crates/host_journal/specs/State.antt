@@ -1,5 +1,5 @@
 -- What a journal holds, and what its disks may leave.
-use Rattle.std.specs.Prelude.{◌≡◌, ◌≢◌, ◌⊎◌, ◌≤◌, ℕ, ◌+◌, ◌==◌, Bool, true, false, not, if◌then◌else◌, nat_le, List, [], ◌∷◌, ◌++◌, length, drop, Option, Some, None, Result, Ok, Err}
+use Rattle.std.specs.Prelude.{⊤, ◌≡◌, ◌≢◌, ◌⊎◌, ◌≤◌, ◌<◌, ◌^◌, ℕ, ◌+◌, ◌==◌, Bool, true, false, not, if◌then◌else◌, nat_le, List, [], ◌∷◌, ◌++◌, length, drop, Option, Some, None, Result, Ok, Err}
 use Rattle.ps_ports.specs.Disk.{Only}
 use Rattle.std.specs.Int.{w32, w64, to_be_bytes}
 use Rattle.ps_ports.specs.declared.disk.DiskCall.{DiskCall}
@@ -172,7 +172,14 @@ abbrev pub Beside : {D : Type 0} → State D → Pending → List ℕ → Type 0
 Beside s Nothing bytes = IsAside s.second s.generation s.shut bytes
 Beside s Unopened bytes = IsAside s.second s.generation s.shut bytes
 Beside s (Record next) bytes = IsAside s.second s.generation s.shut bytes
-Beside s (Snapshot start) bytes = (image : List ℕ) × IsImage (s.generation + 1) start image bytes
+Beside s (Snapshot start) bytes = (s.shut ≡ true) × ((image : List ℕ) × IsImage (s.generation + 1) start image bytes)
+
+-- the places that a failed call has left, and the generation, are numbers of eight bytes
+abbrev pub AreWithin : ℕ → ℕ → Pending → Type 0
+AreWithin start generation Nothing = ⊤
+AreWithin start generation Unopened = ⊤
+AreWithin start generation (Record next) = (next + 1 < 2 ^ 64) × (start ≤ next)
+AreWithin start generation (Snapshot at) = (at + 1 < 2 ^ 64) × (generation + 1 < 2 ^ 64)
 
 pub record IsSound {D : Type 0} (seen : D → List ℕ) (may_leave : D → List ℕ → Type 0) (s : State D) : Type 0 where
   pub list : List (List ℕ)
@@ -229,7 +236,11 @@ snapshot_of image s = Ok (record { second = not s.second; generation = s.generat
 abbrev pub image_bytes : ℕ → List ℕ → List ℕ
 image_bytes generation image = to_be_bytes w64 generation ++ (to_be_bytes w32 (length image) ++ (image ++ 0 ∷ []))
 
--- the seven calls of a snapshot; a head gate that is known to be closed isn't written
+-- the bytes that close a head gate: none where it is known to be closed
+abbrev pub closing : Bool → List ℕ
+closing shut = if shut then [] else 0 ∷ []
+
+-- the seven calls of a snapshot
 abbrev pub snapshot_calls : Bool → ℕ → List ℕ → List DiskCall
 snapshot_calls shut generation image =
-    Write 8 (if shut then [] else 0 ∷ []) ∷ Sync ∷ Cut 9 ∷ Write 9 (image_bytes generation image) ∷ Sync ∷ Write 8 (1 ∷ []) ∷ Sync ∷ []
+    Write 8 (closing shut) ∷ Sync ∷ Cut 9 ∷ Write 9 (image_bytes generation image) ∷ Sync ∷ Write 8 (1 ∷ []) ∷ Sync ∷ []

@@ -36,14 +36,15 @@ pub struct Journal<D: Disk> {
 
 impl<D: Disk> Model for Journal<D> {
     ghost use Rattle.std.specs.Prelude.{◌+◌, ◌≤◌, ◌<◌, ◌^◌, vec_capacity};
-    ghost use Rattle.host_journal.specs.State.{State, IsSound};
+    ghost use Rattle.host_journal.specs.State.{State, IsSound, AreWithin};
 
     ghost Value = { State D };
 
     ghost view = { λ j. record { counting = j.counting; other = j.other; second = j.second; generation = j.generation; start = j.start; end = j.end; shut = j.shut; pending = j.pending; room = vec_capacity j.buffer } };
 
     ghost invariant = { λ j. (j.end + 1 < 2 ^ 64) × (j.start ≤ j.end)
-        × (D.premise → IsSound D.seen D.may_leave (record { counting = j.counting; other = j.other; second = j.second; generation = j.generation; start = j.start; end = j.end; shut = j.shut; pending = j.pending; room = vec_capacity j.buffer })) };
+        × (D.premise → IsSound D.seen D.may_leave (record { counting = j.counting; other = j.other; second = j.second; generation = j.generation; start = j.start; end = j.end; shut = j.shut; pending = j.pending; room = vec_capacity j.buffer }))
+        × AreWithin j.start j.generation j.pending };
 }
 
 impl<D: Disk> Journal<D> {

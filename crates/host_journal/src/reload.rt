@@ -4,7 +4,7 @@ ghost use Rattle.ps_ports.specs.Causes.{Rose};
 ghost use Rattle.ps_ports.specs.Disk.{Only};
 ghost use Rattle.ps_ports.specs.declared.disk.DiskCall.TheVariants.{Sync};
 ghost use Rattle.host_journal.specs.Calls.{IsRead};
-ghost use Rattle.host_journal.specs.Reload.{stood_of};
+ghost use Rattle.host_journal.specs.Reload.{stood_of, IsOf};
 ghost use Rattle.host_journal.specs.State.{is_ready, stored, has_record, EachImage, IsAt, first_disk, second_disk};
 ghost use Rattle.host_journal.specs.Told.{TellsAll};
 
@@ -85,6 +85,7 @@ fn find_stood<D: Disk>(
     end: u64,
 ) -> Result<Stood, DiskFault>
     ensures stood { D.premise → IfOk result (λ stood. stood ≡ stood_of pending end (D.seen counting.old) (D.seen other.old)) }
+    ensures of { IfOk result (λ stood. IsOf pending stood) }
     ensures fixed { D.premise → OnOk result (Only (D.seen counting.new) (D.may_leave counting.new) × Only (D.seen other.new) (D.may_leave other.new)) }
     ensures read { D.premise → IsRead D.seen D.may_leave D.moment D.left_since counting.old counting.new }
     ensures read_other { D.premise → IsRead D.seen D.may_leave D.moment D.left_since other.old other.new }
@@ -121,6 +122,7 @@ fn look_at_gate<D: Disk>(
     end: u64,
 ) -> Result<Stood, DiskFault>
     ensures stood { D.premise → IfOk result (λ stood. stood ≡ stood_of pending end (D.seen counting.old) (D.seen other.old)) }
+    ensures of { IfOk result (λ stood. IsOf pending stood) }
     ensures read { D.premise → IsRead D.seen D.may_leave D.moment D.left_since counting.old counting.new }
     ensures read_other { D.premise → IsRead D.seen D.may_leave D.moment D.left_since other.old other.new }
     ensures told { D.told counting.new ≡ D.told counting.old }

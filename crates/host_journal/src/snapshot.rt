@@ -1,10 +1,10 @@
 //! Putting a snapshot on the disk that doesn't count.
-ghost use Rattle.std.specs.Prelude.{◌≡◌, ◌⊎◌, ◌+◌, ◌-◌, ◌≤◌, ◌<◌, ◌^◌, ◌∷◌, [], not, if◌then◌else◌, IsTrue, length, OnOk, OnErr, vec_capacity};
+ghost use Rattle.std.specs.Prelude.{◌≡◌, ◌⊎◌, ◌+◌, ◌-◌, ◌≤◌, ◌<◌, ◌^◌, ◌∷◌, [], not, IsTrue, length, OnOk, OnErr, vec_capacity};
 ghost use Rattle.ps_ports.specs.Causes.{Rose};
 ghost use Rattle.ps_ports.specs.Disk.{written, Torn, Follows, Only, LeavesOnly};
 ghost use Rattle.ps_ports.specs.declared.disk.DiskCall.TheVariants.{Write, Sync};
 ghost use Rattle.host_journal.specs.Calls.{PartAfter};
-ghost use Rattle.host_journal.specs.State.{is_ready, stored, snapshot_of, snapshot_calls, image_bytes, EachImage, EachSince};
+ghost use Rattle.host_journal.specs.State.{is_ready, stored, snapshot_of, snapshot_calls, image_bytes, closing, EachImage, EachSince};
 ghost use Rattle.host_journal.specs.Told.{TellsAll, TellsFirst};
 
 use crate::disk_calls::{replace_rest, write_and_sync};
@@ -57,12 +57,12 @@ impl<D: Disk> Journal<D> {
 
 // Closes a head gate, if it isn't known to be closed.
 fn close_head<D: Disk>(disk: &mut D, shut: bool) -> Result<(), DiskFault>
-    ensures written { D.premise → OnOk result (D.seen disk.new ≡ written 8 (if shut then [] else 0 ∷ []) (D.seen disk.old)) }
+    ensures written { D.premise → OnOk result (D.seen disk.new ≡ written 8 (closing shut) (D.seen disk.old)) }
     ensures fixed { D.premise → OnOk result (Only (D.seen disk.new) (D.may_leave disk.new)) }
-    ensures images { D.premise → Follows (Torn 8 (length (if shut then [] else 0 ∷ []))) (D.may_leave disk.old) (D.may_leave disk.new) }
-    ensures moments { D.premise → LeavesOnly D.moment D.left_since disk.old disk.new (PartAfter (Torn 8 (length (if shut then [] else 0 ∷ []))) (D.may_leave disk.old)) }
-    ensures told { OnOk result (TellsAll (D.told disk.old) (D.told disk.new) (Write 8 (if shut then [] else 0 ∷ []) ∷ Sync ∷ [])) }
-    ensures told_first { OnErr result (TellsFirst (D.told disk.old) (D.told disk.new) (Write 8 (if shut then [] else 0 ∷ []) ∷ Sync ∷ [])) }
+    ensures images { D.premise → Follows (Torn 8 (length (closing shut))) (D.may_leave disk.old) (D.may_leave disk.new) }
+    ensures moments { D.premise → LeavesOnly D.moment D.left_since disk.old disk.new (PartAfter (Torn 8 (length (closing shut))) (D.may_leave disk.old)) }
+    ensures told { OnOk result (TellsAll (D.told disk.old) (D.told disk.new) (Write 8 (closing shut) ∷ Sync ∷ [])) }
+    ensures told_first { OnErr result (TellsFirst (D.told disk.old) (D.told disk.new) (Write 8 (closing shut) ∷ Sync ∷ [])) }
     ensures later { D.disk_faults disk.old ≤ D.disk_faults disk.new }
     ensures calm { OnOk result (D.disk_faults disk.new ≡ D.disk_faults disk.old) }
     ensures cause { OnErr result (Rose (D.disk_faults disk.old) (D.disk_faults disk.new)) }

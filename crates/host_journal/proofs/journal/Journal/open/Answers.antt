@@ -10,4 +10,5 @@ invariant_of-journal g c = (
       opened_journal g.D.Disk.seen g.D.Disk.may_leave c.in-Ok.counted c.in-Ok.shut c.read_disks.new.first c.read_disks.new.second c.in_order-counting.result.0 c.in_order-counting.result.1
       (g.D.Disk.seen c.args.first) (g.D.Disk.seen c.args.second) _ (c.in-Ok.ensures.pair p) (c.in-Ok.ensures.read_first p).same (c.in-Ok.ensures.read_second p).same (c.in-Ok.ensures.shut p)
       fixed.0 fixed.1 c.in_order-counting.ensures.one c.in_order-counting.ensures.two,
+  tt,
 )
