@@ -10,3 +10,4 @@ mod RestLemmas
 mod SnapshotLemmas
 mod StateLemmas
 mod TakenLemmas
+mod TurnLemmas

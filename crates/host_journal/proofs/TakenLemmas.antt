@@ -1,5 +1,5 @@
 -- A journal over two disks of which a crash leaves nothing but what they read, and what a snapshot or a `reload` has made of their order.
-use Rattle.std.proofs.Common.{◌≡◌, ℕ, ◌≤◌, Bool, true, false, not, if◌then◌else◌, List, refl, sym, ◌∙◌, ap, subst}
+use Rattle.std.proofs.Common.{◌≡◌, ℕ, ◌≤◌, Bool, if◌then◌else◌, List, refl, sym, ◌∙◌, ap, subst}
 use Rattle.ps_ports.specs.Disk.{Only}
 use Rattle.host_journal.specs.Pair.{pair_of}
 use Rattle.host_journal.specs.State.{State, pair_in, stored, EachImage, IsAt, IsAside, IsWhole, Counting, Beside, IsSound}
@@ -44,7 +44,3 @@ pub same_order : {D : Type 0} (seen : D → List ℕ) (second : Bool) (counting 
     → stored_of seen second counting_new other_new ≡ stored_of seen second counting other
 same_order seen second counting other counting_new other_new same same_other =
     stored_in seen second counting_new other_new ∙ ap (λ (b : List ℕ). pair_in second b (seen other_new)) same ∙ ap (pair_in second (seen counting)) same_other ∙ sym (stored_in seen second counting other)
-
-pub turned_order : {D : Type 0} (seen : D → List ℕ) (second : Bool) (counting other : D) → stored_of seen (not second) other counting ≡ stored_of seen second counting other
-turned_order seen false counting other = refl
-turned_order seen true counting other = refl
