@@ -5,5 +5,6 @@ mod FrontLemmas
 mod HeadLemmas
 mod OpenLemmas
 mod PairLemmas
+mod RecordLemmas
 mod SnapshotLemmas
 mod StateLemmas

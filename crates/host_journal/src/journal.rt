@@ -23,15 +23,15 @@ use std::marker::Model;
 /// generation.
 #[derive(Drop)]
 pub struct Journal<D: Disk> {
-    counting: D,
-    other: D,
-    second: bool,
-    generation: u64,
-    start: u64,
-    end: u64,
-    shut: bool,
-    pending: Pending,
-    buffer: Vec<u8>,
+    pub(crate) counting: D,
+    pub(crate) other: D,
+    pub(crate) second: bool,
+    pub(crate) generation: u64,
+    pub(crate) start: u64,
+    pub(crate) end: u64,
+    pub(crate) shut: bool,
+    pub(crate) pending: Pending,
+    pub(crate) buffer: Vec<u8>,
 }
 
 impl<D: Disk> Model for Journal<D> {

@@ -1,6 +1,7 @@
 //! A journal on two disks: a snapshot and the records behind it, right at every moment.
 #![tactic(auto)]
 
+pub mod append;
 mod disk_calls;
 pub mod fault;
 pub mod journal;
