@@ -8,3 +8,4 @@ mod PairLemmas
 mod RecordLemmas
 mod SnapshotLemmas
 mod StateLemmas
+mod ToldLemmas

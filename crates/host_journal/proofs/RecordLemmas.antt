@@ -70,3 +70,76 @@ module _ {D : Type 0} (seen : D → List ℕ) (may_leave : D → List ℕ → Ty
   cut_durable part only =
       subst (λ (o : State D). EachImage may_leave (moved s new s.end Nothing room) (Same o)) is
       (each_same seen may_leave moment left_since reads_now only_now s was_ready new (λ d now. subst Whole (sym (only d now)) (cut_now part)))
+
+  -- A record.
+  module _ (payload : List ℕ) where
+    abbrev OrMore : State D → Result Counted Place → Type 0
+    OrMore o pair = (pair ≡ stored seen o) ⊎ (pair ≡ with_record payload (stored seen o))
+
+    abbrev Held : List ℕ → Type 0
+    Held c = Either seen may_leave moment left_since reads_now only_now s was_ready payload c
+
+    record_since : (counting : D) (end : ℕ) (pending : Pending) → LeavesOnly moment left_since s.counting counting Held → EachSince moment left_since old (moved s counting end pending room) (OrMore old)
+    record_since counting end pending moments =
+        subst (λ (o : State D). EachSince moment left_since o (moved s counting end pending room) (OrMore o)) is
+        (each_since seen may_leave moment left_since reads_now only_now s was_ready payload counting moments)
+
+    module _ (piece : List ℕ) (is_piece : piece ≡ to_be_bytes w32 (length payload) ++ (payload ++ 0 ∷ [])) (mid : D)
+        (moments : LeavesOnly moment left_since s.counting mid (PartAfter (Torn (s.end + 1) (length piece)) (may_leave s.counting))) where
+      behind_whole : (c d : List ℕ) → may_leave s.counting c → Torn (s.end + 1) (length piece) c d → Whole d
+      behind_whole c d now torn = whole_torn s.generation s.start s.end was_ready.list (length piece) c d (was_ready.counting c now) torn
+
+      behind_moments : LeavesOnly moment left_since s.counting mid Whole
+      behind_moments = leaves_more moment left_since s.counting mid (PartAfter (Torn (s.end + 1) (length piece)) (may_leave s.counting)) Whole moments (λ d from. behind_whole from.0 d from.1 from.2)
+
+      -- it fails before the gate
+      pub append_unopened : Torn (s.end + 1) (length piece) (seen s.counting) (seen mid) → Follows (Torn (s.end + 1) (length piece)) (may_leave s.counting) (may_leave mid)
+          → Exit seen may_leave moment left_since old (moved s mid s.end Unopened room) (OrMore old)
+      append_unopened part follows = record {
+        sound = sound_unopened seen may_leave moment left_since reads_now only_now s was_ready mid room (λ d now. let from = follows d now in behind_whole from.0 d from.1 from.2);
+        now = inl (now_same seen may_leave moment left_since reads_now only_now s was_ready mid (behind_whole (seen s.counting) (seen mid) (reads_now s.counting) part) ∙ ap (stored seen) is);
+        since = record_since mid s.end Unopened (leaves_more moment left_since s.counting mid Whole Held behind_moments (λ d whole. inl whole));
+      }
+
+      -- it comes to the gate
+      module _ (small : length payload ≤ 8388608) (made : seen mid ≡ written (s.end + 1) piece (seen s.counting)) (only : Only (seen mid) (may_leave mid))
+          (gate_moves : LeavesOnly moment left_since mid new (PartAfter (Torn s.end 1) (may_leave mid))) (end : ℕ) (is_end : end ≡ s.end + 5 + length payload) where
+        is_staged : Staged seen may_leave moment left_since reads_now only_now s was_ready payload mid (seen mid)
+        is_staged =
+            staged seen may_leave moment left_since reads_now only_now s was_ready payload mid (omega (arith, small))
+            (made ∙ ap (λ (l : List ℕ). written (s.end + 1) l (seen s.counting)) is_piece)
+
+        gate_since : (counting_end : ℕ) (pending : Pending) → EachSince moment left_since old (moved s new counting_end pending room) (OrMore old)
+        gate_since counting_end pending =
+            record_since new counting_end pending
+            (gate_moments seen may_leave moment left_since reads_now only_now s was_ready payload mid is_staged only new behind_moments gate_moves)
+
+        pub append_at_gate : Follows (Torn s.end 1) (may_leave mid) (may_leave new) → Exit seen may_leave moment left_since old (moved s new s.end (Record end) room) (OrMore old)
+        append_at_gate follows =
+            let images = gate_images seen may_leave moment left_since reads_now only_now s was_ready payload mid is_staged only new follows in
+            record {
+              sound = sound_record seen may_leave moment left_since reads_now only_now s was_ready new room payload end is_end images;
+              now = subst (λ (o : State D). OrMore o (stored seen (moved s new s.end (Record end) room))) is
+                  (is_or_has seen may_leave moment left_since reads_now only_now s was_ready payload new
+                  (staged_is_either seen may_leave moment left_since reads_now only_now s was_ready payload mid is_staged only new (seen new) (images (seen new) (reads_now new))));
+              since = gate_since s.end (Record end);
+            }
+
+        -- it is done
+        module _ (gate_made : seen new ≡ written s.end (1 ∷ []) (seen mid)) (only_new : Only (seen new) (may_leave new)) where
+          has : Has seen may_leave moment left_since reads_now only_now s was_ready payload (seen new)
+          has = gate_opened seen may_leave moment left_since reads_now only_now s was_ready payload mid is_staged only new gate_made
+
+          pub appended : stored seen (moved s new end Nothing room) ≡ with_record payload (stored seen old)
+          appended = now_has seen may_leave moment left_since reads_now only_now s was_ready payload new has ∙ ap (λ (o : State D). with_record payload (stored seen o)) is
+
+          pub append_durable : EachImage may_leave (moved s new end Nothing room) (λ pair. pair ≡ stored seen (moved s new end Nothing room))
+          append_durable = each_has seen may_leave moment left_since reads_now only_now s was_ready payload new has only_new
+
+          pub append_done : Exit seen may_leave moment left_since old (moved s new end Nothing room) (OrMore old)
+          append_done = record {
+            sound = sound_nothing seen may_leave moment left_since reads_now only_now s was_ready new room end (was_ready.list ++ payload ∷ [])
+                (subst (λ (n : ℕ). IsWhole s.generation s.start n (was_ready.list ++ payload ∷ []) (seen new)) (sym is_end) has) only_new;
+            now = inr appended;
+            since = gate_since end Nothing;
+          }
