@@ -2,6 +2,8 @@
 #![tactic(auto)]
 
 pub mod append;
+#[cfg(test)]
+mod append_tests;
 mod disk_calls;
 pub mod fault;
 pub mod journal;

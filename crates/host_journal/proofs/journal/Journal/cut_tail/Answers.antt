@@ -6,7 +6,7 @@ invariant_of-self g c = (
   c.self.invariant.0,
   c.self.invariant.1,
   λ p. (cut_failed g.D.Disk.seen g.D.Disk.may_leave g.D.Disk.moment g.D.Disk.left_since (λ d. g.met.D.Disk.reads_now d p) (λ d b left. g.met.D.Disk.only_now d b p left) _ _ c.self.view_is c.requires.ready (c.self.invariant.2 p) _ _ (c.cut_and_sync.ensures.part p)
-  (c.cut_and_sync.ensures.images p) (c.cut_and_sync.ensures.moments p)).sound,
+      (c.cut_and_sync.ensures.images p) (c.cut_and_sync.ensures.moments p)).sound,
 )
 
 pub returns-in_err-cut_and_sync-clause-same : goal.returns-in_err-cut_and_sync-clause-same
@@ -24,7 +24,7 @@ invariant_of-self-2 g c = (
   c.self.invariant.0,
   c.self.invariant.1,
   λ p. (cut_done g.D.Disk.seen g.D.Disk.may_leave g.D.Disk.moment g.D.Disk.left_since (λ d. g.met.D.Disk.reads_now d p) (λ d b left. g.met.D.Disk.only_now d b p left) _ _ c.self.view_is c.requires.ready (c.self.invariant.2 p) _ _ (c.cut_and_sync.ensures.part p)
-  (c.in_ok-cut_and_sync.ensures.fixed p) (c.cut_and_sync.ensures.moments p)).sound,
+      (c.in_ok-cut_and_sync.ensures.fixed p) (c.cut_and_sync.ensures.moments p)).sound,
 )
 
 pub returns-clause-same : goal.returns-clause-same
