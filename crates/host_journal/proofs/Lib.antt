@@ -5,9 +5,11 @@ mod FrontLemmas
 mod HeadLemmas
 mod OpenLemmas
 mod PairLemmas
+mod RecordLemmas
 mod ReloadLemmas
 mod RestLemmas
 mod SnapshotLemmas
 mod StateLemmas
 mod TakenLemmas
+mod ToldLemmas
 mod TurnLemmas

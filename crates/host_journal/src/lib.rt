@@ -1,6 +1,9 @@
 //! A journal on two disks: a snapshot and the records behind it, right at every moment.
 #![tactic(auto)]
 
+pub mod append;
+#[cfg(test)]
+mod append_tests;
 mod disk_calls;
 pub mod fault;
 pub mod journal;
