@@ -12,4 +12,5 @@ mod SnapshotLemmas
 mod StateLemmas
 mod TakenLemmas
 mod ToldLemmas
+mod TurnExits
 mod TurnLemmas

@@ -1,5 +1,5 @@
 //! Putting a snapshot on the disk that doesn't count.
-ghost use Rattle.std.specs.Prelude.{◌≡◌, ◌⊎◌, ◌+◌, ◌-◌, ◌≤◌, ◌<◌, ◌^◌, ◌∷◌, [], not, IsTrue, length, OnOk, OnErr, vec_capacity};
+ghost use Rattle.std.specs.Prelude.{◌≡◌, ◌⊎◌, ◌+◌, ◌-◌, ◌≤◌, ◌<◌, ◌^◌, ◌∷◌, [], false, not, IsTrue, length, OnOk, OnErr, vec_capacity};
 ghost use Rattle.ps_ports.specs.Causes.{Rose};
 ghost use Rattle.ps_ports.specs.Disk.{written, Torn, Follows, Only, LeavesOnly};
 ghost use Rattle.ps_ports.specs.declared.disk.DiskCall.TheVariants.{Write, Sync};
@@ -31,6 +31,8 @@ impl<D: Disk> Journal<D> {
         ensures one_or_other { D.premise → (stored D.seen self.new ≡ stored D.seen self.old) ⊎ (stored D.seen self.new ≡ snapshot_of image.now self.old) }
         ensures place { OnOk result ((self.new.generation ≡ self.old.generation + 1) × (self.new.start ≡ 21 + length image.now) × (self.new.end ≡ self.new.start) × IsTrue (is_ready self.new.pending)) }
         ensures turned { OnOk result ((self.new.other ≡ self.old.counting) × (self.new.second ≡ not self.old.second)) }
+        ensures failed { OnErr result (is_ready self.new.pending ≡ false) }
+        ensures room { self.old.room ≤ self.new.room }
         ensures kept { OnErr result ((self.new.counting ≡ self.old.counting) × (self.new.second ≡ self.old.second)) }
         ensures told { OnOk result (TellsAll (D.told self.old.other) (D.told self.new.counting) (snapshot_calls self.old.shut (self.old.generation + 1) image.now)) }
         ensures told_first { OnErr result (TellsFirst (D.told self.old.other) (D.told self.new.other) (snapshot_calls self.old.shut (self.old.generation + 1) image.now)) }
