@@ -21,7 +21,7 @@ fn pair_of(alloc: Global, first: &[u8]) -> Result<Pair, AllocError> {
     ))
 }
 
-fn opened(alloc: Global, pair: Pair) -> Option<(Journal<MemoryDisk>, Items<Items<u8>>)> {
+pub fn opened(alloc: Global, pair: Pair) -> Option<(Journal<MemoryDisk>, Items<Items<u8>>)> {
     match Journal::open(alloc, pair.0, pair.1) {
         Ok(found) => Some(found),
         Err(_fault) => None,
@@ -41,7 +41,7 @@ fn is_list(list: &Items<Items<u8>>, wanted: &[&[u8]]) -> bool {
 }
 
 // Whether it was `Ok`.
-fn add(journal: &mut Journal<MemoryDisk>, payload: &[u8]) -> Result<bool, Memory> {
+pub fn add(journal: &mut Journal<MemoryDisk>, payload: &[u8]) -> Result<bool, Memory> {
     journal.reserve(payload.len())?;
     if !journal.is_ready() || payload.len() > 8_388_608 {
         return Ok(false);
@@ -50,7 +50,7 @@ fn add(journal: &mut Journal<MemoryDisk>, payload: &[u8]) -> Result<bool, Memory
 }
 
 // The pair stands for this list, and after one more append of 03 for that record too.
-fn stands_for(alloc: Global, pair: Pair, wanted: &[&[u8]], more: &[&[u8]]) -> Result<bool, Fail> {
+pub fn stands_for(alloc: Global, pair: Pair, wanted: &[&[u8]], more: &[&[u8]]) -> Result<bool, Fail> {
     let Some((mut journal, list)) = opened(alloc, pair) else {
         return Ok(false);
     };

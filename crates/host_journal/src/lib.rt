@@ -12,4 +12,6 @@ pub mod reading;
 pub mod reload;
 pub mod snapshot;
 #[cfg(test)]
+mod snapshot_tests;
+#[cfg(test)]
 mod tests;
