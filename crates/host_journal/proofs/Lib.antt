@@ -1,0 +1,16 @@
+mod AppendLemmas
+mod CallLemmas
+mod FormatLemmas
+mod FrontLemmas
+mod HeadLemmas
+mod OpenLemmas
+mod PairLemmas
+mod RecordLemmas
+mod ReloadLemmas
+mod RestLemmas
+mod SnapshotLemmas
+mod StateLemmas
+mod TakenLemmas
+mod ToldLemmas
+mod TurnExits
+mod TurnLemmas

@@ -1,0 +1,145 @@
+-- What holds at each exit of a call that adds a record, or cuts what lies behind the last.
+use Rattle.std.proofs.Common.{◌≡◌, ◌⊎◌, inl, inr, ⊎_elim, ℕ, ◌+◌, ◌≤◌, ◌<◌, ◌^◌, min, Bool, true, false, if◌then◌else◌, List, [], ◌∷◌, ◌++◌, length, take, Result, refl, sym, ◌∙◌, ap, subst, arith, length-append, length-take}
+use Rattle.std.specs.Int.{w32, to_be_bytes}
+use Rattle.ps_ports.specs.Disk.{written, Torn, Shortened, Follows, Only, LeavesOnly}
+use Rattle.host_journal.specs.Calls.{PartAfter}
+use Rattle.host_journal.specs.State.{State, is_ready, stored, with_record, EachImage, EachSince, IsWhole, IsStaged, IsSound}
+use Rattle.host_journal.specs.declared.pending.Pending.{Pending}
+use Rattle.host_journal.specs.declared.pending.Pending.TheVariants.{Nothing, Unopened, Record}
+use Rattle.host_journal.specs.declared.reading.Counted.{Counted}
+use Rattle.host_journal.specs.declared.reading.Place.{Place}
+use Rattle.host_journal.proofs.AppendLemmas.{whole_torn, whole_cut, whole_long}
+use Rattle.host_journal.proofs.CallLemmas.{leaves_more}
+use Rattle.host_journal.proofs.StateLemmas.{Ready, ready, Is, Has, Either, same_pair, torn_images, torn_moments, Staged, staged, gate_images, staged_is_either, gate_moments, gate_opened, each_since, is_or_has, now_has, each_has, each_since_same, now_same, each_same, sound_unopened, sound_record, sound_nothing}
+
+-- another disk counts in its place
+abbrev pub moved : {D : Type 0} → State D → D → ℕ → Pending → ℕ → State D
+moved s counting end pending room = record { counting = counting; other = s.other; second = s.second; generation = s.generation; start = s.start; end = end; shut = s.shut; pending = pending; room = room }
+
+-- the invariant, what a read gives, and every image of every moment
+pub record Exit {D : Type 0} (seen : D → List ℕ) (may_leave : D → List ℕ → Type 0) (moment : D → ℕ) (left_since : D → ℕ → List ℕ → Type 0) (old new : State D) (P : Result Counted Place → Type 0) : Type 0 where
+  pub sound : IsSound seen may_leave new
+  pub now : P (stored seen new)
+  pub since : EachSince moment left_since old new P
+
+module _ {D : Type 0} (seen : D → List ℕ) (may_leave : D → List ℕ → Type 0) (moment : D → ℕ) (left_since : D → ℕ → List ℕ → Type 0)
+    (reads_now : (disk : D) → may_leave disk (seen disk)) (only_now : (disk : D) (c : List ℕ) → left_since disk (moment disk) c → may_leave disk c)
+    (s old : State D) (is : s ≡ old) (ready_now : is_ready old.pending ≡ true) (sound : IsSound seen may_leave s) (new : D) (room : ℕ) where
+  was_ready : Ready seen may_leave s
+  was_ready = ready seen may_leave moment left_since reads_now only_now s (ap (λ (o : State D). is_ready o.pending) is ∙ ready_now) sound
+
+  abbrev Whole : List ℕ → Type 0
+  Whole c = IsWhole s.generation s.start s.end was_ready.list c
+
+  abbrev Same : State D → Result Counted Place → Type 0
+  Same o pair = pair ≡ stored seen o
+
+  -- A cut.
+  cut_whole : (c d : List ℕ) → may_leave s.counting c → Shortened (s.end + 1) c d → Whole d
+  cut_whole c d now cut = whole_cut s.generation s.start s.end was_ready.list c d (was_ready.counting c now) cut
+
+  cut_images : Follows (Shortened (s.end + 1)) (may_leave s.counting) (may_leave new) → (d : List ℕ) → may_leave new d → Whole d
+  cut_images follows d now = let from = follows d now in cut_whole from.0 d from.1 from.2
+
+  cut_now : Shortened (s.end + 1) (seen s.counting) (seen new) → Whole (seen new)
+  cut_now part = cut_whole (seen s.counting) (seen new) (reads_now s.counting) part
+
+  cut_since : (end : ℕ) (pending : Pending) → LeavesOnly moment left_since s.counting new (PartAfter (Shortened (s.end + 1)) (may_leave s.counting)) → EachSince moment left_since old (moved s new end pending room) (Same old)
+  cut_since end pending moments =
+      let whole = leaves_more moment left_since s.counting new (PartAfter (Shortened (s.end + 1)) (may_leave s.counting)) Whole moments (λ d from. cut_whole from.0 d from.1 from.2) in
+      subst (λ (o : State D). EachSince moment left_since o (moved s new end pending room) (Same o)) is
+      (each_since_same seen may_leave moment left_since reads_now only_now s was_ready new whole)
+
+  pub cut_failed : Shortened (s.end + 1) (seen s.counting) (seen new) → Follows (Shortened (s.end + 1)) (may_leave s.counting) (may_leave new)
+      → LeavesOnly moment left_since s.counting new (PartAfter (Shortened (s.end + 1)) (may_leave s.counting)) → Exit seen may_leave moment left_since old (moved s new s.end Unopened room) (Same old)
+  cut_failed part follows moments = record {
+    sound = sound_unopened seen may_leave moment left_since reads_now only_now s was_ready new room (cut_images follows);
+    now = now_same seen may_leave moment left_since reads_now only_now s was_ready new (cut_now part) ∙ ap (stored seen) is;
+    since = cut_since s.end Unopened moments;
+  }
+
+  pub cut_done : Shortened (s.end + 1) (seen s.counting) (seen new) → Only (seen new) (may_leave new)
+      → LeavesOnly moment left_since s.counting new (PartAfter (Shortened (s.end + 1)) (may_leave s.counting)) → Exit seen may_leave moment left_since old (moved s new s.end Nothing room) (Same old)
+  cut_done part only moments = record {
+    sound = sound_nothing seen may_leave moment left_since reads_now only_now s was_ready new room s.end was_ready.list (cut_now part) only;
+    now = now_same seen may_leave moment left_since reads_now only_now s was_ready new (cut_now part) ∙ ap (stored seen) is;
+    since = cut_since s.end Nothing moments;
+  }
+
+  pub cut_durable : Shortened (s.end + 1) (seen s.counting) (seen new) → Only (seen new) (may_leave new) → EachImage may_leave (moved s new s.end Nothing room) (Same old)
+  cut_durable part only =
+      subst (λ (o : State D). EachImage may_leave (moved s new s.end Nothing room) (Same o)) is
+      (each_same seen may_leave moment left_since reads_now only_now s was_ready new (λ d now. subst Whole (sym (only d now)) (cut_now part)))
+
+  -- A record.
+  module _ (payload : List ℕ) where
+    abbrev OrMore : State D → Result Counted Place → Type 0
+    OrMore o pair = (pair ≡ stored seen o) ⊎ (pair ≡ with_record payload (stored seen o))
+
+    abbrev Held : List ℕ → Type 0
+    Held c = Either seen may_leave moment left_since reads_now only_now s was_ready payload c
+
+    record_since : (counting : D) (end : ℕ) (pending : Pending) → LeavesOnly moment left_since s.counting counting Held → EachSince moment left_since old (moved s counting end pending room) (OrMore old)
+    record_since counting end pending moments =
+        subst (λ (o : State D). EachSince moment left_since o (moved s counting end pending room) (OrMore o)) is
+        (each_since seen may_leave moment left_since reads_now only_now s was_ready payload counting moments)
+
+    module _ (piece : List ℕ) (is_piece : piece ≡ to_be_bytes w32 (length payload) ++ (payload ++ 0 ∷ [])) (mid : D)
+        (moments : LeavesOnly moment left_since s.counting mid (PartAfter (Torn (s.end + 1) (length piece)) (may_leave s.counting))) where
+      behind_whole : (c d : List ℕ) → may_leave s.counting c → Torn (s.end + 1) (length piece) c d → Whole d
+      behind_whole c d now torn = whole_torn s.generation s.start s.end was_ready.list (length piece) c d (was_ready.counting c now) torn
+
+      behind_moments : LeavesOnly moment left_since s.counting mid Whole
+      behind_moments = leaves_more moment left_since s.counting mid (PartAfter (Torn (s.end + 1) (length piece)) (may_leave s.counting)) Whole moments (λ d from. behind_whole from.0 d from.1 from.2)
+
+      -- it fails before the gate
+      pub append_unopened : Torn (s.end + 1) (length piece) (seen s.counting) (seen mid) → Follows (Torn (s.end + 1) (length piece)) (may_leave s.counting) (may_leave mid)
+          → Exit seen may_leave moment left_since old (moved s mid s.end Unopened room) (OrMore old)
+      append_unopened part follows = record {
+        sound = sound_unopened seen may_leave moment left_since reads_now only_now s was_ready mid room (λ d now. let from = follows d now in behind_whole from.0 d from.1 from.2);
+        now = inl (now_same seen may_leave moment left_since reads_now only_now s was_ready mid (behind_whole (seen s.counting) (seen mid) (reads_now s.counting) part) ∙ ap (stored seen) is);
+        since = record_since mid s.end Unopened (leaves_more moment left_since s.counting mid Whole Held behind_moments (λ d whole. inl whole));
+      }
+
+      -- it comes to the gate
+      module _ (small : length payload ≤ 8388608) (made : seen mid ≡ written (s.end + 1) piece (seen s.counting)) (only : Only (seen mid) (may_leave mid))
+          (gate_moves : LeavesOnly moment left_since mid new (PartAfter (Torn s.end 1) (may_leave mid))) (end : ℕ) (is_end : end ≡ s.end + 5 + length payload) where
+        is_staged : Staged seen may_leave moment left_since reads_now only_now s was_ready payload mid (seen mid)
+        is_staged =
+            staged seen may_leave moment left_since reads_now only_now s was_ready payload mid (omega (arith, small))
+            (made ∙ ap (λ (l : List ℕ). written (s.end + 1) l (seen s.counting)) is_piece)
+
+        gate_since : (counting_end : ℕ) (pending : Pending) → EachSince moment left_since old (moved s new counting_end pending room) (OrMore old)
+        gate_since counting_end pending =
+            record_since new counting_end pending
+            (gate_moments seen may_leave moment left_since reads_now only_now s was_ready payload mid is_staged only new behind_moments gate_moves)
+
+        pub append_at_gate : Follows (Torn s.end 1) (may_leave mid) (may_leave new) → Exit seen may_leave moment left_since old (moved s new s.end (Record end) room) (OrMore old)
+        append_at_gate follows =
+            let images = gate_images seen may_leave moment left_since reads_now only_now s was_ready payload mid is_staged only new follows in
+            record {
+              sound = sound_record seen may_leave moment left_since reads_now only_now s was_ready new room payload end is_end images;
+              now = subst (λ (o : State D). OrMore o (stored seen (moved s new s.end (Record end) room))) is
+                  (is_or_has seen may_leave moment left_since reads_now only_now s was_ready payload new
+                  (staged_is_either seen may_leave moment left_since reads_now only_now s was_ready payload mid is_staged only new (seen new) (images (seen new) (reads_now new))));
+              since = gate_since s.end (Record end);
+            }
+
+        -- it is done
+        module _ (gate_made : seen new ≡ written s.end (1 ∷ []) (seen mid)) (only_new : Only (seen new) (may_leave new)) where
+          has : Has seen may_leave moment left_since reads_now only_now s was_ready payload (seen new)
+          has = gate_opened seen may_leave moment left_since reads_now only_now s was_ready payload mid is_staged only new gate_made
+
+          pub appended : stored seen (moved s new end Nothing room) ≡ with_record payload (stored seen old)
+          appended = now_has seen may_leave moment left_since reads_now only_now s was_ready payload new has ∙ ap (λ (o : State D). with_record payload (stored seen o)) is
+
+          pub append_durable : EachImage may_leave (moved s new end Nothing room) (λ pair. pair ≡ stored seen (moved s new end Nothing room))
+          append_durable = each_has seen may_leave moment left_since reads_now only_now s was_ready payload new has only_new
+
+          pub append_done : Exit seen may_leave moment left_since old (moved s new end Nothing room) (OrMore old)
+          append_done = record {
+            sound = sound_nothing seen may_leave moment left_since reads_now only_now s was_ready new room end (was_ready.list ++ payload ∷ [])
+                (subst (λ (n : ℕ). IsWhole s.generation s.start n (was_ready.list ++ payload ∷ []) (seen new)) (sym is_end) has) only_new;
+            now = inr appended;
+            since = gate_since end Nothing;
+          }

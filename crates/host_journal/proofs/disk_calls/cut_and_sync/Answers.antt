@@ -1,0 +1,33 @@
+use Rattle.std.proofs.Common.{◌≤◌, ℕ, List, [], ◌∷◌, take, length, arith}
+use Rattle.ps_ports.specs.Images.{nothing_is_part}
+use Rattle.ps_ports.specs.declared.disk.DiskCall.TheVariants.{Cut, Sync}
+use Rattle.host_journal.proofs.CallLemmas.{after_part, after_sync, on_err, tells_on}
+use Rattle.host_journal.proofs.disk_calls.cut_and_sync.Goals as goal
+
+pub returns-in_err-cut-clause-moments : goal.returns-in_err-cut-clause-moments
+returns-in_err-cut-clause-moments g c p =
+    after_part g.D.Disk.seen g.D.Disk.may_leave g.D.Disk.moment g.D.Disk.left_since c.args.disk.now c.cut.new.self _ (nothing_is_part (Cut c.args.len))
+    (λ b left. g.met.D.Disk.only_now c.args.disk.now b p left) (c.cut.ensures.crash p) (c.cut.ensures.time p)
+
+pub returns-in_err-cut-clause-told_first : goal.returns-in_err-cut-clause-told_first
+returns-in_err-cut-clause-told_first g c = on_err _ c.from_residual.result (1, omega arith, omega arith, c.cut.ensures.told)
+
+pub returns-in_err-sync-clause-moments : goal.returns-in_err-sync-clause-moments
+returns-in_err-sync-clause-moments g c p =
+    let first = after_part g.D.Disk.seen g.D.Disk.may_leave g.D.Disk.moment g.D.Disk.left_since c.args.disk.now c.cut.new.self _ (nothing_is_part (Cut c.args.len))
+    (λ b left. g.met.D.Disk.only_now c.args.disk.now b p left) (c.cut.ensures.crash p) (c.cut.ensures.time p) in
+    after_sync g.D.Disk.seen g.D.Disk.may_leave g.D.Disk.moment g.D.Disk.left_since c.args.disk.now c.cut.new.self c.sync.new.self _ first
+    (λ b now. c.cut.ensures.crash p b now) (c.sync.ensures.crash p) (c.sync.ensures.time p)
+
+pub returns-clause-moments : goal.returns-clause-moments
+returns-clause-moments g c p =
+    let first = after_part g.D.Disk.seen g.D.Disk.may_leave g.D.Disk.moment g.D.Disk.left_since c.args.disk.now c.cut.new.self _ (nothing_is_part (Cut c.args.len))
+    (λ b left. g.met.D.Disk.only_now c.args.disk.now b p left) (c.cut.ensures.crash p) (c.cut.ensures.time p) in
+    after_sync g.D.Disk.seen g.D.Disk.may_leave g.D.Disk.moment g.D.Disk.left_since c.args.disk.now c.cut.new.self c.sync.new.self _ first
+    (λ b now. c.cut.ensures.crash p b now) (c.sync.ensures.crash p) (c.sync.ensures.time p)
+
+pub returns-in_err-sync-clause-told_first : goal.returns-in_err-sync-clause-told_first
+returns-in_err-sync-clause-told_first g c = on_err _ c.from_residual-in_err-sync.result (2, omega arith, omega arith, tells_on _ _ _ (Cut c.args.len ∷ []) (Sync ∷ []) c.cut.ensures.told c.sync.ensures.told)
+
+pub returns-clause-told : goal.returns-clause-told
+returns-clause-told g c = tells_on _ _ _ (Cut c.args.len ∷ []) (Sync ∷ []) c.cut.ensures.told c.sync.ensures.told

@@ -1,0 +1,11 @@
+-- The calls that disks tell.
+use Rattle.std.specs.Prelude.{◌≡◌, ◌≤◌, ℕ, List, ◌++◌, length, take, Option, IfSome, Some}
+use Rattle.ps_ports.specs.declared.disk.DiskCall.{DiskCall}
+
+-- where the disk tells its calls it told those before, and then these
+abbrev pub TellsAll : Option (List DiskCall) → Option (List DiskCall) → List DiskCall → Type 0
+TellsAll old now made = IfSome now (λ calls. (before : List DiskCall) × (old ≡ Some before) × (calls ≡ before ++ made))
+
+-- the first of these, up to the one that failed
+abbrev pub TellsFirst : Option (List DiskCall) → Option (List DiskCall) → List DiskCall → Type 0
+TellsFirst old now made = (n : ℕ) × (1 ≤ n) × (n ≤ length made) × TellsAll old now (take n made)

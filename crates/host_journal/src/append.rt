@@ -1,0 +1,80 @@
+//! Records: adding one, and cutting off what lies behind the last.
+ghost use Rattle.std.specs.Prelude.{◌≡◌, ◌⊎◌, ◌+◌, ◌≤◌, ◌<◌, ◌^◌, ◌∷◌, ◌++◌, [], IsTrue, length, OnOk, OnErr, vec_capacity};
+ghost use Rattle.std.specs.Int.{w32, to_be_bytes};
+ghost use Rattle.ps_ports.specs.Causes.{Rose};
+ghost use Rattle.ps_ports.specs.declared.disk.DiskCall.TheVariants.{Cut, Sync};
+ghost use Rattle.host_journal.specs.State.{is_ready, stored, with_record, EachImage, EachSince, KeepsPlace, append_calls};
+ghost use Rattle.host_journal.specs.Told.{TellsAll, TellsFirst};
+
+use crate::disk_calls::{cut_and_sync, write_and_sync};
+use crate::fault::DiskFault;
+use crate::journal::Journal;
+use crate::pending::Pending;
+use ps_ports::disk::Disk;
+
+impl<D: Disk> Journal<D> {
+    /// Adds a record. Takes no memory.
+    pub fn append(&mut self, payload: &[u8]) -> Result<(), DiskFault>
+        requires ready { IsTrue (is_ready self.old.pending) }
+        requires room { length payload.now + 13 ≤ self.old.room }
+        requires bound { length payload.now ≤ 8388608 }
+        ensures appended { D.premise → OnOk result (stored D.seen self.new ≡ with_record payload.now (stored D.seen self.old)) }
+        ensures durable { D.premise → OnOk result (EachImage D.may_leave self.new (λ pair. pair ≡ stored D.seen self.new)) }
+        ensures any_moment { D.premise → EachSince D.moment D.left_since self.old self.new (λ pair. (pair ≡ stored D.seen self.old) ⊎ (pair ≡ with_record payload.now (stored D.seen self.old))) }
+        ensures whole_or_not { D.premise → (stored D.seen self.new ≡ stored D.seen self.old) ⊎ (stored D.seen self.new ≡ with_record payload.now (stored D.seen self.old)) }
+        ensures other { self.new.other ≡ self.old.other }
+        ensures kept { KeepsPlace self.old self.new }
+        ensures end { OnOk result ((self.new.end ≡ self.old.end + 5 + length payload.now) × IsTrue (is_ready self.new.pending)) }
+        ensures end_err { OnErr result (self.new.end ≡ self.old.end) }
+        ensures told { OnOk result (TellsAll (D.told self.old.counting) (D.told self.new.counting) (append_calls self.old.end payload.now)) }
+        ensures told_first { OnErr result (TellsFirst (D.told self.old.counting) (D.told self.new.counting) (append_calls self.old.end payload.now)) }
+        ensures later { D.disk_faults self.old.counting ≤ D.disk_faults self.new.counting }
+        ensures cause { OnErr result (Rose (D.disk_faults self.old.counting) (D.disk_faults self.new.counting)) }
+    {
+        put_record(&mut self.buffer, payload);
+        self.pending = Pending::Unopened;
+        write_and_sync(&mut self.counting, self.end + 1, &self.buffer)?;
+        let end = self.end + self.buffer.len() as u64;
+        self.pending = Pending::Record(end);
+        write_and_sync(&mut self.counting, self.end, &[1])?;
+        self.pending = Pending::Nothing;
+        self.end = end;
+        Ok(())
+    }
+
+    /// Cuts off what lies behind the first gate that isn't open. Takes no memory.
+    pub fn cut_tail(&mut self) -> Result<(), DiskFault>
+        requires ready { IsTrue (is_ready self.old.pending) }
+        ensures same { D.premise → stored D.seen self.new ≡ stored D.seen self.old }
+        ensures durable { D.premise → OnOk result (EachImage D.may_leave self.new (λ pair. pair ≡ stored D.seen self.old)) }
+        ensures any_moment { D.premise → EachSince D.moment D.left_since self.old self.new (λ pair. pair ≡ stored D.seen self.old) }
+        ensures cut { D.premise → OnOk result (length (D.seen self.new.counting) ≡ self.new.end + 1) }
+        ensures other { self.new.other ≡ self.old.other }
+        ensures kept { KeepsPlace self.old self.new }
+        ensures end { self.new.end ≡ self.old.end }
+        ensures ready { OnOk result (IsTrue (is_ready self.new.pending)) }
+        ensures told { OnOk result (TellsAll (D.told self.old.counting) (D.told self.new.counting) (Cut (self.old.end + 1) ∷ Sync ∷ [])) }
+        ensures told_first { OnErr result (TellsFirst (D.told self.old.counting) (D.told self.new.counting) (Cut (self.old.end + 1) ∷ Sync ∷ [])) }
+        ensures later { D.disk_faults self.old.counting ≤ D.disk_faults self.new.counting }
+        ensures cause { OnErr result (Rose (D.disk_faults self.old.counting) (D.disk_faults self.new.counting)) }
+    {
+        self.pending = Pending::Unopened;
+        cut_and_sync(&mut self.counting, self.end + 1)?;
+        self.pending = Pending::Nothing;
+        Ok(())
+    }
+}
+
+// Takes no memory.
+fn put_record(buffer: &mut Vec<u8>, payload: &[u8])
+    requires room { length payload.now + 13 ≤ vec_capacity buffer.old }
+    requires bound { length payload.now < 2 ^ 32 }
+    ensures items { buffer.new.items ≡ to_be_bytes w32 (length payload.now) ++ (payload.now ++ 0 ∷ []) }
+    ensures capacity { vec_capacity buffer.old ≤ vec_capacity buffer.new }
+{
+    let size = payload.len() as u32;
+    buffer.clear();
+    let _size = buffer.extend_from_slice(&size.to_be_bytes());
+    let _payload = buffer.extend_from_slice(payload);
+    let _gate = buffer.extend_from_slice(&[0]);
+}

@@ -1,0 +1,138 @@
+//! Runs of calls on one disk, or on both.
+ghost use Rattle.std.specs.Prelude.{◌≡◌, ◌+◌, ◌≤◌, ◌<◌, ◌^◌, ◌∷◌, [], ◌⊎◌, ◌==◌, slice_index_or, length, take, IfOk, OnOk, OnErr, IsErrOf};
+ghost use Rattle.ps_ports.specs.Disk.{written, Torn, Shortened, Follows, Only, LeavesOnly};
+ghost use Rattle.ps_ports.specs.Causes.{Rose};
+ghost use Rattle.ps_ports.specs.declared.disk.DiskCall.TheVariants.{Write, Cut, Sync};
+ghost use Rattle.host_journal.specs.Told.{TellsAll, TellsFirst};
+ghost use Rattle.host_journal.specs.Calls.{PartAfter, KeepsHead, IsRead};
+
+use crate::fault::{DiskFault, OpenReason};
+use ps_ports::disk::Disk;
+use std::alloc::Global;
+
+/// Writes a piece, and makes sure of it.
+pub fn write_and_sync<D: Disk>(disk: &mut D, at: u64, piece: &[u8]) -> Result<(), DiskFault>
+    ensures written { D.premise → OnOk result (D.seen disk.new ≡ written at piece.now (D.seen disk.old)) }
+    ensures fixed { D.premise → OnOk result (Only (D.seen disk.new) (D.may_leave disk.new)) }
+    ensures part { D.premise → Torn at (length piece.now) (D.seen disk.old) (D.seen disk.new) }
+    ensures images { D.premise → Follows (Torn at (length piece.now)) (D.may_leave disk.old) (D.may_leave disk.new) }
+    ensures moments { D.premise → LeavesOnly D.moment D.left_since disk.old disk.new (PartAfter (Torn at (length piece.now)) (D.may_leave disk.old)) }
+    ensures reach { OnOk result (at + length piece.now < 2 ^ 64) }
+    ensures told { OnOk result (TellsAll (D.told disk.old) (D.told disk.new) (Write at piece.now ∷ Sync ∷ [])) }
+    ensures told_first { OnErr result (TellsFirst (D.told disk.old) (D.told disk.new) (Write at piece.now ∷ Sync ∷ [])) }
+    ensures later { D.disk_faults disk.old ≤ D.disk_faults disk.new }
+    ensures calm { OnOk result (D.disk_faults disk.new ≡ D.disk_faults disk.old) }
+    ensures cause { OnErr result (Rose (D.disk_faults disk.old) (D.disk_faults disk.new)) }
+{
+    disk.write_at(at, piece)?;
+    disk.sync()?;
+    Ok(())
+}
+
+/// Cuts a disk, and makes sure of that.
+pub fn cut_and_sync<D: Disk>(disk: &mut D, len: u64) -> Result<(), DiskFault>
+    ensures cut { D.premise → OnOk result (D.seen disk.new ≡ take len (D.seen disk.old)) }
+    ensures fixed { D.premise → OnOk result (Only (D.seen disk.new) (D.may_leave disk.new)) }
+    ensures part { D.premise → Shortened len (D.seen disk.old) (D.seen disk.new) }
+    ensures images { D.premise → Follows (Shortened len) (D.may_leave disk.old) (D.may_leave disk.new) }
+    ensures moments { D.premise → LeavesOnly D.moment D.left_since disk.old disk.new (PartAfter (Shortened len) (D.may_leave disk.old)) }
+    ensures told { OnOk result (TellsAll (D.told disk.old) (D.told disk.new) (Cut len ∷ Sync ∷ [])) }
+    ensures told_first { OnErr result (TellsFirst (D.told disk.old) (D.told disk.new) (Cut len ∷ Sync ∷ [])) }
+    ensures later { D.disk_faults disk.old ≤ D.disk_faults disk.new }
+    ensures calm { OnOk result (D.disk_faults disk.new ≡ D.disk_faults disk.old) }
+    ensures cause { OnErr result (Rose (D.disk_faults disk.old) (D.disk_faults disk.new)) }
+{
+    disk.cut(len)?;
+    disk.sync()?;
+    Ok(())
+}
+
+/// Cuts a disk to its head, writes a piece behind that, and makes sure of it.
+pub fn replace_rest<D: Disk>(disk: &mut D, piece: &[u8]) -> Result<(), DiskFault>
+    ensures written { D.premise → OnOk result (D.seen disk.new ≡ written 9 piece.now (take 9 (D.seen disk.old))) }
+    ensures fixed { D.premise → OnOk result (Only (D.seen disk.new) (D.may_leave disk.new)) }
+    ensures images { D.premise → Follows KeepsHead (D.may_leave disk.old) (D.may_leave disk.new) }
+    ensures moments { D.premise → LeavesOnly D.moment D.left_since disk.old disk.new (PartAfter KeepsHead (D.may_leave disk.old)) }
+    ensures reach { OnOk result (9 + length piece.now < 2 ^ 64) }
+    ensures told { OnOk result (TellsAll (D.told disk.old) (D.told disk.new) (Cut 9 ∷ Write 9 piece.now ∷ Sync ∷ [])) }
+    ensures told_first { OnErr result (TellsFirst (D.told disk.old) (D.told disk.new) (Cut 9 ∷ Write 9 piece.now ∷ Sync ∷ [])) }
+    ensures later { D.disk_faults disk.old ≤ D.disk_faults disk.new }
+    ensures calm { OnOk result (D.disk_faults disk.new ≡ D.disk_faults disk.old) }
+    ensures cause { OnErr result (Rose (D.disk_faults disk.old) (D.disk_faults disk.new)) }
+{
+    disk.cut(9)?;
+    disk.write_at(9, piece)?;
+    disk.sync()?;
+    Ok(())
+}
+
+/// Makes sure of what is on a disk, and gives all its bytes.
+pub fn read_whole<D: Disk>(alloc: Global, disk: &mut D) -> Result<Vec<u8>, OpenReason>
+    ensures bytes { D.premise → IfOk result (λ bytes. bytes.items ≡ D.seen disk.old) }
+    ensures fixed { D.premise → OnOk result (Only (D.seen disk.old) (D.may_leave disk.new)) }
+    ensures read { D.premise → IsRead D.seen D.may_leave D.moment D.left_since disk.old disk.new }
+    ensures told { OnOk result (TellsAll (D.told disk.old) (D.told disk.new) (Sync ∷ [])) }
+    ensures later { D.disk_faults disk.old ≤ D.disk_faults disk.new }
+    ensures calm { OnOk result (D.disk_faults disk.new ≡ D.disk_faults disk.old) }
+    ensures cause { IsErrOf result OpenReason.DiskFault → Rose (D.disk_faults disk.old) (D.disk_faults disk.new) }
+    ensures journal { (place : _) → IsErrOf result (OpenReason.NotAJournal place) → ⊥ }
+{
+    if disk.sync().is_err() {
+        return Err(OpenReason::DiskFault);
+    }
+    read_rest(alloc, disk)
+}
+
+// All the bytes.
+fn read_rest<D: Disk>(alloc: Global, disk: &mut D) -> Result<Vec<u8>, OpenReason>
+    ensures bytes { D.premise → IfOk result (λ bytes. bytes.items ≡ D.seen disk.old) }
+    ensures read { D.premise → IsRead D.seen D.may_leave D.moment D.left_since disk.old disk.new }
+    ensures told { D.told disk.new ≡ D.told disk.old }
+    ensures later { D.disk_faults disk.old ≤ D.disk_faults disk.new }
+    ensures calm { OnOk result (D.disk_faults disk.new ≡ D.disk_faults disk.old) }
+    ensures cause { IsErrOf result OpenReason.DiskFault → Rose (D.disk_faults disk.old) (D.disk_faults disk.new) }
+    ensures journal { (place : _) → IsErrOf result (OpenReason.NotAJournal place) → ⊥ }
+{
+    let mut all = Vec::new(alloc);
+    let mut buf = [0; 4096];
+    loop {
+        let Ok(count) = disk.read(all.len() as u64, &mut buf) else {
+            return Err(OpenReason::DiskFault);
+        };
+        if count == 0 {
+            return Ok(all);
+        }
+        if all.extend_from_slice(&buf[..count]).is_err() {
+            return Err(OpenReason::Memory);
+        }
+    }
+}
+
+/// Makes sure of two disks, one after the other.
+pub fn sync_both<D: Disk>(one: &mut D, other: &mut D) -> Result<(), DiskFault>
+    ensures fixed { D.premise → OnOk result (Only (D.seen one.new) (D.may_leave one.new) × Only (D.seen other.new) (D.may_leave other.new)) }
+    ensures read_one { D.premise → IsRead D.seen D.may_leave D.moment D.left_since one.old one.new }
+    ensures read_other { D.premise → IsRead D.seen D.may_leave D.moment D.left_since other.old other.new }
+    ensures told_one { OnOk result (TellsAll (D.told one.old) (D.told one.new) (Sync ∷ [])) }
+    ensures told_other { OnOk result (TellsAll (D.told other.old) (D.told other.new) (Sync ∷ [])) }
+    ensures later_one { D.disk_faults one.old ≤ D.disk_faults one.new }
+    ensures later_other { D.disk_faults other.old ≤ D.disk_faults other.new }
+    ensures cause { OnErr result (Rose (D.disk_faults one.old) (D.disk_faults one.new) ⊎ Rose (D.disk_faults other.old) (D.disk_faults other.new)) }
+{
+    one.sync()?;
+    other.sync()?;
+    Ok(())
+}
+
+/// Whether the byte at a place is an open gate.
+pub fn is_open_at<D: Disk>(disk: &mut D, at: u64) -> Result<bool, DiskFault>
+    ensures gate { D.premise → IfOk result (λ opens. opens ≡ (slice_index_or (D.seen disk.old) at 0 == 1)) }
+    ensures read { D.premise → IsRead D.seen D.may_leave D.moment D.left_since disk.old disk.new }
+    ensures told { D.told disk.new ≡ D.told disk.old }
+    ensures later { D.disk_faults disk.old ≤ D.disk_faults disk.new }
+    ensures cause { OnErr result (Rose (D.disk_faults disk.old) (D.disk_faults disk.new)) }
+{
+    let mut gate = [0; 1];
+    let count = disk.read(at, &mut gate)?;
+    Ok(count == 1 && gate[0] == 1)
+}

@@ -1,0 +1,229 @@
+//! A journal on two disks.
+ghost use Rattle.std.specs.Prelude.{◌≡◌, ◌⊎◌, ◌+◌, ◌-◌, ◌≤◌, ◌<◌, ◌^◌, not, if◌then◌else◌, IsTrue, Ok, Err, length, IfOk, IfErr, OnOk, IsErrOf};
+ghost use Rattle.ps_ports.specs.Causes.{Rose};
+ghost use Rattle.ps_ports.specs.Disk.{Only};
+ghost use Rattle.ps_ports.specs.MemoryDisk.{armed, armed_number};
+ghost use Rattle.host_journal.specs.Calls.{IsRead};
+ghost use Rattle.host_journal.specs.Format.{stands};
+ghost use Rattle.host_journal.specs.Pair.{pair_of};
+ghost use Rattle.host_journal.specs.State.{is_ready, stored, opened_as, EachImage, IsAt, SameButRoom, first_disk, second_disk};
+
+use crate::disk_calls::read_whole;
+use crate::fault::{OpenFault, OpenReason};
+use crate::pending::Pending;
+use crate::reading::{Counted, is_standing, read_pair};
+use ps_ports::disk::Disk;
+use ps_ports::memory_disk::MemoryDisk;
+use ps_time::items::Items;
+use ps_time::memory::Memory;
+use std::alloc::Global;
+use std::marker::Model;
+
+/// Two disks, of which one counts: the one that stands, and of two that stand the one of the greater
+/// generation.
+#[derive(Drop)]
+pub struct Journal<D: Disk> {
+    pub(crate) counting: D,
+    pub(crate) other: D,
+    pub(crate) second: bool,
+    pub(crate) generation: u64,
+    pub(crate) start: u64,
+    pub(crate) end: u64,
+    pub(crate) shut: bool,
+    pub(crate) pending: Pending,
+    pub(crate) buffer: Vec<u8>,
+}
+
+impl<D: Disk> Model for Journal<D> {
+    ghost use Rattle.std.specs.Prelude.{◌+◌, ◌≤◌, ◌<◌, ◌^◌, vec_capacity};
+    ghost use Rattle.host_journal.specs.State.{State, IsSound, AreWithin};
+
+    ghost Value = { State D };
+
+    ghost view = { λ j. record { counting = j.counting; other = j.other; second = j.second; generation = j.generation; start = j.start; end = j.end; shut = j.shut; pending = j.pending; room = vec_capacity j.buffer } };
+
+    ghost invariant = { λ j. (j.end + 1 < 2 ^ 64) × (j.start ≤ j.end)
+        × (D.premise → IsSound D.seen D.may_leave (record { counting = j.counting; other = j.other; second = j.second; generation = j.generation; start = j.start; end = j.end; shut = j.shut; pending = j.pending; room = vec_capacity j.buffer }))
+        × AreWithin j.start j.generation j.pending };
+}
+
+impl<D: Disk> Journal<D> {
+    /// Opens a journal, and gives its snapshot and then its records. Makes sure of each disk before it
+    /// reads it, and writes nothing. It leaves no room.
+    pub fn open(
+        alloc: Global,
+        first: D,
+        second: D,
+    ) -> Result<(Journal<D>, Items<Items<u8>>), OpenFault<D>>
+        ensures list { D.premise → IfOk result (λ r. pair_of (D.seen first) (D.seen second) ≡ opened_as r.0 r.1) }
+        ensures stored { D.premise → IfOk result (λ r. stored D.seen r.0 ≡ pair_of (D.seen first) (D.seen second)) }
+        ensures durable { D.premise → IfOk result (λ r. EachImage D.may_leave r.0 (λ pair. pair ≡ pair_of (D.seen first) (D.seen second))) }
+        ensures ready { IfOk result (λ r. IsTrue (is_ready r.0.pending)) }
+
+        // Until it is done, and where it isn't, each image is one that a crash could have left before.
+        ensures read_first { D.premise → IfOk result (λ r. IsRead D.seen D.may_leave D.moment D.left_since first (first_disk r.0)) }
+        ensures read_second { D.premise → IfOk result (λ r. IsRead D.seen D.may_leave D.moment D.left_since second (second_disk r.0)) }
+        ensures refused_first { D.premise → IfErr result (λ f. IsRead D.seen D.may_leave D.moment D.left_since first f.first) }
+        ensures refused_second { D.premise → IfErr result (λ f. IsRead D.seen D.may_leave D.moment D.left_since second f.second) }
+
+        // Exactly where the disks stand for nothing.
+        ensures place { D.premise → IfErr result (λ f. (place : _) → f.reason ≡ OpenReason.NotAJournal place → pair_of (D.seen first) (D.seen second) ≡ Err place) }
+        ensures fault { IfErr result (λ f. f.reason ≡ OpenReason.DiskFault → Rose (D.disk_faults first) (D.disk_faults f.first) ⊎ Rose (D.disk_faults second) (D.disk_faults f.second)) }
+        ensures later { IfErr result (λ f. (D.disk_faults first ≤ D.disk_faults f.first) × (D.disk_faults second ≤ D.disk_faults f.second)) }
+    {
+        let mut first = first;
+        let mut second = second;
+        match read_disks(alloc, &mut first, &mut second) {
+            Ok((counted, shut)) => {
+                let Counted {
+                    second: is_second,
+                    generation,
+                    start,
+                    end,
+                    list,
+                } = counted;
+                let (counting, other) = in_order(is_second, first, second);
+                let journal = Journal {
+                    counting,
+                    other,
+                    second: is_second,
+                    generation,
+                    start,
+                    end,
+                    shut,
+                    pending: Pending::Nothing,
+                    buffer: Vec::new(alloc),
+                };
+                Ok((journal, list))
+            }
+            Err(reason) => Err(OpenFault {
+                first,
+                second,
+                reason,
+            }),
+        }
+    }
+
+    /// Both disks, in their order.
+    pub fn into_disks(self) -> (D, D)
+        ensures first { result.0 ≡ first_disk self }
+        ensures second { result.1 ≡ second_disk self }
+    {
+        in_order(self.second, self.counting, self.other)
+    }
+
+    /// What is known of a journal whose last call was `Ok`. Does nothing.
+    pub fn known(&self)
+        ensures place { D.premise → IsTrue (is_ready self.now.pending) → IsAt self.now (stored D.seen self.now) }
+        ensures durable { D.premise → IsTrue (is_ready self.now.pending) → EachImage D.may_leave self.now (λ pair. pair ≡ stored D.seen self.now) }
+        ensures order { self.now.start ≤ self.now.end }
+    {
+        let _end = self.end;
+    }
+
+    /// The bytes of records behind the snapshot: for each a length of four, the payload and a gate.
+    pub fn record_bytes(&self) -> u64
+        ensures { result ≡ self.now.end - self.now.start }
+    {
+        self.end - self.start
+    }
+
+    /// The generation of the disk that counts.
+    pub fn generation(&self) -> u64
+        ensures { result ≡ self.now.generation }
+    {
+        self.generation
+    }
+
+    /// Whether no call failed, or a `reload` was `Ok` since.
+    pub fn is_ready(&self) -> bool
+        ensures { result ≡ is_ready self.now.pending }
+    {
+        matches!(self.pending, Pending::Nothing)
+    }
+
+    /// Makes room for a payload or an image of so many bytes.
+    pub fn reserve(&mut self, bytes: usize) -> Result<(), Memory>
+        ensures room { OnOk result (bytes + 13 ≤ self.new.room) }
+        ensures no_less { self.old.room ≤ self.new.room }
+        ensures same { SameButRoom self.old self.new }
+    {
+        self.buffer.clear();
+        let Some(wanted) = bytes.checked_add(13) else {
+            return Err(Memory);
+        };
+        self.buffer.reserve(wanted)?;
+        Ok(())
+    }
+}
+
+fn in_order<D>(second: bool, first: D, other: D) -> (D, D)
+    ensures one { result.0 ≡ (if second then other else first) }
+    ensures two { result.1 ≡ (if second then first else other) }
+{
+    if second {
+        (other, first)
+    } else {
+        (first, other)
+    }
+}
+
+// What two disks stand for, and whether the head gate of the one that doesn't count is closed.
+fn read_disks<D: Disk>(
+    alloc: Global,
+    first: &mut D,
+    second: &mut D,
+) -> Result<(Counted, bool), OpenReason>
+    ensures pair { D.premise → IfOk result (λ r. pair_of (D.seen first.old) (D.seen second.old) ≡ Ok r.0) }
+    ensures shut { D.premise → IfOk result (λ r. r.1 ≡ not (stands (if r.0.second then D.seen first.old else D.seen second.old))) }
+    ensures bound { IfOk result (λ r. (r.0.end + 1 < 2 ^ 64) × (r.0.start ≤ r.0.end)) }
+    ensures fixed { D.premise → OnOk result (Only (D.seen first.new) (D.may_leave first.new) × Only (D.seen second.new) (D.may_leave second.new)) }
+    ensures read_first { D.premise → IsRead D.seen D.may_leave D.moment D.left_since first.old first.new }
+    ensures read_second { D.premise → IsRead D.seen D.may_leave D.moment D.left_since second.old second.new }
+    ensures place { D.premise → (place : _) → IsErrOf result (OpenReason.NotAJournal place) → pair_of (D.seen first.old) (D.seen second.old) ≡ Err place }
+    ensures fault { IsErrOf result OpenReason.DiskFault → Rose (D.disk_faults first.old) (D.disk_faults first.new) ⊎ Rose (D.disk_faults second.old) (D.disk_faults second.new) }
+    ensures later_first { D.disk_faults first.old ≤ D.disk_faults first.new }
+    ensures later_second { D.disk_faults second.old ≤ D.disk_faults second.new }
+{
+    let one = read_whole(alloc, first)?;
+    let two = read_whole(alloc, second)?;
+    let counted = match read_pair(alloc, &one, &two)? {
+        Ok(counted) => counted,
+        Err(place) => return Err(OpenReason::NotAJournal(place)),
+    };
+    let stands = if counted.second {
+        is_standing(&one)
+    } else {
+        is_standing(&two)
+    };
+    Ok((counted, !stands))
+}
+
+impl Journal<MemoryDisk> {
+    /// Lets one of the writes, cuts and syncs of each disk fail, numbered from 1 from now on, or none.
+    pub fn fail_at(&mut self, call: Option<u64>)
+        ensures counting { self.new.counting ≡ armed self.old.counting (armed_number call) }
+        ensures other { self.new.other ≡ armed self.old.other (armed_number call) }
+        ensures second { self.new.second ≡ self.old.second }
+        ensures end { self.new.end ≡ self.old.end }
+        ensures pending { self.new.pending ≡ self.old.pending }
+        ensures room { self.new.room ≡ self.old.room }
+    {
+        self.counting.fail_at(call);
+        self.other.fail_at(call);
+    }
+
+    /// How many writes, cuts and syncs were made on each disk, the first one first.
+    pub fn calls(&self) -> (u64, u64)
+        ensures first { result.0 ≡ length (first_disk self.now).history.log }
+        ensures second { result.1 ≡ length (second_disk self.now).history.log }
+    {
+        let counting = self.counting.calls();
+        let other = self.other.calls();
+        if self.second {
+            (other, counting)
+        } else {
+            (counting, other)
+        }
+    }
+}

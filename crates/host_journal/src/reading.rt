@@ -1,0 +1,254 @@
+//! What the bytes of two disks stand for.
+ghost use Rattle.std.specs.Prelude.{◌≡◌, ◌+◌, ◌≤◌, ◌<◌, ◌^◌, true, false, length, drop, IfOk, IfSome, IfNone, Some, None, Ok, [], ◌∷◌};
+ghost use Rattle.host_journal.specs.Format.{agreeing, stands, sized, body_of, records_of};
+ghost use Rattle.host_journal.specs.Pair.{number_of, counted, need_body, headless, greater, pair_of};
+ghost use Rattle.host_journal.specs.Reading.{Walked, IsWithin};
+
+use ps_time::items::Items;
+use ps_time::memory::Memory;
+use std::alloc::Global;
+
+/// The magic with which a disk begins.
+const MAGIC: [u8; 8] = *b"PSCHJRN1";
+
+/// The magic, and an open gate.
+const OPEN_HEAD: [u8; 9] = *b"PSCHJRN1\x01";
+
+/// What two disks stand for.
+#[derive(Drop)]
+pub struct Counted {
+    /// The second disk counts, not the first.
+    pub second: bool,
+    pub generation: u64,
+    /// The place of the first gate behind the snapshot.
+    pub start: u64,
+    /// The place of the first gate that isn't open.
+    pub end: u64,
+    /// The snapshot, and then the records.
+    pub list: Items<Items<u8>>,
+}
+
+/// Where two disks are no journal.
+#[derive(Clone, Copy, Debug, PartialEq, Eq)]
+pub struct Place {
+    /// 1 or 2.
+    pub disk: u8,
+    pub place: u64,
+}
+
+// What lies behind a head.
+#[derive(Clone, Copy)]
+struct Body<'a> {
+    generation: u64,
+    snapshot: &'a [u8],
+    gates: &'a [u8],
+}
+
+type Read<T> = Result<Result<T, Place>, Memory>;
+
+// How many bytes at the front are as wanted.
+fn agreeing_with(wanted: &[u8], bytes: &[u8]) -> usize
+    ensures count { result ≡ agreeing wanted.now bytes.now }
+    ensures bound { result ≤ length wanted.now }
+{
+    let [want, wanted @ ..] = wanted else {
+        return 0;
+    };
+    let [byte, bytes @ ..] = bytes else {
+        return 0;
+    };
+    if *byte == *want {
+        1 + agreeing_with(wanted, bytes)
+    } else {
+        0
+    }
+}
+
+/// The magic and an open gate.
+pub fn is_standing(bytes: &[u8]) -> bool
+    ensures { result ≡ stands bytes.now }
+{
+    agreeing_with(&OPEN_HEAD, bytes) == 9
+}
+
+fn read_sized(bytes: &[u8]) -> Option<(&[u8], &[u8])>
+    ensures some { IfSome result (λ r. sized bytes.now ≡ Some (r.0.now, r.1.now)) }
+    ensures size { IfSome result (λ r. length r.0.now + length r.1.now + 4 ≡ length bytes.now) }
+    ensures gate { IfSome result (λ r. 0 < length r.1.now) }
+    ensures none { IfNone result (sized bytes.now ≡ None) }
+{
+    let [a, b, c, d, rest @ ..] = bytes else {
+        return None;
+    };
+    let size = u32::from_be_bytes([*a, *b, *c, *d]) as usize;
+    if rest.len() <= size {
+        return None;
+    }
+    Some((&rest[..size], &rest[size..]))
+}
+
+fn read_body(bytes: &[u8]) -> Option<Body<'_>>
+    ensures some { IfSome result (λ body. body_of bytes.now ≡ Some (record { generation = body.generation; snapshot = body.snapshot.now; gates = body.gates.now })) }
+    ensures size { IfSome result (λ body. length body.snapshot.now + length body.gates.now + 12 ≡ length bytes.now) }
+    ensures gate { IfSome result (λ body. 0 < length body.gates.now) }
+    ensures none { IfNone result (body_of bytes.now ≡ None) }
+{
+    let [a, b, c, d, e, f, g, h, rest @ ..] = bytes else {
+        return None;
+    };
+    let generation = u64::from_be_bytes([*a, *b, *c, *d, *e, *f, *g, *h]);
+    let (snapshot, gates) = read_sized(rest)?;
+    Some(Body {
+        generation,
+        snapshot,
+        gates,
+    })
+}
+
+fn copy_bytes(alloc: Global, bytes: &[u8]) -> Result<Items<u8>, Memory>
+    ensures { IfOk result (λ copy. copy ≡ bytes.now) }
+{
+    Ok(Items::from_vec(bytes.to_vec(alloc)?))
+}
+
+// What lies behind an open gate.
+fn behind_open(gates: &[u8]) -> Option<&[u8]>
+    ensures some { IfSome result (λ rest. gates.now ≡ 1 ∷ rest.now) }
+    ensures none { IfNone result (records_of gates.now ≡ Ok []) }
+{
+    match gates {
+        [1, rest @ ..] => Some(rest),
+        _ => None,
+    }
+}
+
+// Adds the records to the list. Answers how many bytes they take, or the place of an open gate that
+// has no whole record.
+fn read_records(
+    alloc: Global,
+    gates: &[u8],
+    list: &mut Items<Items<u8>>,
+) -> Result<Result<usize, usize>, Memory>
+    requires { 0 < length gates.now }
+    ensures walked { IfOk result (λ r. Walked list.old list.new r (records_of gates.now)) }
+    ensures bound { IfOk result (λ r. IsWithin r (length gates.now)) }
+{
+    let mut rest = gates;
+    while let Some(behind) = behind_open(rest) {
+        let Some((payload, next)) = read_sized(behind) else {
+            return Ok(Err(gates.len() - rest.len()));
+        };
+        list.push(copy_bytes(alloc, payload)?)?;
+        rest = next;
+    }
+    Ok(Ok(gates.len() - rest.len()))
+}
+
+fn disk_number(second: bool) -> u8
+    ensures { result ≡ number_of second }
+{
+    if second { 2 } else { 1 }
+}
+
+fn read_counted(alloc: Global, second: bool, body: Body<'_>) -> Read<Counted>
+    requires size { length body.snapshot.now + length body.gates.now + 21 < 2 ^ 64 }
+    requires gate { 0 < length body.gates.now }
+    ensures counted { IfOk result (λ r. r ≡ counted second (record { generation = body.entry.generation; snapshot = body.entry.snapshot.now; gates = body.entry.gates.now })) }
+    ensures bound { IfOk result (λ r. IfOk r (λ k. (k.end + 1 < 2 ^ 64) × (k.start ≤ k.end))) }
+{
+    let mut list = Items::new(alloc);
+    list.push(copy_bytes(alloc, body.snapshot)?)?;
+    let start = 21 + body.snapshot.len() as u64;
+    match read_records(alloc, body.gates, &mut list)? {
+        Ok(bytes) => Ok(Ok(Counted {
+            second,
+            generation: body.generation,
+            start,
+            end: start + bytes as u64,
+            list,
+        })),
+        Err(at) => Ok(Err(Place {
+            disk: disk_number(second),
+            place: start + at as u64,
+        })),
+    }
+}
+
+// Where a disk that doesn't stand isn't the magic and a gate.
+fn headless_at(second: bool, bytes: &[u8]) -> Option<Place>
+    ensures { result ≡ headless second bytes.now }
+{
+    let agreeing = agreeing_with(&MAGIC, bytes);
+    let disk = disk_number(second);
+    if agreeing == 8 {
+        if bytes.len() >= 9 {
+            None
+        } else {
+            Some(Place { disk, place: 8 })
+        }
+    } else {
+        Some(Place {
+            disk,
+            place: agreeing as u64,
+        })
+    }
+}
+
+// The one disk that stands.
+fn read_one(alloc: Global, second: bool, bytes: &[u8]) -> Read<Counted>
+    requires { 9 ≤ length bytes.now }
+    ensures counted { IfOk result (λ r. r ≡ need_body second (body_of (drop 9 bytes.now)) (λ body. counted second body)) }
+    ensures bound { IfOk result (λ r. IfOk r (λ k. (k.end + 1 < 2 ^ 64) × (k.start ≤ k.end))) }
+{
+    match read_body(&bytes[9..]) {
+        Some(body) => read_counted(alloc, second, body),
+        None => Ok(Err(Place {
+            disk: disk_number(second),
+            place: 9,
+        })),
+    }
+}
+
+// Both stand.
+fn read_both(alloc: Global, first: &[u8], second: &[u8]) -> Read<Counted>
+    requires first { 9 ≤ length first.now }
+    requires second { 9 ≤ length second.now }
+    ensures counted { IfOk result (λ r. r ≡ need_body false (body_of (drop 9 first.now)) (λ one. need_body true (body_of (drop 9 second.now)) (λ two. greater one two))) }
+    ensures bound { IfOk result (λ r. IfOk r (λ k. (k.end + 1 < 2 ^ 64) × (k.start ≤ k.end))) }
+{
+    let Some(one) = read_body(&first[9..]) else {
+        return Ok(Err(Place { disk: 1, place: 9 }));
+    };
+    let Some(two) = read_body(&second[9..]) else {
+        return Ok(Err(Place { disk: 2, place: 9 }));
+    };
+    if two.generation <= one.generation {
+        read_counted(alloc, false, one)
+    } else {
+        read_counted(alloc, true, two)
+    }
+}
+
+/// What the bytes of two disks stand for.
+pub fn read_pair(alloc: Global, first: &[u8], second: &[u8]) -> Read<Counted>
+    ensures pair { IfOk result (λ r. r ≡ pair_of first.now second.now) }
+    ensures bound { IfOk result (λ r. IfOk r (λ k. (k.end + 1 < 2 ^ 64) × (k.start ≤ k.end))) }
+{
+    if is_standing(first) {
+        if is_standing(second) {
+            return read_both(alloc, first, second);
+        }
+        if let Some(place) = headless_at(true, second) {
+            return Ok(Err(place));
+        }
+        return read_one(alloc, false, first);
+    }
+    if !is_standing(second) {
+        let place = agreeing_with(&OPEN_HEAD, first) as u64;
+        return Ok(Err(Place { disk: 1, place }));
+    }
+    if let Some(place) = headless_at(false, first) {
+        return Ok(Err(place));
+    }
+    read_one(alloc, true, second)
+}
