@@ -103,7 +103,15 @@ module _ {D : Type 0} (seen : D → List ℕ) (may_leave : D → List ℕ → Ty
 
       -- it comes to the gate
       module _ (small : length payload ≤ 8388608) (made : seen mid ≡ written (s.end + 1) piece (seen s.counting)) (only : Only (seen mid) (may_leave mid))
-          (gate_moves : LeavesOnly moment left_since mid new (PartAfter (Torn s.end 1) (may_leave mid))) (end : ℕ) (is_end : end ≡ s.end + 5 + length payload) where
+          (gate_moves : LeavesOnly moment left_since mid new (PartAfter (Torn s.end 1) (may_leave mid))) (count : ℕ) (is_count : count ≡ length piece) where
+        abbrev end : ℕ
+        end = s.end + count
+
+        is_end : end ≡ s.end + 5 + length payload
+        is_end =
+            let four : length (to_be_bytes w32 (length payload)) ≡ 4 = refl in
+            omega (arith, is_count, ap length is_piece, length-append (to_be_bytes w32 (length payload)) (payload ++ 0 ∷ []), length-append payload (0 ∷ []), four)
+
         is_staged : Staged seen may_leave moment left_since reads_now only_now s was_ready payload mid (seen mid)
         is_staged =
             staged seen may_leave moment left_since reads_now only_now s was_ready payload mid (omega (arith, small))

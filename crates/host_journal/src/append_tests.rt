@@ -160,7 +160,7 @@ fn fails_at(alloc: Global, call: u64, stands: bool) -> Result<bool, Fail> {
         return Ok(false);
     }
     let (first, second) = journal.into_disks();
-    if first.calls() != 1 + call || first.faults() != 1 || second.faults() != 0 {
+    if first.calls().checked_sub(1) != Some(call) || first.faults() != 1 || second.faults() != 0 {
         return Ok(false);
     }
     has_record(alloc, (first, unarmed(second)), stands)

@@ -1,5 +1,4 @@
-use Rattle.std.proofs.Common.{◌≡◌, ◌+◌, ◌∙◌, ap, arith, length, [], ◌∷◌, ◌++◌, length-append}
-use Rattle.std.specs.Int.{w32, to_be_bytes}
+use Rattle.std.proofs.Common.{◌∙◌, ap, arith, length}
 use Rattle.host_journal.proofs.CallLemmas.{on_err}
 use Rattle.host_journal.proofs.RecordLemmas.{append_unopened, append_at_gate, append_done, appended, append_durable}
 use Rattle.host_journal.proofs.ToldLemmas.{append_told_behind, append_told_gate}
@@ -29,17 +28,17 @@ pub invariant_of-self-in_err-write_and_sync-2 : goal.invariant_of-self-in_err-wr
 invariant_of-self-in_err-write_and_sync-2 g c = (
   c.self.invariant.0,
   c.self.invariant.1,
-  λ p. (append_at_gate g.D.Disk.seen g.D.Disk.may_leave g.D.Disk.moment g.D.Disk.left_since (λ d. g.met.D.Disk.reads_now d p) (λ d b left. g.met.D.Disk.only_now d b p left) _ _ c.self.view_is c.requires.ready (c.self.invariant.2 p) c.write_and_sync-2.new.disk _ c.args.payload.now c.deref.result.now (c.deref.ensures.value ∙ c.put_record.ensures.items) c.write_and_sync.new.disk (c.write_and_sync.ensures.moments p) c.requires.bound (c.in_ok-write_and_sync.ensures.written p) (c.in_ok-write_and_sync.ensures.fixed p) (c.write_and_sync-2.ensures.moments p) (c.self.inside.end + c.len.result) (omega (arith, c.len.ensures, ap length c.put_record.ensures.items, length-append (to_be_bytes w32 (length c.args.payload.now)) (c.args.payload.now ++ 0 ∷ []), length-append c.args.payload.now (0 ∷ []))) (c.write_and_sync-2.ensures.images p)).sound,
+  λ p. (append_at_gate g.D.Disk.seen g.D.Disk.may_leave g.D.Disk.moment g.D.Disk.left_since (λ d. g.met.D.Disk.reads_now d p) (λ d b left. g.met.D.Disk.only_now d b p left) _ _ c.self.view_is c.requires.ready (c.self.invariant.2 p) c.write_and_sync-2.new.disk _ c.args.payload.now c.deref.result.now (c.deref.ensures.value ∙ c.put_record.ensures.items) c.write_and_sync.new.disk (c.write_and_sync.ensures.moments p) c.requires.bound (c.in_ok-write_and_sync.ensures.written p) (c.in_ok-write_and_sync.ensures.fixed p) (c.write_and_sync-2.ensures.moments p) c.len.result (omega (arith, c.len.ensures, ap length c.deref.ensures.value)) (c.write_and_sync-2.ensures.images p)).sound,
   (omega (arith, c.in_ok-write_and_sync.ensures.reach, c.len.ensures, c.deref.ensures.len, ap length c.deref.ensures.value), omega (arith, c.self.invariant.1)),
 )
 
 pub returns-in_err-write_and_sync-2-clause-any_moment : goal.returns-in_err-write_and_sync-2-clause-any_moment
 returns-in_err-write_and_sync-2-clause-any_moment g c p =
-    (append_at_gate g.D.Disk.seen g.D.Disk.may_leave g.D.Disk.moment g.D.Disk.left_since (λ d. g.met.D.Disk.reads_now d p) (λ d b left. g.met.D.Disk.only_now d b p left) _ _ c.self.view_is c.requires.ready (c.self.invariant.2 p) c.write_and_sync-2.new.disk 0 c.args.payload.now c.deref.result.now (c.deref.ensures.value ∙ c.put_record.ensures.items) c.write_and_sync.new.disk (c.write_and_sync.ensures.moments p) c.requires.bound (c.in_ok-write_and_sync.ensures.written p) (c.in_ok-write_and_sync.ensures.fixed p) (c.write_and_sync-2.ensures.moments p) (c.self.inside.end + c.len.result) (omega (arith, c.len.ensures, ap length c.put_record.ensures.items, length-append (to_be_bytes w32 (length c.args.payload.now)) (c.args.payload.now ++ 0 ∷ []), length-append c.args.payload.now (0 ∷ []))) (c.write_and_sync-2.ensures.images p)).since
+    (append_at_gate g.D.Disk.seen g.D.Disk.may_leave g.D.Disk.moment g.D.Disk.left_since (λ d. g.met.D.Disk.reads_now d p) (λ d b left. g.met.D.Disk.only_now d b p left) _ _ c.self.view_is c.requires.ready (c.self.invariant.2 p) c.write_and_sync-2.new.disk 0 c.args.payload.now c.deref.result.now (c.deref.ensures.value ∙ c.put_record.ensures.items) c.write_and_sync.new.disk (c.write_and_sync.ensures.moments p) c.requires.bound (c.in_ok-write_and_sync.ensures.written p) (c.in_ok-write_and_sync.ensures.fixed p) (c.write_and_sync-2.ensures.moments p) c.len.result (omega (arith, c.len.ensures, ap length c.deref.ensures.value)) (c.write_and_sync-2.ensures.images p)).since
 
 pub returns-in_err-write_and_sync-2-clause-whole_or_not : goal.returns-in_err-write_and_sync-2-clause-whole_or_not
 returns-in_err-write_and_sync-2-clause-whole_or_not g c p =
-    (append_at_gate g.D.Disk.seen g.D.Disk.may_leave g.D.Disk.moment g.D.Disk.left_since (λ d. g.met.D.Disk.reads_now d p) (λ d b left. g.met.D.Disk.only_now d b p left) _ _ c.self.view_is c.requires.ready (c.self.invariant.2 p) c.write_and_sync-2.new.disk 0 c.args.payload.now c.deref.result.now (c.deref.ensures.value ∙ c.put_record.ensures.items) c.write_and_sync.new.disk (c.write_and_sync.ensures.moments p) c.requires.bound (c.in_ok-write_and_sync.ensures.written p) (c.in_ok-write_and_sync.ensures.fixed p) (c.write_and_sync-2.ensures.moments p) (c.self.inside.end + c.len.result) (omega (arith, c.len.ensures, ap length c.put_record.ensures.items, length-append (to_be_bytes w32 (length c.args.payload.now)) (c.args.payload.now ++ 0 ∷ []), length-append c.args.payload.now (0 ∷ []))) (c.write_and_sync-2.ensures.images p)).now
+    (append_at_gate g.D.Disk.seen g.D.Disk.may_leave g.D.Disk.moment g.D.Disk.left_since (λ d. g.met.D.Disk.reads_now d p) (λ d b left. g.met.D.Disk.only_now d b p left) _ _ c.self.view_is c.requires.ready (c.self.invariant.2 p) c.write_and_sync-2.new.disk 0 c.args.payload.now c.deref.result.now (c.deref.ensures.value ∙ c.put_record.ensures.items) c.write_and_sync.new.disk (c.write_and_sync.ensures.moments p) c.requires.bound (c.in_ok-write_and_sync.ensures.written p) (c.in_ok-write_and_sync.ensures.fixed p) (c.write_and_sync-2.ensures.moments p) c.len.result (omega (arith, c.len.ensures, ap length c.deref.ensures.value)) (c.write_and_sync-2.ensures.images p)).now
 
 pub returns-in_err-write_and_sync-2-clause-told_first : goal.returns-in_err-write_and_sync-2-clause-told_first
 returns-in_err-write_and_sync-2-clause-told_first g c =
@@ -49,22 +48,22 @@ pub invariant_of-self-2 : goal.invariant_of-self-2
 invariant_of-self-2 g c = (
   omega (arith, c.in_ok-write_and_sync.ensures.reach, c.len.ensures, c.deref.ensures.len, ap length c.deref.ensures.value),
   omega (arith, c.self.invariant.1),
-  λ p. (append_done g.D.Disk.seen g.D.Disk.may_leave g.D.Disk.moment g.D.Disk.left_since (λ d. g.met.D.Disk.reads_now d p) (λ d b left. g.met.D.Disk.only_now d b p left) _ _ c.self.view_is c.requires.ready (c.self.invariant.2 p) c.write_and_sync-2.new.disk _ c.args.payload.now c.deref.result.now (c.deref.ensures.value ∙ c.put_record.ensures.items) c.write_and_sync.new.disk (c.write_and_sync.ensures.moments p) c.requires.bound (c.in_ok-write_and_sync.ensures.written p) (c.in_ok-write_and_sync.ensures.fixed p) (c.write_and_sync-2.ensures.moments p) (c.self.inside.end + c.len.result) (omega (arith, c.len.ensures, ap length c.put_record.ensures.items, length-append (to_be_bytes w32 (length c.args.payload.now)) (c.args.payload.now ++ 0 ∷ []), length-append c.args.payload.now (0 ∷ []))) (c.in_ok-write_and_sync-2.ensures.written p) (c.in_ok-write_and_sync-2.ensures.fixed p)).sound,
+  λ p. (append_done g.D.Disk.seen g.D.Disk.may_leave g.D.Disk.moment g.D.Disk.left_since (λ d. g.met.D.Disk.reads_now d p) (λ d b left. g.met.D.Disk.only_now d b p left) _ _ c.self.view_is c.requires.ready (c.self.invariant.2 p) c.write_and_sync-2.new.disk _ c.args.payload.now c.deref.result.now (c.deref.ensures.value ∙ c.put_record.ensures.items) c.write_and_sync.new.disk (c.write_and_sync.ensures.moments p) c.requires.bound (c.in_ok-write_and_sync.ensures.written p) (c.in_ok-write_and_sync.ensures.fixed p) (c.write_and_sync-2.ensures.moments p) c.len.result (omega (arith, c.len.ensures, ap length c.deref.ensures.value)) (c.in_ok-write_and_sync-2.ensures.written p) (c.in_ok-write_and_sync-2.ensures.fixed p)).sound,
   tt,
 )
 
 pub returns-clause-appended : goal.returns-clause-appended
 returns-clause-appended g c p =
-    appended g.D.Disk.seen g.D.Disk.may_leave g.D.Disk.moment g.D.Disk.left_since (λ d. g.met.D.Disk.reads_now d p) (λ d b left. g.met.D.Disk.only_now d b p left) _ _ c.self.view_is c.requires.ready (c.self.invariant.2 p) c.write_and_sync-2.new.disk 0 c.args.payload.now c.deref.result.now (c.deref.ensures.value ∙ c.put_record.ensures.items) c.write_and_sync.new.disk (c.write_and_sync.ensures.moments p) c.requires.bound (c.in_ok-write_and_sync.ensures.written p) (c.in_ok-write_and_sync.ensures.fixed p) (c.write_and_sync-2.ensures.moments p) (c.self.inside.end + c.len.result) (omega (arith, c.len.ensures, ap length c.put_record.ensures.items, length-append (to_be_bytes w32 (length c.args.payload.now)) (c.args.payload.now ++ 0 ∷ []), length-append c.args.payload.now (0 ∷ []))) (c.in_ok-write_and_sync-2.ensures.written p) (c.in_ok-write_and_sync-2.ensures.fixed p)
+    appended g.D.Disk.seen g.D.Disk.may_leave g.D.Disk.moment g.D.Disk.left_since (λ d. g.met.D.Disk.reads_now d p) (λ d b left. g.met.D.Disk.only_now d b p left) _ _ c.self.view_is c.requires.ready (c.self.invariant.2 p) c.write_and_sync-2.new.disk 0 c.args.payload.now c.deref.result.now (c.deref.ensures.value ∙ c.put_record.ensures.items) c.write_and_sync.new.disk (c.write_and_sync.ensures.moments p) c.requires.bound (c.in_ok-write_and_sync.ensures.written p) (c.in_ok-write_and_sync.ensures.fixed p) (c.write_and_sync-2.ensures.moments p) c.len.result (omega (arith, c.len.ensures, ap length c.deref.ensures.value)) (c.in_ok-write_and_sync-2.ensures.written p) (c.in_ok-write_and_sync-2.ensures.fixed p)
 
 pub returns-clause-durable : goal.returns-clause-durable
 returns-clause-durable g c p =
-    append_durable g.D.Disk.seen g.D.Disk.may_leave g.D.Disk.moment g.D.Disk.left_since (λ d. g.met.D.Disk.reads_now d p) (λ d b left. g.met.D.Disk.only_now d b p left) _ _ c.self.view_is c.requires.ready (c.self.invariant.2 p) c.write_and_sync-2.new.disk 0 c.args.payload.now c.deref.result.now (c.deref.ensures.value ∙ c.put_record.ensures.items) c.write_and_sync.new.disk (c.write_and_sync.ensures.moments p) c.requires.bound (c.in_ok-write_and_sync.ensures.written p) (c.in_ok-write_and_sync.ensures.fixed p) (c.write_and_sync-2.ensures.moments p) (c.self.inside.end + c.len.result) (omega (arith, c.len.ensures, ap length c.put_record.ensures.items, length-append (to_be_bytes w32 (length c.args.payload.now)) (c.args.payload.now ++ 0 ∷ []), length-append c.args.payload.now (0 ∷ []))) (c.in_ok-write_and_sync-2.ensures.written p) (c.in_ok-write_and_sync-2.ensures.fixed p)
+    append_durable g.D.Disk.seen g.D.Disk.may_leave g.D.Disk.moment g.D.Disk.left_since (λ d. g.met.D.Disk.reads_now d p) (λ d b left. g.met.D.Disk.only_now d b p left) _ _ c.self.view_is c.requires.ready (c.self.invariant.2 p) c.write_and_sync-2.new.disk 0 c.args.payload.now c.deref.result.now (c.deref.ensures.value ∙ c.put_record.ensures.items) c.write_and_sync.new.disk (c.write_and_sync.ensures.moments p) c.requires.bound (c.in_ok-write_and_sync.ensures.written p) (c.in_ok-write_and_sync.ensures.fixed p) (c.write_and_sync-2.ensures.moments p) c.len.result (omega (arith, c.len.ensures, ap length c.deref.ensures.value)) (c.in_ok-write_and_sync-2.ensures.written p) (c.in_ok-write_and_sync-2.ensures.fixed p)
 
 pub returns-clause-any_moment : goal.returns-clause-any_moment
 returns-clause-any_moment g c p =
-    (append_done g.D.Disk.seen g.D.Disk.may_leave g.D.Disk.moment g.D.Disk.left_since (λ d. g.met.D.Disk.reads_now d p) (λ d b left. g.met.D.Disk.only_now d b p left) _ _ c.self.view_is c.requires.ready (c.self.invariant.2 p) c.write_and_sync-2.new.disk 0 c.args.payload.now c.deref.result.now (c.deref.ensures.value ∙ c.put_record.ensures.items) c.write_and_sync.new.disk (c.write_and_sync.ensures.moments p) c.requires.bound (c.in_ok-write_and_sync.ensures.written p) (c.in_ok-write_and_sync.ensures.fixed p) (c.write_and_sync-2.ensures.moments p) (c.self.inside.end + c.len.result) (omega (arith, c.len.ensures, ap length c.put_record.ensures.items, length-append (to_be_bytes w32 (length c.args.payload.now)) (c.args.payload.now ++ 0 ∷ []), length-append c.args.payload.now (0 ∷ []))) (c.in_ok-write_and_sync-2.ensures.written p) (c.in_ok-write_and_sync-2.ensures.fixed p)).since
+    (append_done g.D.Disk.seen g.D.Disk.may_leave g.D.Disk.moment g.D.Disk.left_since (λ d. g.met.D.Disk.reads_now d p) (λ d b left. g.met.D.Disk.only_now d b p left) _ _ c.self.view_is c.requires.ready (c.self.invariant.2 p) c.write_and_sync-2.new.disk 0 c.args.payload.now c.deref.result.now (c.deref.ensures.value ∙ c.put_record.ensures.items) c.write_and_sync.new.disk (c.write_and_sync.ensures.moments p) c.requires.bound (c.in_ok-write_and_sync.ensures.written p) (c.in_ok-write_and_sync.ensures.fixed p) (c.write_and_sync-2.ensures.moments p) c.len.result (omega (arith, c.len.ensures, ap length c.deref.ensures.value)) (c.in_ok-write_and_sync-2.ensures.written p) (c.in_ok-write_and_sync-2.ensures.fixed p)).since
 
 pub returns-clause-whole_or_not : goal.returns-clause-whole_or_not
 returns-clause-whole_or_not g c p =
-    (append_done g.D.Disk.seen g.D.Disk.may_leave g.D.Disk.moment g.D.Disk.left_since (λ d. g.met.D.Disk.reads_now d p) (λ d b left. g.met.D.Disk.only_now d b p left) _ _ c.self.view_is c.requires.ready (c.self.invariant.2 p) c.write_and_sync-2.new.disk 0 c.args.payload.now c.deref.result.now (c.deref.ensures.value ∙ c.put_record.ensures.items) c.write_and_sync.new.disk (c.write_and_sync.ensures.moments p) c.requires.bound (c.in_ok-write_and_sync.ensures.written p) (c.in_ok-write_and_sync.ensures.fixed p) (c.write_and_sync-2.ensures.moments p) (c.self.inside.end + c.len.result) (omega (arith, c.len.ensures, ap length c.put_record.ensures.items, length-append (to_be_bytes w32 (length c.args.payload.now)) (c.args.payload.now ++ 0 ∷ []), length-append c.args.payload.now (0 ∷ []))) (c.in_ok-write_and_sync-2.ensures.written p) (c.in_ok-write_and_sync-2.ensures.fixed p)).now
+    (append_done g.D.Disk.seen g.D.Disk.may_leave g.D.Disk.moment g.D.Disk.left_since (λ d. g.met.D.Disk.reads_now d p) (λ d b left. g.met.D.Disk.only_now d b p left) _ _ c.self.view_is c.requires.ready (c.self.invariant.2 p) c.write_and_sync-2.new.disk 0 c.args.payload.now c.deref.result.now (c.deref.ensures.value ∙ c.put_record.ensures.items) c.write_and_sync.new.disk (c.write_and_sync.ensures.moments p) c.requires.bound (c.in_ok-write_and_sync.ensures.written p) (c.in_ok-write_and_sync.ensures.fixed p) (c.write_and_sync-2.ensures.moments p) c.len.result (omega (arith, c.len.ensures, ap length c.deref.ensures.value)) (c.in_ok-write_and_sync-2.ensures.written p) (c.in_ok-write_and_sync-2.ensures.fixed p)).now
