@@ -1,12 +1,12 @@
 -- What the calls of an append and of a cut leave on the disk that counts.
-use Rattle.std.proofs.Common.{◌≡◌, ◌≢◌, ◌⊎◌, inl, inr, ℕ, zero, suc, ◌+◌, ◌-◌, ◌≤◌, ◌<◌, ◌^◌, min, List, [], ◌∷◌, ◌++◌, length, get_or, take, drop, refl, sym, ◌∙◌, ap, subst, arith, append_assoc, length-append, length-take, length-drop, take-append-drop}
-use Rattle.std.specs.Int.{w32, to_be_bytes, from_be_bytes}
-use Rattle.std.proofs.lemmas.List.{append-nil, take_at, drop_at, drop_more, take-take, take_all}
+use Rattle.std.proofs.Common.{◌≡◌, ◌≢◌, ◌⊎◌, inl, inr, ℕ, ◌+◌, ◌≤◌, ◌<◌, ◌^◌, List, [], ◌∷◌, ◌++◌, length, get_or, take, drop, refl, sym, ◌∙◌, ap, arith, append_assoc, length-append, take-append-drop}
+use Rattle.std.specs.Int.{w32, to_be_bytes}
+use Rattle.std.proofs.lemmas.List.{take_at, drop_at, drop_more, take-take}
 use Rattle.std.proofs.lemmas.Bool.{cases_eq}
 use Rattle.std.proofs.lemmas.Nat.{from_be_bytes-to_be_bytes_4}
 use Rattle.ps_ports.specs.Disk.{written, Torn, Shortened}
 use Rattle.ps_ports.proofs.DiskLemmas.{written_within, torn_front}
-use Rattle.host_journal.specs.State.{IsFront, IsWhole, IsStaged}
+use Rattle.host_journal.specs.State.{IsWhole, IsStaged}
 use Rattle.host_journal.proofs.FrontLemmas.{is_longer_front}
 
 module _ (generation start end : ℕ) (list : List (List ℕ)) where

@@ -1,5 +1,5 @@
 -- How a run of calls on one disk goes on: its images at every moment, and the calls that it tells.
-use Rattle.std.proofs.Common.{◌≡◌, inl, inr, ⊎_elim, take-append-drop, ℕ, ◌+◌, ◌-◌, ◌≤◌, ◌<◌, List, [], ◌∷◌, ◌++◌, length, take, drop, refl, sym, ◌∙◌, ap, subst, arith, append_assoc, length-append, length-take, length-drop}
+use Rattle.std.proofs.Common.{◌≡◌, inl, inr, ⊎_elim, ℕ, ◌+◌, ◌≤◌, List, ◌++◌, length, take, drop, refl, sym, ◌∙◌, ap, arith, append_assoc, length-append, length-take}
 use Rattle.std.specs.Prelude.{Option, Some, None, Result, Ok, Err, OnErr}
 use Rattle.std.proofs.lemmas.List.{take_all}
 use Rattle.std.proofs.Math.Seq.{take-add}

@@ -1,10 +1,10 @@
 -- What bytes say, from what they are made of, and the other way round.
-use Rattle.std.proofs.Common.{◌≡◌, ◌≢◌, inl, inr, ℕ, zero, suc, ◌+◌, ◌-◌, ◌≤◌, ◌<◌, Bool, true, false, if◌then◌else◌, List, [], ◌∷◌, ◌++◌, length, take, drop, Result, Ok, Err, Option, Some, None, refl, sym, ◌∙◌, ap, subst, arith, append_assoc, length-append, length-take, length-drop, take-append-drop}
+use Rattle.std.proofs.Common.{◌≡◌, ◌≢◌, ℕ, zero, suc, ◌+◌, ◌-◌, ◌≤◌, ◌<◌, Bool, true, false, if◌then◌else◌, List, [], ◌∷◌, ◌++◌, length, take, drop, Result, Ok, Err, Option, Some, None, refl, sym, ◌∙◌, ap, subst, arith, append_assoc, length-append, length-take, length-drop, take-append-drop}
 use Rattle.std.specs.Prelude.{nat_le, ◌==◌}
 use Rattle.std.specs.Int.{w32, w64, from_be_bytes}
 use Rattle.std.proofs.lemmas.List.{append-nil, take_at, drop_at}
 use Rattle.std.proofs.lemmas.Bool.Decides.{nat_tests}
-use Rattle.host_journal.specs.Format.{magic, open_head, agreeing, stands, sized, Body, with_snapshot, body_of, record_bytes, joined, behind, records_within, records_of}
+use Rattle.host_journal.specs.Format.{agreeing, sized, Body, with_snapshot, body_of, record_bytes, joined, behind, records_within, records_of}
 
 -- the front decides, where it is long enough
 pub agreeing_front : (wanted front rest : List ℕ) → length wanted ≤ length front → agreeing wanted (front ++ rest) ≡ agreeing wanted front

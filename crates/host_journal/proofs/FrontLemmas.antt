@@ -1,13 +1,13 @@
 -- Fronts of disks, behind which gates stand: where they begin, how a record makes one longer, and what bytes stand for that have one.
-use Rattle.std.proofs.Common.{◌≡◌, ◌≢◌, inl, inr, ℕ, zero, suc, ◌+◌, ◌-◌, ◌≤◌, ◌<◌, Bool, true, false, if◌then◌else◌, List, [], ◌∷◌, ◌++◌, length, take, drop, Result, Ok, Err, Option, Some, None, refl, sym, ◌∙◌, ap, subst, arith, append_assoc, length-append, length-take, length-drop, take-append-drop}
+use Rattle.std.proofs.Common.{◌≡◌, ◌≢◌, inl, inr, ℕ, zero, suc, ◌+◌, ◌≤◌, ◌<◌, Bool, true, false, if◌then◌else◌, List, [], ◌∷◌, ◌++◌, length, take, drop, Result, Ok, Err, Option, Some, None, refl, sym, ◌∙◌, ap, subst, arith, append_assoc, length-append, length-take, take-append-drop}
 use Rattle.std.specs.Prelude.{◌==◌}
 use Rattle.std.specs.Int.{w32, w64, from_be_bytes}
-use Rattle.std.proofs.lemmas.List.{append-nil, take_at, drop_at, drop-append-le}
+use Rattle.std.proofs.lemmas.List.{append-nil, drop_at}
 use Rattle.std.proofs.lemmas.Bool.{cases_eq}
-use Rattle.host_journal.specs.Format.{magic, open_head, agreeing, stands, sized, Body, with_snapshot, body_of, record_bytes, joined, records_of}
+use Rattle.host_journal.specs.Format.{open_head, agreeing, stands, sized, Body, with_snapshot, body_of, record_bytes, joined, records_of}
 use Rattle.host_journal.specs.Pair.{gates_at}
 use Rattle.host_journal.specs.State.{IsFront, IsWhole, Stands}
-use Rattle.host_journal.proofs.FormatLemmas.{eq_from, agreeing_front, Sized, sized_made, sized_is, body_made, Bodied, body_is, record_bytes-append, joined-joined, joined-none, records_of-shut, records_of-open, records_of-bad}
+use Rattle.host_journal.proofs.FormatLemmas.{eq_from, agreeing_front, sized_made, sized_is, body_made, body_is, record_bytes-append, joined-joined, joined-none, records_of-shut, records_of-open, records_of-bad}
 
 -- a head, a generation and a snapshot
 abbrev pub first_front : List ℕ → List ℕ → List ℕ → List ℕ → List ℕ

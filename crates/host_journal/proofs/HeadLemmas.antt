@@ -1,9 +1,9 @@
 -- Heads of disks, open and closed.
-use Rattle.std.proofs.Common.{◌≡◌, ◌≢◌, ◌⊎◌, inl, inr, ℕ, zero, suc, ◌+◌, ◌≤◌, Bool, true, false, if◌then◌else◌, List, [], ◌∷◌, ◌++◌, length, get_or, take, drop, Some, refl, sym, ◌∙◌, ap, subst, arith, length-take, take-append-drop}
+use Rattle.std.proofs.Common.{◌≡◌, ◌≢◌, inl, inr, ℕ, suc, ◌≤◌, Bool, true, false, if◌then◌else◌, List, [], ◌∷◌, ◌++◌, length, get_or, take, drop, refl, sym, ◌∙◌, ap, subst, arith, length-take, take-append-drop}
 use Rattle.std.specs.Prelude.{◌==◌}
 use Rattle.std.proofs.lemmas.List.{drop_more}
 use Rattle.std.proofs.lemmas.Bool.{cases_eq}
-use Rattle.host_journal.specs.Format.{magic, open_head, agreeing, stands, body_of}
+use Rattle.host_journal.specs.Format.{magic, open_head, agreeing, stands}
 use Rattle.host_journal.specs.State.{IsClosed, IsOlder, HasOlder, IsAside, IsBelow}
 use Rattle.host_journal.proofs.FormatLemmas.{eq_from, ne_false, agreeing_front}
 

@@ -1,17 +1,17 @@
 -- From what two disks stand for to what each of them is.
-use Rattle.std.proofs.Common.{◌≡◌, ◌≢◌, ◌⊎◌, inl, inr, ⊎_elim, ℕ, zero, suc, ◌+◌, ◌≤◌, Bool, true, false, not, if◌then◌else◌, List, [], ◌∷◌, ◌++◌, length, drop, Result, Ok, Err, Option, Some, None, refl, sym, ◌∙◌, ap, subst, arith}
+use Rattle.std.proofs.Common.{◌≡◌, inl, inr, ℕ, ◌+◌, Bool, true, false, not, if◌then◌else◌, List, ◌∷◌, length, drop, Result, Ok, Err, Option, Some, None, refl, sym, ◌∙◌, ap, subst}
 use Rattle.std.specs.Prelude.{nat_le, ◌==◌}
 use Rattle.ps_ports.specs.Disk.{Only}
-use Rattle.host_journal.specs.Format.{magic, open_head, agreeing, stands, Body, body_of, record_bytes, records_of}
+use Rattle.host_journal.specs.Format.{magic, agreeing, stands, Body, body_of, record_bytes, records_of}
 use Rattle.host_journal.specs.Pair.{gates_at, with_records, counted, need_body, unless_at, need_head, greater, pair_by, pair_of}
-use Rattle.host_journal.specs.State.{State, IsLess, IsClosed, IsOlder, IsAside, IsBelow, IsWhole, IsSound}
+use Rattle.host_journal.specs.State.{IsClosed, IsAside, IsBelow, IsWhole, IsSound}
 use Rattle.host_journal.specs.declared.pending.Pending.TheVariants.{Nothing}
 use Rattle.host_journal.specs.declared.reading.Counted.{Counted}
 use Rattle.host_journal.specs.declared.reading.Place.{Place}
 use Rattle.host_journal.proofs.FormatLemmas.{eq_from, le_from}
 use Rattle.host_journal.proofs.FrontLemmas.{whole_from}
 use Rattle.host_journal.proofs.HeadLemmas.{older_has}
-use Rattle.host_journal.proofs.PairLemmas.{place_at, by_stands}
+use Rattle.host_journal.proofs.PairLemmas.{place_at}
 
 -- the disk that counts is whole, and the other one lies below it
 pub record Opened (k : Counted) (counting other : List ℕ) : Type 0 where

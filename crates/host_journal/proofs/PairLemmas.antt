@@ -1,9 +1,9 @@
 -- What two disks stand for, from what each of them is.
-use Rattle.std.proofs.Common.{◌≡◌, ◌≢◌, inl, inr, ℕ, zero, suc, ◌+◌, ◌-◌, ◌≤◌, ◌<◌, Bool, true, false, if◌then◌else◌, List, [], ◌∷◌, ◌++◌, length, take, drop, Result, Ok, Err, Option, Some, None, refl, sym, ◌∙◌, ap, subst, arith}
+use Rattle.std.proofs.Common.{◌≡◌, inl, inr, ℕ, ◌+◌, Bool, true, false, if◌then◌else◌, List, [], ◌∷◌, length, drop, Result, Ok, Option, Some, None, sym, ◌∙◌, ap}
 use Rattle.std.specs.Prelude.{nat_le, ◌==◌}
-use Rattle.host_journal.specs.Format.{magic, open_head, agreeing, stands, Body, body_of, record_bytes, records_of}
+use Rattle.host_journal.specs.Format.{magic, agreeing, stands, Body, body_of, record_bytes}
 use Rattle.host_journal.specs.Pair.{gates_at, number_of, with_records, counted, need_body, headless, unless_at, need_head, greater, pair_by, pair_of}
-use Rattle.host_journal.specs.State.{pair_in, Stands, IsLess, IsClosed, IsOlder, IsBelow, IsWhole, with_record}
+use Rattle.host_journal.specs.State.{pair_in, Stands, IsClosed, IsBelow, IsWhole}
 use Rattle.host_journal.specs.declared.reading.Counted.{Counted}
 use Rattle.host_journal.specs.declared.reading.Place.{Place}
 use Rattle.host_journal.proofs.FormatLemmas.{eq_true, le_true}

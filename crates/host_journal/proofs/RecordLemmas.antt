@@ -1,16 +1,16 @@
 -- What holds at each exit of a call that adds a record, or cuts what lies behind the last.
-use Rattle.std.proofs.Common.{◌≡◌, ◌⊎◌, inl, inr, ⊎_elim, ℕ, ◌+◌, ◌≤◌, ◌<◌, ◌^◌, min, Bool, true, false, if◌then◌else◌, List, [], ◌∷◌, ◌++◌, length, take, Result, refl, sym, ◌∙◌, ap, subst, arith, length-append, length-take}
+use Rattle.std.proofs.Common.{◌≡◌, ◌⊎◌, inl, inr, ℕ, ◌+◌, ◌≤◌, true, List, [], ◌∷◌, ◌++◌, length, Result, refl, sym, ◌∙◌, ap, subst, arith, length-append}
 use Rattle.std.specs.Int.{w32, to_be_bytes}
 use Rattle.ps_ports.specs.Disk.{written, Torn, Shortened, Follows, Only, LeavesOnly}
 use Rattle.host_journal.specs.Calls.{PartAfter}
-use Rattle.host_journal.specs.State.{State, is_ready, stored, with_record, EachImage, EachSince, IsWhole, IsStaged, IsSound}
+use Rattle.host_journal.specs.State.{State, is_ready, stored, with_record, EachImage, EachSince, IsWhole, IsSound}
 use Rattle.host_journal.specs.declared.pending.Pending.{Pending}
 use Rattle.host_journal.specs.declared.pending.Pending.TheVariants.{Nothing, Unopened, Record}
 use Rattle.host_journal.specs.declared.reading.Counted.{Counted}
 use Rattle.host_journal.specs.declared.reading.Place.{Place}
-use Rattle.host_journal.proofs.AppendLemmas.{whole_torn, whole_cut, whole_long}
+use Rattle.host_journal.proofs.AppendLemmas.{whole_torn, whole_cut}
 use Rattle.host_journal.proofs.CallLemmas.{leaves_more}
-use Rattle.host_journal.proofs.StateLemmas.{Ready, ready, Is, Has, Either, same_pair, torn_images, torn_moments, Staged, staged, gate_images, staged_is_either, gate_moments, gate_opened, each_since, is_or_has, now_has, each_has, each_since_same, now_same, each_same, sound_unopened, sound_record, sound_nothing}
+use Rattle.host_journal.proofs.StateLemmas.{Ready, ready, Has, Either, Staged, staged, gate_images, staged_is_either, gate_moments, gate_opened, each_since, is_or_has, now_has, each_has, each_since_same, now_same, each_same, sound_unopened, sound_record, sound_nothing}
 
 -- another disk counts in its place
 abbrev pub moved : {D : Type 0} → State D → D → ℕ → Pending → ℕ → State D

@@ -1,19 +1,14 @@
 -- What a `reload` finds, by what was pending.
-use Rattle.std.proofs.Common.{◌≡◌, ◌≢◌, ◌⊎◌, inl, inr, ⊎_elim, ℕ, ◌+◌, ◌≤◌, ◌<◌, Bool, true, false, not, if◌then◌else◌, List, [], ◌∷◌, ◌++◌, length, get_or, Result, Ok, Err, refl, sym, ◌∙◌, ap, subst, arith}
+use Rattle.std.proofs.Common.{◌≡◌, ◌≢◌, ℕ, ◌+◌, Bool, true, false, not, if◌then◌else◌, List, [], ◌∷◌, ◌++◌, get_or, refl, sym, ◌∙◌, ap, subst, arith}
 use Rattle.std.specs.Prelude.{◌==◌}
 use Rattle.std.proofs.Math.Seq.{get_or-append_seam}
-use Rattle.std.proofs.lemmas.Bool.{cases_eq}
 use Rattle.ps_ports.specs.Disk.{Only}
-use Rattle.host_journal.specs.Calls.{IsRead}
-use Rattle.host_journal.specs.Format.{magic}
 use Rattle.host_journal.specs.Reload.{stood_of}
-use Rattle.host_journal.specs.State.{State, is_ready, stored, has_record, IsClosed, IsAside, IsWhole, IsStaged, IsImage, Counting, Beside, IsSound}
+use Rattle.host_journal.specs.State.{State, stored, has_record, IsClosed, IsAside, IsWhole, IsStaged, IsImage, Counting, Beside, IsSound}
 use Rattle.host_journal.specs.declared.pending.Pending.{Pending}
 use Rattle.host_journal.specs.declared.pending.Pending.TheVariants.{Nothing, Unopened, Record, Snapshot}
 use Rattle.host_journal.specs.declared.reload.Stood.{Stood}
 use Rattle.host_journal.specs.declared.reload.Stood.TheVariants.{Nothing as no_gate, Record as the_record, Snapshot as the_snapshot}
-use Rattle.host_journal.specs.declared.reading.Counted.{Counted}
-use Rattle.host_journal.specs.declared.reading.Place.{Place}
 use Rattle.host_journal.proofs.AppendLemmas.{staged_open, staged_shut}
 use Rattle.host_journal.proofs.FormatLemmas.{eq_from, eq_true, ne_false}
 use Rattle.host_journal.proofs.PairLemmas.{counts_as}

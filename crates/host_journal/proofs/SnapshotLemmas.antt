@@ -1,17 +1,16 @@
 -- What the calls of a snapshot leave on the disk that doesn't count.
-use Rattle.std.proofs.Common.{◌≡◌, ◌≢◌, ◌⊎◌, inl, inr, ℕ, zero, suc, ◌+◌, ◌-◌, ◌≤◌, ◌<◌, ◌^◌, min, Bool, true, false, not, if◌then◌else◌, List, [], ◌∷◌, ◌++◌, length, get_or, take, drop, Some, refl, sym, ◌∙◌, ap, subst, arith, append_assoc, length-append, length-take, length-drop, take-append-drop}
-use Rattle.std.specs.Prelude.{nat_le}
-use Rattle.std.specs.Int.{w32, w64, to_be_bytes, from_be_bytes}
-use Rattle.std.proofs.lemmas.List.{append-nil, take_at, drop_at, drop_more, take_all}
+use Rattle.std.proofs.Common.{◌≡◌, ◌≢◌, ◌⊎◌, inl, inr, ℕ, ◌+◌, ◌≤◌, ◌<◌, ◌^◌, Bool, true, false, not, List, [], ◌∷◌, ◌++◌, length, get_or, take, drop, refl, sym, ◌∙◌, ap, subst, arith, append_assoc, take-append-drop}
+use Rattle.std.specs.Int.{w32, w64, to_be_bytes}
+use Rattle.std.proofs.lemmas.List.{drop_more}
 use Rattle.std.proofs.lemmas.Bool.{cases_eq}
 use Rattle.std.proofs.lemmas.Bool.Decides.{nat_tests}
 use Rattle.std.proofs.lemmas.Nat.{from_be_bytes-to_be_bytes_4, from_be_bytes-to_be_bytes_8}
 use Rattle.ps_ports.specs.Disk.{written, Torn}
 use Rattle.ps_ports.proofs.DiskLemmas.{written_within, written_behind, torn_front}
 use Rattle.host_journal.specs.Calls.{KeepsHead}
-use Rattle.host_journal.specs.Format.{magic, open_head, stands, body_of}
+use Rattle.host_journal.specs.Format.{magic, open_head}
 use Rattle.host_journal.specs.Pair.{gates_at}
-use Rattle.host_journal.specs.State.{IsClosed, IsOlder, HasOlder, IsAside, IsLess, IsWhole, IsImage, image_bytes, closing}
+use Rattle.host_journal.specs.State.{IsClosed, IsOlder, IsAside, IsLess, IsWhole, IsImage, image_bytes, closing}
 use Rattle.host_journal.proofs.FrontLemmas.{first_front, is_first_front, stands_whole}
 use Rattle.host_journal.proofs.HeadLemmas.{closed_made, closed_same, closed_split, stands_split}
 

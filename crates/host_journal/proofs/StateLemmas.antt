@@ -1,7 +1,7 @@
 -- A journal's calls, from what they leave of the disk that counts.
-use Rattle.std.proofs.Common.{◌≡◌, ◌⊎◌, inl, inr, ⊎_elim, ℕ, ◌+◌, ◌≤◌, ◌<◌, ◌^◌, Bool, true, false, if◌then◌else◌, List, [], ◌∷◌, ◌++◌, length, Result, Ok, Err, refl, sym, ◌∙◌, ap, subst, arith}
+use Rattle.std.proofs.Common.{◌≡◌, ◌⊎◌, inl, inr, ⊎_elim, ℕ, ◌+◌, ◌<◌, ◌^◌, Bool, true, false, if◌then◌else◌, List, [], ◌∷◌, ◌++◌, length, Result, refl, sym, ◌∙◌, ap, subst}
 use Rattle.std.specs.Int.{w32, to_be_bytes}
-use Rattle.ps_ports.specs.Disk.{written, Torn, Shortened, Follows, Only, LeavesOnly}
+use Rattle.ps_ports.specs.Disk.{written, Torn, Follows, Only, LeavesOnly}
 use Rattle.host_journal.specs.Calls.{PartAfter}
 use Rattle.host_journal.specs.Pair.{pair_of}
 use Rattle.host_journal.specs.State.{State, is_ready, pair_in, stored, with_record, IsAside, IsBelow, IsWhole, IsStaged, Counting, Beside, IsSound}
@@ -9,7 +9,7 @@ use Rattle.host_journal.specs.declared.pending.Pending.{Pending}
 use Rattle.host_journal.specs.declared.pending.Pending.TheVariants.{Nothing, Unopened, Record, Snapshot}
 use Rattle.host_journal.specs.declared.reading.Counted.{Counted}
 use Rattle.host_journal.specs.declared.reading.Place.{Place}
-use Rattle.host_journal.proofs.AppendLemmas.{whole_torn, whole_cut, staged_written, staged_torn, staged_either, opened}
+use Rattle.host_journal.proofs.AppendLemmas.{whole_torn, staged_written, staged_torn, staged_either, opened}
 use Rattle.host_journal.proofs.CallLemmas.{leaves_on, leaves_more}
 use Rattle.host_journal.proofs.HeadLemmas.{aside_below}
 use Rattle.host_journal.proofs.PairLemmas.{counts_as, pair_whole}

@@ -1,5 +1,5 @@
 -- What holds at each exit of a snapshot, from what its calls ensure.
-use Rattle.std.proofs.Common.{◌≡◌, ◌⊎◌, inl, inr, ℕ, ◌+◌, ◌≤◌, ◌<◌, ◌^◌, Bool, true, false, not, List, [], ◌∷◌, ◌++◌, length, take, Result, refl, sym, ◌∙◌, ap, subst, arith, length-append}
+use Rattle.std.proofs.Common.{◌≡◌, ◌⊎◌, inl, inr, ℕ, ◌+◌, ◌<◌, ◌^◌, Bool, true, false, not, List, [], ◌∷◌, ◌++◌, length, take, refl, sym, ◌∙◌, ap, subst, arith, length-append}
 use Rattle.std.specs.Prelude.{Option}
 use Rattle.std.specs.Int.{w32, w64, to_be_bytes}
 use Rattle.ps_ports.specs.Disk.{written, Torn, Follows, Only, LeavesOnly}
@@ -7,7 +7,7 @@ use Rattle.ps_ports.specs.declared.disk.DiskCall.{DiskCall}
 use Rattle.ps_ports.specs.declared.disk.DiskCall.TheVariants.{Write, Cut, Sync}
 use Rattle.host_journal.specs.Calls.{PartAfter, KeepsHead}
 use Rattle.host_journal.specs.Pair.{gates_at}
-use Rattle.host_journal.specs.State.{State, is_ready, stored, snapshot_of, snapshot_calls, image_bytes, closing, EachImage, EachSince, IsClosed, IsSound}
+use Rattle.host_journal.specs.State.{State, is_ready, stored, snapshot_of, snapshot_calls, image_bytes, closing, EachImage, IsClosed, IsSound}
 use Rattle.host_journal.specs.Told.{TellsAll, TellsFirst}
 use Rattle.host_journal.specs.declared.pending.Pending.{Pending}
 use Rattle.host_journal.specs.declared.pending.Pending.TheVariants.{Nothing, Unopened, Snapshot}
@@ -17,7 +17,7 @@ use Rattle.host_journal.proofs.RecordLemmas.{Exit}
 use Rattle.host_journal.proofs.StateLemmas.{Ready, ready}
 use Rattle.host_journal.proofs.TakenLemmas.{Fixed, fixed_sound}
 use Rattle.host_journal.proofs.ToldLemmas.{told_part, told_rest}
-use Rattle.host_journal.proofs.TurnLemmas.{Below, Holds, Counts, Either, close_images, close_moments, closed, rest_images, rest_moments, image_put, gate_images, holds_either, gate_moments, gate_opened, kept_since, kept_since_below, kept_stored, turned_each, turned_fixed, turned_counts, turned_durable, sound_closing, sound_closed, sound_held}
+use Rattle.host_journal.proofs.TurnLemmas.{Below, Holds, Either, close_images, close_moments, closed, rest_images, rest_moments, image_put, gate_images, holds_either, gate_moments, gate_opened, kept_since, kept_since_below, kept_stored, turned_each, turned_fixed, turned_counts, turned_durable, sound_closing, sound_closed, sound_held}
 
 -- the place of the gate behind an image
 image_end : (generation : ℕ) (image piece : List ℕ) (start : ℕ) → piece ≡ image_bytes generation image → start ≡ 8 + length piece → start ≡ gates_at image

@@ -1,5 +1,5 @@
 -- A snapshot, from what its calls leave of the disk that doesn't count.
-use Rattle.std.proofs.Common.{◌≡◌, ◌⊎◌, inl, inr, ⊎_elim, ℕ, ◌+◌, ◌≤◌, ◌<◌, ◌^◌, Bool, true, false, not, if◌then◌else◌, List, [], ◌∷◌, ◌++◌, length, take, Result, refl, sym, ◌∙◌, ap, subst, arith}
+use Rattle.std.proofs.Common.{◌≡◌, ◌⊎◌, inl, inr, ⊎_elim, ℕ, ◌+◌, ◌<◌, ◌^◌, Bool, true, false, not, if◌then◌else◌, List, [], ◌∷◌, length, take, Result, refl, sym, ◌∙◌, ap, subst}
 use Rattle.ps_ports.specs.Disk.{written, Torn, Follows, Only, LeavesOnly}
 use Rattle.host_journal.specs.Calls.{PartAfter, KeepsHead}
 use Rattle.host_journal.specs.Pair.{gates_at, pair_of}
@@ -12,7 +12,7 @@ use Rattle.host_journal.proofs.CallLemmas.{leaves_on, leaves_more}
 use Rattle.host_journal.proofs.HeadLemmas.{aside_below}
 use Rattle.host_journal.proofs.PairLemmas.{counts_as, pair_whole}
 use Rattle.host_journal.proofs.SnapshotLemmas.{close_torn, close_written, kept_closed, image_written, image_torn, image_either, image_opened, older_now}
-use Rattle.host_journal.proofs.StateLemmas.{stored_of, stored_in, Since_of, since_in, Ready, stored_is}
+use Rattle.host_journal.proofs.StateLemmas.{stored_in, Since_of, since_in, Ready, stored_is}
 use Rattle.host_journal.proofs.TakenLemmas.{Fixed, fixed_counts, fixed_durable}
 
 turned_in : (second : Bool) (c d : List ℕ) → pair_in second c d ≡ pair_in (not second) d c

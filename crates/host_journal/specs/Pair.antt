@@ -1,5 +1,5 @@
 -- What two disks stand for together.
-use Rattle.std.specs.Prelude.{◌≡◌, ◌==◌, ℕ, ◌+◌, Bool, true, false, if◌then◌else◌, nat_le, List, [], ◌∷◌, ◌++◌, length, drop, Option, Some, None, Result, Ok, Err, refl}
+use Rattle.std.specs.Prelude.{◌≡◌, ◌==◌, ℕ, ◌+◌, Bool, true, false, if◌then◌else◌, nat_le, List, [], ◌∷◌, length, drop, Option, Some, None, Result, Ok, Err, refl}
 use Rattle.host_journal.specs.Format.{magic, open_head, agreeing, stands, Body, body_of, record_bytes, records_of}
 use Rattle.host_journal.specs.declared.reading.Counted.{Counted}
 use Rattle.host_journal.specs.declared.reading.Place.{Place}

@@ -1,6 +1,5 @@
 -- What a `reload` finds.
-use Rattle.std.specs.Prelude.{⊤, ◌≡◌, ◌==◌, ℕ, Bool, if◌then◌else◌, slice_index_or, List, Option}
-use Rattle.ps_ports.specs.declared.disk.DiskCall.{DiskCall}
+use Rattle.std.specs.Prelude.{⊤, ◌≡◌, ◌==◌, ℕ, if◌then◌else◌, slice_index_or, List}
 use Rattle.host_journal.specs.declared.pending.Pending.{Pending}
 use Rattle.host_journal.specs.declared.pending.Pending.TheVariants.{Nothing, Unopened, Record, Snapshot}
 use Rattle.host_journal.specs.declared.reload.Stood.{Stood}

@@ -1,4 +1,4 @@
-use Rattle.std.proofs.Common.{◌≤◌, ℕ, List, [], ◌∷◌, take, length, arith}
+use Rattle.std.proofs.Common.{[], ◌∷◌, arith}
 use Rattle.ps_ports.specs.Images.{nothing_is_part}
 use Rattle.ps_ports.specs.declared.disk.DiskCall.TheVariants.{Cut, Sync}
 use Rattle.host_journal.proofs.CallLemmas.{after_part, after_sync, on_err, tells_on}

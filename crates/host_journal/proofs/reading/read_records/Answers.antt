@@ -1,4 +1,4 @@
-use Rattle.std.proofs.Common.{◌≡◌, sym, ◌∙◌, ap, subst, length, List, [], ◌∷◌, ◌++◌, ℕ}
+use Rattle.std.proofs.Common.{sym, ◌∙◌, ap, subst, List, [], ◌∷◌, ◌++◌, ℕ}
 use Rattle.host_journal.proofs.FormatLemmas.{Walking, walking_step}
 use Rattle.host_journal.proofs.reading.read_records.Goals as goal
 

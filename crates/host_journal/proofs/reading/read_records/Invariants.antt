@@ -1,4 +1,4 @@
-use Rattle.std.proofs.Common.{ℕ, length}
+use Rattle.std.proofs.Common.{length}
 use Rattle.host_journal.proofs.FormatLemmas.{Walking}
 use Rattle.host_journal.proofs.reading.read_records.Given as goal
 

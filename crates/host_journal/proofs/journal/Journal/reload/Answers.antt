@@ -1,8 +1,7 @@
-use Rattle.std.proofs.Common.{◌≡◌, ℕ, ◌+◌, ◌<◌, ◌^◌, List, false, true, refl, sym, ◌∙◌, ap, subst, arith}
+use Rattle.std.proofs.Common.{refl, sym, ◌∙◌, ap, subst, arith}
 use Rattle.std.specs.Vec.{vec_capacity}
 use Rattle.host_journal.specs.Reload.{IsOf}
 use Rattle.host_journal.specs.State.{State, stored, has_record, AreWithin}
-use Rattle.host_journal.specs.declared.pending.Pending.{Pending}
 use Rattle.host_journal.proofs.TakenLemmas.{fixed_place, fixed_durable, fixed_sound}
 use Rattle.host_journal.proofs.ReloadLemmas.{neither, recorded, snapped, fixed_neither, fixed_recorded, fixed_snapped, answer_neither, answer_recorded}
 use Rattle.host_journal.proofs.journal.Journal.reload.Goals as goal

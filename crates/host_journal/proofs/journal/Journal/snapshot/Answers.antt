@@ -1,4 +1,4 @@
-use Rattle.std.proofs.Common.{◌≡◌, ℕ, ◌+◌, ◌-◌, ◌<◌, ◌≤◌, ◌^◌, List, length, sym, ◌∙◌, ap, arith}
+use Rattle.std.proofs.Common.{◌+◌, length, ◌∙◌, ap, arith}
 use Rattle.std.specs.Vec.{vec_capacity}
 use Rattle.host_journal.specs.State.{State}
 use Rattle.host_journal.proofs.CallLemmas.{on_err}
