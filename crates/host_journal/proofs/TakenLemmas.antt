@@ -28,7 +28,7 @@ module _ {D : Type 0} (seen : D → List ℕ) (may_leave : D → List ℕ → Ty
   fixed_durable =
       images_in may_leave s.second s.counting s.other (λ pair. pair ≡ stored seen s)
       (λ c d now now_other.
-          ap (λ (b : List ℕ). pair_in s.second b d) (fixed.only c now) ∙ ap (pair_in s.second (seen s.counting)) (fixed.only_other d now_other) ∙ sym (stored_in seen s.second s.counting s.other))
+      ap (λ (b : List ℕ). pair_in s.second b d) (fixed.only c now) ∙ ap (pair_in s.second (seen s.counting)) (fixed.only_other d now_other) ∙ sym (stored_in seen s.second s.counting s.other))
 
   pub fixed_sound : s.pending ≡ Nothing → IsSound seen may_leave s
   fixed_sound is = record {

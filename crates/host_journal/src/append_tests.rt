@@ -50,7 +50,12 @@ pub fn add(journal: &mut Journal<MemoryDisk>, payload: &[u8]) -> Result<bool, Me
 }
 
 // The pair stands for this list, and after one more append of 03 for that record too.
-pub fn stands_for(alloc: Global, pair: Pair, wanted: &[&[u8]], more: &[&[u8]]) -> Result<bool, Fail> {
+pub fn stands_for(
+    alloc: Global,
+    pair: Pair,
+    wanted: &[&[u8]],
+    more: &[&[u8]],
+) -> Result<bool, Fail> {
     let Some((mut journal, list)) = opened(alloc, pair) else {
         return Ok(false);
     };

@@ -34,7 +34,8 @@ fn snap(journal: &mut Journal<MemoryDisk>, image: &[u8]) -> Result<bool, Memory>
 const ONE_RECORD: [u8; 29] = *b"PSCHJRN1\x01\0\0\0\0\0\0\0\x01\0\0\0\0\x01\0\0\0\x02\x01\x02\0";
 
 // Generation 1 too, so that it counts for nothing beside the first disk.
-const OLDER: [u8; 30] = *b"PSCHJRN1\x01\0\0\0\0\0\0\0\x01\0\0\0\x08\x01\x02\x03\x04\x05\x06\x07\x08\0";
+const OLDER: [u8; 30] =
+    *b"PSCHJRN1\x01\0\0\0\0\0\0\0\x01\0\0\0\x08\x01\x02\x03\x04\x05\x06\x07\x08\0";
 
 // A snapshot of ab, of generation 2 and of generation 3.
 const SECOND_IMAGE: [u8; 23] = *b"PSCHJRN1\x01\0\0\0\0\0\0\0\x02\0\0\0\x01\xab\0";

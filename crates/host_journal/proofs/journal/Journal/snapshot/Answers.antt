@@ -6,9 +6,13 @@ use Rattle.host_journal.proofs.TurnExits.{closing_exit, putting_exit, opening_ex
 use Rattle.host_journal.proofs.journal.Journal.snapshot.Goals as goal
 
 pub invariant_of-self : goal.invariant_of-self
-invariant_of-self g c =
-    (c.self.invariant.0, c.self.invariant.1, λ p. (closing_exit g.D.Disk.seen g.D.Disk.may_leave g.D.Disk.moment g.D.Disk.left_since (λ d. g.met.D.Disk.reads_now d p) (λ d b left. g.met.D.Disk.only_now d b p left)
-    _ _ c.self.view_is c.requires.ready (c.self.invariant.2 p) c.args.image.now (vec_capacity c.put_image.new.buffer) c.close_head.new.disk (c.close_head.ensures.moments p) (c.close_head.ensures.images p)).sound, tt)
+invariant_of-self g c = (
+  c.self.invariant.0,
+  c.self.invariant.1,
+  λ p. (closing_exit g.D.Disk.seen g.D.Disk.may_leave g.D.Disk.moment g.D.Disk.left_since (λ d. g.met.D.Disk.reads_now d p) (λ d b left. g.met.D.Disk.only_now d b p left)
+      _ _ c.self.view_is c.requires.ready (c.self.invariant.2 p) c.args.image.now (vec_capacity c.put_image.new.buffer) c.close_head.new.disk (c.close_head.ensures.moments p) (c.close_head.ensures.images p)).sound,
+  tt,
+)
 
 pub returns-in_err-close_head-clause-any_moment : goal.returns-in_err-close_head-clause-any_moment
 returns-in_err-close_head-clause-any_moment g c p =
@@ -21,10 +25,14 @@ returns-in_err-close_head-clause-one_or_other g c p =
     _ _ c.self.view_is c.requires.ready (c.self.invariant.2 p) c.args.image.now (vec_capacity c.put_image.new.buffer) c.close_head.new.disk (c.close_head.ensures.moments p) (c.close_head.ensures.images p)).now
 
 pub invariant_of-self-in_err-replace_rest : goal.invariant_of-self-in_err-replace_rest
-invariant_of-self-in_err-replace_rest g c =
-    (c.self.invariant.0, c.self.invariant.1, λ p. (putting_exit g.D.Disk.seen g.D.Disk.may_leave g.D.Disk.moment g.D.Disk.left_since (λ d. g.met.D.Disk.reads_now d p) (λ d b left. g.met.D.Disk.only_now d b p left)
-    _ _ c.self.view_is c.requires.ready (c.self.invariant.2 p) c.args.image.now (vec_capacity c.put_image.new.buffer) c.close_head.new.disk (c.close_head.ensures.moments p) (c.close_head.ensures.images p)
-    (c.in_ok-close_head.ensures.written p) (c.in_ok-close_head.ensures.fixed p) c.deref.result.now (c.deref.ensures.value ∙ c.put_image.ensures.items) c.replace_rest.new.disk (c.replace_rest.ensures.images p) (c.replace_rest.ensures.moments p)).sound, tt)
+invariant_of-self-in_err-replace_rest g c = (
+  c.self.invariant.0,
+  c.self.invariant.1,
+  λ p. (putting_exit g.D.Disk.seen g.D.Disk.may_leave g.D.Disk.moment g.D.Disk.left_since (λ d. g.met.D.Disk.reads_now d p) (λ d b left. g.met.D.Disk.only_now d b p left)
+      _ _ c.self.view_is c.requires.ready (c.self.invariant.2 p) c.args.image.now (vec_capacity c.put_image.new.buffer) c.close_head.new.disk (c.close_head.ensures.moments p) (c.close_head.ensures.images p)
+      (c.in_ok-close_head.ensures.written p) (c.in_ok-close_head.ensures.fixed p) c.deref.result.now (c.deref.ensures.value ∙ c.put_image.ensures.items) c.replace_rest.new.disk (c.replace_rest.ensures.images p) (c.replace_rest.ensures.moments p)).sound,
+  tt,
+)
 
 pub returns-in_err-replace_rest-clause-any_moment : goal.returns-in_err-replace_rest-clause-any_moment
 returns-in_err-replace_rest-clause-any_moment g c p =
@@ -39,12 +47,16 @@ returns-in_err-replace_rest-clause-one_or_other g c p =
     (c.in_ok-close_head.ensures.written p) (c.in_ok-close_head.ensures.fixed p) c.deref.result.now (c.deref.ensures.value ∙ c.put_image.ensures.items) c.replace_rest.new.disk (c.replace_rest.ensures.images p) (c.replace_rest.ensures.moments p)).now
 
 pub invariant_of-self-in_err-write_and_sync : goal.invariant_of-self-in_err-write_and_sync
-invariant_of-self-in_err-write_and_sync g c =
-    (c.self.invariant.0, c.self.invariant.1, λ p. (opening_exit g.D.Disk.seen g.D.Disk.may_leave g.D.Disk.moment g.D.Disk.left_since (λ d. g.met.D.Disk.reads_now d p) (λ d b left. g.met.D.Disk.only_now d b p left)
-    _ _ c.self.view_is c.requires.ready (c.self.invariant.2 p) c.args.image.now (vec_capacity c.put_image.new.buffer) c.close_head.new.disk (c.close_head.ensures.moments p) (c.close_head.ensures.images p)
-    (c.in_ok-close_head.ensures.written p) (c.in_ok-close_head.ensures.fixed p) c.deref.result.now (c.deref.ensures.value ∙ c.put_image.ensures.items) c.replace_rest.new.disk (c.replace_rest.ensures.images p) (c.replace_rest.ensures.moments p)
-    (omega (arith, c.requires.generation, ap (λ (s : State _). s.generation) c.self.view_is)) (omega (arith, c.requires.bound)) (c.in_ok-replace_rest.ensures.written p) (c.in_ok-replace_rest.ensures.fixed p) (8 + c.len.result) (omega (arith, c.len.ensures, ap length c.deref.ensures.value))
-    c.write_and_sync.new.disk (c.write_and_sync.ensures.images p) (c.write_and_sync.ensures.moments p)).sound, (omega (arith, c.in_ok-replace_rest.ensures.reach, c.len.ensures, ap length c.deref.ensures.value), omega (arith, c.requires.generation, ap (λ (s : State _). s.generation) c.self.view_is)))
+invariant_of-self-in_err-write_and_sync g c = (
+  c.self.invariant.0,
+  c.self.invariant.1,
+  λ p. (opening_exit g.D.Disk.seen g.D.Disk.may_leave g.D.Disk.moment g.D.Disk.left_since (λ d. g.met.D.Disk.reads_now d p) (λ d b left. g.met.D.Disk.only_now d b p left)
+      _ _ c.self.view_is c.requires.ready (c.self.invariant.2 p) c.args.image.now (vec_capacity c.put_image.new.buffer) c.close_head.new.disk (c.close_head.ensures.moments p) (c.close_head.ensures.images p)
+      (c.in_ok-close_head.ensures.written p) (c.in_ok-close_head.ensures.fixed p) c.deref.result.now (c.deref.ensures.value ∙ c.put_image.ensures.items) c.replace_rest.new.disk (c.replace_rest.ensures.images p) (c.replace_rest.ensures.moments p)
+      (omega (arith, c.requires.generation, ap (λ (s : State _). s.generation) c.self.view_is)) (omega (arith, c.requires.bound)) (c.in_ok-replace_rest.ensures.written p) (c.in_ok-replace_rest.ensures.fixed p) (8 + c.len.result) (omega (arith, c.len.ensures, ap length c.deref.ensures.value))
+      c.write_and_sync.new.disk (c.write_and_sync.ensures.images p) (c.write_and_sync.ensures.moments p)).sound,
+  (omega (arith, c.in_ok-replace_rest.ensures.reach, c.len.ensures, ap length c.deref.ensures.value), omega (arith, c.requires.generation, ap (λ (s : State _). s.generation) c.self.view_is)),
+)
 
 pub returns-in_err-write_and_sync-clause-any_moment : goal.returns-in_err-write_and_sync-clause-any_moment
 returns-in_err-write_and_sync-clause-any_moment g c p =
@@ -63,13 +75,17 @@ returns-in_err-write_and_sync-clause-one_or_other g c p =
     c.write_and_sync.new.disk (c.write_and_sync.ensures.images p) (c.write_and_sync.ensures.moments p)).now
 
 pub invariant_of-self-2 : goal.invariant_of-self-2
-invariant_of-self-2 g c =
-    (omega (arith, c.in_ok-replace_rest.ensures.reach, c.len.ensures, ap length c.deref.ensures.value), omega arith, λ p. (done_exit g.D.Disk.seen g.D.Disk.may_leave g.D.Disk.moment g.D.Disk.left_since (λ d. g.met.D.Disk.reads_now d p) (λ d b left. g.met.D.Disk.only_now d b p left)
-    _ _ c.self.view_is c.requires.ready (c.self.invariant.2 p) c.args.image.now (vec_capacity c.put_image.new.buffer) c.close_head.new.disk (c.close_head.ensures.moments p) (c.close_head.ensures.images p)
-    (c.in_ok-close_head.ensures.written p) (c.in_ok-close_head.ensures.fixed p) c.deref.result.now (c.deref.ensures.value ∙ c.put_image.ensures.items) c.replace_rest.new.disk (c.replace_rest.ensures.images p) (c.replace_rest.ensures.moments p)
-    (omega (arith, c.requires.generation, ap (λ (s : State _). s.generation) c.self.view_is)) (omega (arith, c.requires.bound)) (c.in_ok-replace_rest.ensures.written p) (c.in_ok-replace_rest.ensures.fixed p) (8 + c.len.result) (omega (arith, c.len.ensures, ap length c.deref.ensures.value))
-    c.write_and_sync.new.disk (c.write_and_sync.ensures.images p) (c.write_and_sync.ensures.moments p)
-    (c.in_ok-write_and_sync.ensures.written p) (c.in_ok-write_and_sync.ensures.fixed p) c.swap.new.x c.swap.new.y c.swap.ensures.x_after c.swap.ensures.y_after).sound, tt)
+invariant_of-self-2 g c = (
+  omega (arith, c.in_ok-replace_rest.ensures.reach, c.len.ensures, ap length c.deref.ensures.value),
+  omega arith,
+  λ p. (done_exit g.D.Disk.seen g.D.Disk.may_leave g.D.Disk.moment g.D.Disk.left_since (λ d. g.met.D.Disk.reads_now d p) (λ d b left. g.met.D.Disk.only_now d b p left)
+      _ _ c.self.view_is c.requires.ready (c.self.invariant.2 p) c.args.image.now (vec_capacity c.put_image.new.buffer) c.close_head.new.disk (c.close_head.ensures.moments p) (c.close_head.ensures.images p)
+      (c.in_ok-close_head.ensures.written p) (c.in_ok-close_head.ensures.fixed p) c.deref.result.now (c.deref.ensures.value ∙ c.put_image.ensures.items) c.replace_rest.new.disk (c.replace_rest.ensures.images p) (c.replace_rest.ensures.moments p)
+      (omega (arith, c.requires.generation, ap (λ (s : State _). s.generation) c.self.view_is)) (omega (arith, c.requires.bound)) (c.in_ok-replace_rest.ensures.written p) (c.in_ok-replace_rest.ensures.fixed p) (8 + c.len.result) (omega (arith, c.len.ensures, ap length c.deref.ensures.value))
+      c.write_and_sync.new.disk (c.write_and_sync.ensures.images p) (c.write_and_sync.ensures.moments p)
+      (c.in_ok-write_and_sync.ensures.written p) (c.in_ok-write_and_sync.ensures.fixed p) c.swap.new.x c.swap.new.y c.swap.ensures.x_after c.swap.ensures.y_after).sound,
+  tt,
+)
 
 pub returns-clause-any_moment : goal.returns-clause-any_moment
 returns-clause-any_moment g c p =
