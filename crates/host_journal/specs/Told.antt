@@ -1,6 +1,7 @@
 -- The calls that disks tell.
-use Rattle.std.specs.Prelude.{◌≡◌, ◌≤◌, ℕ, List, ◌++◌, length, take, Option, IfSome, Some}
+use Rattle.std.specs.Prelude.{◌≡◌, ◌⊎◌, ◌≤◌, ℕ, List, [], ◌∷◌, ◌++◌, length, take, Option, IfSome, Some}
 use Rattle.ps_ports.specs.declared.disk.DiskCall.{DiskCall}
+use Rattle.ps_ports.specs.declared.disk.DiskCall.TheVariants.{Sync}
 
 -- where the disk tells its calls it told those before, and then these
 abbrev pub TellsAll : Option (List DiskCall) → Option (List DiskCall) → List DiskCall → Type 0
@@ -9,3 +10,8 @@ TellsAll old now made = IfSome now (λ calls. (before : List DiskCall) × (old �
 -- the first of these, up to the one that failed
 abbrev pub TellsFirst : Option (List DiskCall) → Option (List DiskCall) → List DiskCall → Type 0
 TellsFirst old now made = (n : ℕ) × (1 ≤ n) × (n ≤ length made) × TellsAll old now (take n made)
+
+-- of two disks one was synced, and then the other, or not that one
+abbrev pub TellsSyncs : {D : Type 0} → (D → Option (List DiskCall)) → D → D → D → D → Type 0
+TellsSyncs told one other one_new other_new =
+    TellsAll (told one) (told one_new) (Sync ∷ []) × ((told other_new ≡ told other) ⊎ TellsAll (told other) (told other_new) (Sync ∷ []))

@@ -3,7 +3,7 @@ ghost use Rattle.std.specs.Prelude.{◌≡◌, ◌+◌, ◌≤◌, ◌<◌, ◌^
 ghost use Rattle.ps_ports.specs.Disk.{written, Torn, Shortened, Follows, Only, LeavesOnly};
 ghost use Rattle.ps_ports.specs.Causes.{Rose};
 ghost use Rattle.ps_ports.specs.declared.disk.DiskCall.TheVariants.{Write, Cut, Sync};
-ghost use Rattle.host_journal.specs.Told.{TellsAll, TellsFirst};
+ghost use Rattle.host_journal.specs.Told.{TellsAll, TellsFirst, TellsSyncs};
 ghost use Rattle.host_journal.specs.Calls.{PartAfter, KeepsHead, IsRead};
 
 use crate::fault::{DiskFault, OpenReason};
@@ -115,6 +115,7 @@ pub fn sync_both<D: Disk>(one: &mut D, other: &mut D) -> Result<(), DiskFault>
     ensures read_other { D.premise → IsRead D.seen D.may_leave D.moment D.left_since other.old other.new }
     ensures told_one { OnOk result (TellsAll (D.told one.old) (D.told one.new) (Sync ∷ [])) }
     ensures told_other { OnOk result (TellsAll (D.told other.old) (D.told other.new) (Sync ∷ [])) }
+    ensures told_err { OnErr result (TellsSyncs D.told one.old other.old one.new other.new) }
     ensures later_one { D.disk_faults one.old ≤ D.disk_faults one.new }
     ensures later_other { D.disk_faults other.old ≤ D.disk_faults other.new }
     ensures cause { OnErr result (Rose (D.disk_faults one.old) (D.disk_faults one.new) ⊎ Rose (D.disk_faults other.old) (D.disk_faults other.new)) }

@@ -1,12 +1,12 @@
 //! Taking a journal up after a call that failed.
-ghost use Rattle.std.specs.Prelude.{◌≡◌, ◌⊎◌, ◌∷◌, [], ◌≤◌, false, IsTrue, IfOk, OnOk, OnErr};
+ghost use Rattle.std.specs.Prelude.{◌≡◌, ◌⊎◌, ◌∷◌, [], ◌≤◌, false, if◌then◌else◌, IsTrue, IfOk, OnOk, OnErr};
 ghost use Rattle.ps_ports.specs.Causes.{Rose};
 ghost use Rattle.ps_ports.specs.Disk.{Only};
 ghost use Rattle.ps_ports.specs.declared.disk.DiskCall.TheVariants.{Sync};
 ghost use Rattle.host_journal.specs.Calls.{IsRead};
 ghost use Rattle.host_journal.specs.Reload.{stood_of, IsOf};
 ghost use Rattle.host_journal.specs.State.{is_ready, stored, has_record, EachImage, IsAt, first_disk, second_disk};
-ghost use Rattle.host_journal.specs.Told.{TellsAll};
+ghost use Rattle.host_journal.specs.Told.{TellsAll, TellsSyncs};
 
 use crate::disk_calls::{is_open_at, sync_both};
 use crate::fault::DiskFault;
@@ -43,6 +43,7 @@ impl<D: Disk> Journal<D> {
         ensures room { self.new.room ≡ self.old.room }
         ensures told_first { OnOk result (TellsAll (D.told (first_disk self.old)) (D.told (first_disk self.new)) (Sync ∷ [])) }
         ensures told_second { OnOk result (TellsAll (D.told (second_disk self.old)) (D.told (second_disk self.new)) (Sync ∷ [])) }
+        ensures told_err { OnErr result (TellsSyncs D.told (first_disk self.old) (second_disk self.old) (first_disk self.new) (second_disk self.new)) }
         ensures cause { OnErr result (Rose (D.disk_faults (first_disk self.old)) (D.disk_faults (first_disk self.new)) ⊎ Rose (D.disk_faults (second_disk self.old)) (D.disk_faults (second_disk self.new))) }
     {
         let stood = find_stood(
@@ -91,6 +92,7 @@ fn find_stood<D: Disk>(
     ensures read_other { D.premise → IsRead D.seen D.may_leave D.moment D.left_since other.old other.new }
     ensures told { OnOk result (TellsAll (D.told counting.old) (D.told counting.new) (Sync ∷ [])) }
     ensures told_other { OnOk result (TellsAll (D.told other.old) (D.told other.new) (Sync ∷ [])) }
+    ensures told_err { OnErr result (TellsSyncs D.told (if second then other.old else counting.old) (if second then counting.old else other.old) (if second then other.new else counting.new) (if second then counting.new else other.new)) }
     ensures cause { OnErr result (Rose (D.disk_faults counting.old) (D.disk_faults counting.new) ⊎ Rose (D.disk_faults other.old) (D.disk_faults other.new)) }
 {
     sync_in_order(second, counting, other)?;
@@ -104,6 +106,7 @@ fn sync_in_order<D: Disk>(second: bool, counting: &mut D, other: &mut D) -> Resu
     ensures read_other { D.premise → IsRead D.seen D.may_leave D.moment D.left_since other.old other.new }
     ensures told { OnOk result (TellsAll (D.told counting.old) (D.told counting.new) (Sync ∷ [])) }
     ensures told_other { OnOk result (TellsAll (D.told other.old) (D.told other.new) (Sync ∷ [])) }
+    ensures told_err { OnErr result (TellsSyncs D.told (if second then other.old else counting.old) (if second then counting.old else other.old) (if second then other.new else counting.new) (if second then counting.new else other.new)) }
     ensures later { D.disk_faults counting.old ≤ D.disk_faults counting.new }
     ensures later_other { D.disk_faults other.old ≤ D.disk_faults other.new }
     ensures cause { OnErr result (Rose (D.disk_faults counting.old) (D.disk_faults counting.new) ⊎ Rose (D.disk_faults other.old) (D.disk_faults other.new)) }
