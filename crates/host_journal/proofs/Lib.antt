@@ -14,3 +14,4 @@ mod TakenLemmas
 mod ToldLemmas
 mod TurnExits
 mod TurnLemmas
+pub mod OursLemmas

@@ -1,20 +1,33 @@
 -- What holds at each exit of a call that adds a record, or cuts what lies behind the last.
-use Rattle.std.proofs.Common.{◌≡◌, ◌⊎◌, inl, inr, ℕ, ◌+◌, ◌≤◌, true, List, [], ◌∷◌, ◌++◌, length, Result, refl, sym, ◌∙◌, ap, subst, arith, length-append}
+use Rattle.std.proofs.Common.{◌≡◌, ◌≢◌, ◌⊎◌, inl, inr, ℕ, ◌+◌, ◌≤◌, Bool, true, false, List, [], ◌∷◌, ◌++◌, length, Result, refl, sym, ◌∙◌, ap, subst, arith, length-append}
 use Rattle.std.specs.Int.{w32, to_be_bytes}
 use Rattle.ps_ports.specs.Disk.{written, Torn, Shortened, Follows, Only, LeavesOnly}
 use Rattle.host_journal.specs.Calls.{PartAfter}
-use Rattle.host_journal.specs.State.{State, is_ready, stored, with_record, EachImage, EachSince, IsWhole, IsSound}
+use Rattle.host_journal.specs.State.{State, is_ready, stored, with_record, has_record, which, EachImage, EachSince, IsWhole, IsSound}
 use Rattle.host_journal.specs.declared.pending.Pending.{Pending}
 use Rattle.host_journal.specs.declared.pending.Pending.TheVariants.{Nothing, Unopened, Record}
 use Rattle.host_journal.specs.declared.reading.Counted.{Counted}
 use Rattle.host_journal.specs.declared.reading.Place.{Place}
 use Rattle.host_journal.proofs.AppendLemmas.{whole_torn, whole_cut}
 use Rattle.host_journal.proofs.CallLemmas.{leaves_more}
-use Rattle.host_journal.proofs.StateLemmas.{Ready, ready, Has, Either, Staged, staged, gate_images, staged_is_either, gate_moments, gate_opened, each_since, is_or_has, now_has, each_has, each_since_same, now_same, each_same, sound_unopened, sound_record, sound_nothing}
+use Rattle.host_journal.proofs.FormatLemmas.{eq_true, ne_false}
+use Rattle.host_journal.proofs.PairLemmas.{counts_as}
+use Rattle.host_journal.proofs.StateLemmas.{Ready, ready, stored_is, Has, Either, Staged, staged, gate_images, staged_is_either, gate_moments, gate_opened, each_since, is_or_has, now_has, each_has, each_since_same, now_same, each_same, sound_unopened, sound_record, sound_nothing}
 
 -- another disk counts in its place
 abbrev pub moved : {D : Type 0} → State D → D → ℕ → Pending → ℕ → State D
 moved s counting end pending room = record { counting = counting; other = s.other; second = s.second; generation = s.generation; start = s.start; end = end; shut = s.shut; pending = pending; room = room }
+
+-- A record stands where the last gate does.
+which_is : (payload : List ℕ) (second : Bool) (generation start end next : ℕ) (list : List (List ℕ)) (old pair : Result Counted Place) → old ≡ counts_as second generation start end list
+    → next ≡ end + 5 + length payload → (pair ≡ old) ⊎ (pair ≡ with_record payload old) → pair ≡ which payload (has_record (Record next) pair) old
+which_is payload second generation start end next list old pair is_old is_next (inl same) =
+    let less : end ≢ next = λ at_once. absurd (omega (arith, at_once, is_next)) in
+    let no : has_record (Record next) pair ≡ false = ap (has_record (Record next)) (same ∙ is_old) ∙ ne_false end next less in
+    same ∙ sym (ap (λ (t : Bool). which payload t old) no)
+which_is payload second generation start end next list old pair is_old is_next (inr more) =
+    let yes : has_record (Record next) pair ≡ true = ap (has_record (Record next)) (more ∙ ap (with_record payload) is_old) ∙ eq_true (end + 5 + length payload) next (sym is_next) in
+    more ∙ sym (ap (λ (t : Bool). which payload t old) yes)
 
 -- the invariant, what a read gives, and every image of every moment
 pub record Exit {D : Type 0} (seen : D → List ℕ) (may_leave : D → List ℕ → Type 0) (moment : D → ℕ) (left_since : D → ℕ → List ℕ → Type 0) (old new : State D) (P : Result Counted Place → Type 0) : Type 0 where
@@ -93,11 +106,14 @@ module _ {D : Type 0} (seen : D → List ℕ) (may_leave : D → List ℕ → Ty
       behind_moments = leaves_more moment left_since s.counting mid (PartAfter (Torn (s.end + 1) (length piece)) (may_leave s.counting)) Whole moments (λ d from. behind_whole from.0 d from.1 from.2)
 
       -- it fails before the gate
+      pub unopened_same : Torn (s.end + 1) (length piece) (seen s.counting) (seen mid) → stored seen (moved s mid s.end Unopened room) ≡ stored seen old
+      unopened_same part = now_same seen may_leave moment left_since reads_now only_now s was_ready mid (behind_whole (seen s.counting) (seen mid) (reads_now s.counting) part) ∙ ap (stored seen) is
+
       pub append_unopened : Torn (s.end + 1) (length piece) (seen s.counting) (seen mid) → Follows (Torn (s.end + 1) (length piece)) (may_leave s.counting) (may_leave mid)
           → Exit seen may_leave moment left_since old (moved s mid s.end Unopened room) (OrMore old)
       append_unopened part follows = record {
         sound = sound_unopened seen may_leave moment left_since reads_now only_now s was_ready mid room (λ d now. let from = follows d now in behind_whole from.0 d from.1 from.2);
-        now = inl (now_same seen may_leave moment left_since reads_now only_now s was_ready mid (behind_whole (seen s.counting) (seen mid) (reads_now s.counting) part) ∙ ap (stored seen) is);
+        now = inl (unopened_same part);
         since = record_since mid s.end Unopened (leaves_more moment left_since s.counting mid Whole Held behind_moments (λ d whole. inl whole));
       }
 
@@ -132,6 +148,12 @@ module _ {D : Type 0} (seen : D → List ℕ) (may_leave : D → List ℕ → Ty
                   (staged_is_either seen may_leave moment left_since reads_now only_now s was_ready payload mid is_staged only new (seen new) (images (seen new) (reads_now new))));
               since = gate_since s.end (Record end);
             }
+
+        pub gate_which : Follows (Torn s.end 1) (may_leave mid) (may_leave new)
+            → stored seen (moved s new s.end (Record end) room) ≡ which payload (has_record (Record end) (stored seen (moved s new s.end (Record end) room))) (stored seen old)
+        gate_which follows =
+            which_is payload s.second s.generation s.start s.end end was_ready.list (stored seen old) (stored seen (moved s new s.end (Record end) room))
+            (ap (stored seen) (sym is) ∙ stored_is seen may_leave moment left_since reads_now only_now s was_ready) is_end (append_at_gate follows).now
 
         -- it is done
         module _ (gate_made : seen new ≡ written s.end (1 ∷ []) (seen mid)) (only_new : Only (seen new) (may_leave new)) where

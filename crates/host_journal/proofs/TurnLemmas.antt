@@ -15,7 +15,7 @@ use Rattle.host_journal.proofs.SnapshotLemmas.{close_torn, close_written, kept_c
 use Rattle.host_journal.proofs.StateLemmas.{stored_in, Since_of, since_in, Ready, stored_is}
 use Rattle.host_journal.proofs.TakenLemmas.{Fixed, fixed_counts, fixed_durable}
 
-turned_in : (second : Bool) (c d : List ℕ) → pair_in second c d ≡ pair_in (not second) d c
+pub turned_in : (second : Bool) (c d : List ℕ) → pair_in second c d ≡ pair_in (not second) d c
 turned_in false c d = refl
 turned_in true c d = refl
 

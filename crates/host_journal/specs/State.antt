@@ -65,9 +65,9 @@ abbrev pub IsAt : {D : Type 0} → State D → Result Counted Place → Type 0
 IsAt s (Ok k) = (k.second ≡ s.second) × (k.generation ≡ s.generation) × (k.start ≡ s.start) × (k.end ≡ s.end)
 IsAt s (Err place) = ⊥
 
--- one of ours: the two stand for something
-abbrev pub IsOurs : List ℕ → List ℕ → Type 0
-IsOurs first second = (k : Counted) × (pair_of first second ≡ Ok k)
+-- one of ours: two disks that stand for something
+abbrev pub IsOurs : Result Counted Place → Type 0
+IsOurs pair = (k : Counted) × (pair ≡ Ok k)
 
 -- a disk that stands, with this generation and this list: a snapshot, and then records
 pub record Stands (generation : ℕ) (list : List (List ℕ)) (bytes : List ℕ) : Type 0 where
@@ -227,6 +227,10 @@ has_record (Record next) (Err place) = false
 has_record Nothing pair = false
 has_record Unopened pair = false
 has_record (Snapshot start) pair = false
+
+-- what the disks stand for with this record, where it stands, or without it
+abbrev pub which : List ℕ → Bool → Result Counted Place → Result Counted Place
+which payload stood before = if stood then with_record payload before else before
 
 -- after a snapshot: the other disk, of the next generation, with it and no record
 abbrev pub snapshot_of : {D : Type 0} → List ℕ → State D → Result Counted Place

@@ -1,9 +1,9 @@
 //! Records: adding one, and cutting off what lies behind the last.
-ghost use Rattle.std.specs.Prelude.{◌≡◌, ◌⊎◌, ◌+◌, ◌≤◌, ◌<◌, ◌^◌, ◌∷◌, ◌++◌, [], IsTrue, length, OnOk, OnErr, vec_capacity};
+ghost use Rattle.std.specs.Prelude.{◌≡◌, ◌⊎◌, ◌+◌, ◌≤◌, ◌<◌, ◌^◌, ◌∷◌, ◌++◌, [], false, IsTrue, length, OnOk, OnErr, vec_capacity};
 ghost use Rattle.std.specs.Int.{w32, to_be_bytes};
 ghost use Rattle.ps_ports.specs.Causes.{Rose};
 ghost use Rattle.ps_ports.specs.declared.disk.DiskCall.TheVariants.{Cut, Sync};
-ghost use Rattle.host_journal.specs.State.{is_ready, stored, with_record, EachImage, EachSince, KeepsPlace, append_calls};
+ghost use Rattle.host_journal.specs.State.{is_ready, stored, with_record, EachImage, EachSince, KeepsPlace, append_calls, which, has_record};
 ghost use Rattle.host_journal.specs.Told.{TellsAll, TellsFirst};
 
 use crate::disk_calls::{cut_and_sync, write_and_sync};
@@ -22,10 +22,13 @@ impl<D: Disk> Journal<D> {
         ensures durable { D.premise → OnOk result (EachImage D.may_leave self.new (λ pair. pair ≡ stored D.seen self.new)) }
         ensures any_moment { D.premise → EachSince D.moment D.left_since self.old self.new (λ pair. (pair ≡ stored D.seen self.old) ⊎ (pair ≡ with_record payload.now (stored D.seen self.old))) }
         ensures whole_or_not { D.premise → (stored D.seen self.new ≡ stored D.seen self.old) ⊎ (stored D.seen self.new ≡ with_record payload.now (stored D.seen self.old)) }
+        // After a fault the record stands exactly where `reload` is to answer so.
+        ensures which { D.premise → OnErr result (stored D.seen self.new ≡ which payload.now (has_record self.new.pending (stored D.seen self.new)) (stored D.seen self.old)) }
         ensures other { self.new.other ≡ self.old.other }
         ensures kept { KeepsPlace self.old self.new }
         ensures end { OnOk result ((self.new.end ≡ self.old.end + 5 + length payload.now) × IsTrue (is_ready self.new.pending)) }
         ensures end_err { OnErr result (self.new.end ≡ self.old.end) }
+        ensures failed { OnErr result (is_ready self.new.pending ≡ false) }
         ensures told { OnOk result (TellsAll (D.told self.old.counting) (D.told self.new.counting) (append_calls self.old.end payload.now)) }
         ensures told_first { OnErr result (TellsFirst (D.told self.old.counting) (D.told self.new.counting) (append_calls self.old.end payload.now)) }
         ensures later { D.disk_faults self.old.counting ≤ D.disk_faults self.new.counting }
@@ -53,6 +56,7 @@ impl<D: Disk> Journal<D> {
         ensures kept { KeepsPlace self.old self.new }
         ensures end { self.new.end ≡ self.old.end }
         ensures ready { OnOk result (IsTrue (is_ready self.new.pending)) }
+        ensures failed { OnErr result (is_ready self.new.pending ≡ false) }
         ensures told { OnOk result (TellsAll (D.told self.old.counting) (D.told self.new.counting) (Cut (self.old.end + 1) ∷ Sync ∷ [])) }
         ensures told_first { OnErr result (TellsFirst (D.told self.old.counting) (D.told self.new.counting) (Cut (self.old.end + 1) ∷ Sync ∷ [])) }
         ensures later { D.disk_faults self.old.counting ≤ D.disk_faults self.new.counting }

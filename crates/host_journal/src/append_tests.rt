@@ -1,6 +1,7 @@
 //! Records: bytes worked out by hand, stops and faults at each disk call, and one more append after
 //! each of them.
 use crate::journal::Journal;
+use crate::tests::is_list;
 use ps_ports::image::Image;
 use ps_ports::memory_disk::MemoryDisk;
 use ps_ports::rack::{FRESH_FIRST, FRESH_SECOND};
@@ -12,7 +13,7 @@ use std::test::Fail;
 
 type Pair = (MemoryDisk, MemoryDisk);
 
-fn pair_of(alloc: Global, first: &[u8]) -> Result<Pair, AllocError> {
+pub fn pair_of(alloc: Global, first: &[u8]) -> Result<Pair, AllocError> {
     let first = first.to_vec(alloc)?;
     let second = FRESH_SECOND.to_vec(alloc)?;
     Ok((
@@ -26,18 +27,6 @@ pub fn opened(alloc: Global, pair: Pair) -> Option<(Journal<MemoryDisk>, Items<I
         Ok(found) => Some(found),
         Err(_fault) => None,
     }
-}
-
-fn is_list(list: &Items<Items<u8>>, wanted: &[&[u8]]) -> bool {
-    if list.len() != wanted.len() {
-        return false;
-    }
-    for (item, bytes) in list.as_slice().iter().zip(wanted) {
-        if item.as_slice() != *bytes {
-            return false;
-        }
-    }
-    true
 }
 
 // Whether it was `Ok`.

@@ -6,7 +6,7 @@ ghost use Rattle.ps_ports.specs.MemoryDisk.{armed, armed_number};
 ghost use Rattle.host_journal.specs.Calls.{IsRead};
 ghost use Rattle.host_journal.specs.Format.{stands};
 ghost use Rattle.host_journal.specs.Pair.{pair_of};
-ghost use Rattle.host_journal.specs.State.{is_ready, stored, opened_as, EachImage, IsAt, SameButRoom, first_disk, second_disk};
+ghost use Rattle.host_journal.specs.State.{is_ready, stored, opened_as, EachImage, IsAt, IsOurs, SameButRoom, first_disk, second_disk};
 
 use crate::disk_calls::read_whole;
 use crate::fault::{OpenFault, OpenReason};
@@ -112,8 +112,10 @@ impl<D: Disk> Journal<D> {
         in_order(self.second, self.counting, self.other)
     }
 
-    /// What is known of a journal whose last call was `Ok`. Does nothing.
+    /// What is known of a journal, and what more of one whose last call was `Ok`. Does nothing.
     pub fn known(&self)
+        // Whatever a crash leaves isn't refused as no journal.
+        ensures ours { D.premise → EachImage D.may_leave self.now IsOurs }
         ensures place { D.premise → IsTrue (is_ready self.now.pending) → IsAt self.now (stored D.seen self.now) }
         ensures durable { D.premise → IsTrue (is_ready self.now.pending) → EachImage D.may_leave self.now (λ pair. pair ≡ stored D.seen self.now) }
         ensures order { self.now.start ≤ self.now.end }

@@ -7,6 +7,8 @@ mod append_tests;
 mod disk_calls;
 pub mod fault;
 pub mod journal;
+#[cfg(test)]
+mod keeper_tests;
 pub mod pending;
 pub mod reading;
 pub mod reload;

@@ -25,7 +25,7 @@ const SNAPSHOT: [u8; 23] = *b"PSCHJRN1\x01\0\0\0\0\0\0\0\x02\0\0\0\x01\xab\0";
 const TWO_RECORDS: [u8; 34] =
     *b"PSCHJRN1\x01\0\0\0\0\0\0\0\x01\0\0\0\x01\xab\x01\0\0\0\0\x01\0\0\0\x01\x09\0";
 
-fn is_list(list: &Items<Items<u8>>, wanted: &[&[u8]]) -> bool {
+pub fn is_list(list: &Items<Items<u8>>, wanted: &[&[u8]]) -> bool {
     if list.len() != wanted.len() {
         return false;
     }

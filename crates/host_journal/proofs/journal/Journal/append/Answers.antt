@@ -1,6 +1,6 @@
 use Rattle.std.proofs.Common.{◌∙◌, ap, arith, length}
 use Rattle.host_journal.proofs.CallLemmas.{on_err}
-use Rattle.host_journal.proofs.RecordLemmas.{append_unopened, append_at_gate, append_done, appended, append_durable}
+use Rattle.host_journal.proofs.RecordLemmas.{append_unopened, unopened_same, append_at_gate, gate_which, append_done, appended, append_durable}
 use Rattle.host_journal.proofs.ToldLemmas.{append_told_behind, append_told_gate}
 use Rattle.host_journal.proofs.journal.Journal.append.Goals as goal
 
@@ -19,6 +19,10 @@ returns-in_err-write_and_sync-clause-any_moment g c p =
 pub returns-in_err-write_and_sync-clause-whole_or_not : goal.returns-in_err-write_and_sync-clause-whole_or_not
 returns-in_err-write_and_sync-clause-whole_or_not g c p =
     (append_unopened g.D.Disk.seen g.D.Disk.may_leave g.D.Disk.moment g.D.Disk.left_since (λ d. g.met.D.Disk.reads_now d p) (λ d b left. g.met.D.Disk.only_now d b p left) _ _ c.self.view_is c.requires.ready (c.self.invariant.2 p) c.write_and_sync.new.disk 0 c.args.payload.now c.deref.result.now (c.deref.ensures.value ∙ c.put_record.ensures.items) c.write_and_sync.new.disk (c.write_and_sync.ensures.moments p) (c.write_and_sync.ensures.part p) (c.write_and_sync.ensures.images p)).now
+
+pub returns-in_err-write_and_sync-clause-which : goal.returns-in_err-write_and_sync-clause-which
+returns-in_err-write_and_sync-clause-which g c p =
+    on_err _ c.from_residual.result (unopened_same g.D.Disk.seen g.D.Disk.may_leave g.D.Disk.moment g.D.Disk.left_since (λ d. g.met.D.Disk.reads_now d p) (λ d b left. g.met.D.Disk.only_now d b p left) _ _ c.self.view_is c.requires.ready (c.self.invariant.2 p) c.write_and_sync.new.disk 0 c.args.payload.now c.deref.result.now (c.deref.ensures.value ∙ c.put_record.ensures.items) c.write_and_sync.new.disk (c.write_and_sync.ensures.moments p) (c.write_and_sync.ensures.part p))
 
 pub returns-in_err-write_and_sync-clause-told_first : goal.returns-in_err-write_and_sync-clause-told_first
 returns-in_err-write_and_sync-clause-told_first g c =
@@ -39,6 +43,10 @@ returns-in_err-write_and_sync-2-clause-any_moment g c p =
 pub returns-in_err-write_and_sync-2-clause-whole_or_not : goal.returns-in_err-write_and_sync-2-clause-whole_or_not
 returns-in_err-write_and_sync-2-clause-whole_or_not g c p =
     (append_at_gate g.D.Disk.seen g.D.Disk.may_leave g.D.Disk.moment g.D.Disk.left_since (λ d. g.met.D.Disk.reads_now d p) (λ d b left. g.met.D.Disk.only_now d b p left) _ _ c.self.view_is c.requires.ready (c.self.invariant.2 p) c.write_and_sync-2.new.disk 0 c.args.payload.now c.deref.result.now (c.deref.ensures.value ∙ c.put_record.ensures.items) c.write_and_sync.new.disk (c.write_and_sync.ensures.moments p) c.requires.bound (c.in_ok-write_and_sync.ensures.written p) (c.in_ok-write_and_sync.ensures.fixed p) (c.write_and_sync-2.ensures.moments p) c.len.result (omega (arith, c.len.ensures, ap length c.deref.ensures.value)) (c.write_and_sync-2.ensures.images p)).now
+
+pub returns-in_err-write_and_sync-2-clause-which : goal.returns-in_err-write_and_sync-2-clause-which
+returns-in_err-write_and_sync-2-clause-which g c p =
+    on_err _ c.from_residual-in_err-write_and_sync-2.result (gate_which g.D.Disk.seen g.D.Disk.may_leave g.D.Disk.moment g.D.Disk.left_since (λ d. g.met.D.Disk.reads_now d p) (λ d b left. g.met.D.Disk.only_now d b p left) _ _ c.self.view_is c.requires.ready (c.self.invariant.2 p) c.write_and_sync-2.new.disk 0 c.args.payload.now c.deref.result.now (c.deref.ensures.value ∙ c.put_record.ensures.items) c.write_and_sync.new.disk (c.write_and_sync.ensures.moments p) c.requires.bound (c.in_ok-write_and_sync.ensures.written p) (c.in_ok-write_and_sync.ensures.fixed p) (c.write_and_sync-2.ensures.moments p) c.len.result (omega (arith, c.len.ensures, ap length c.deref.ensures.value)) (c.write_and_sync-2.ensures.images p))
 
 pub returns-in_err-write_and_sync-2-clause-told_first : goal.returns-in_err-write_and_sync-2-clause-told_first
 returns-in_err-write_and_sync-2-clause-told_first g c =
