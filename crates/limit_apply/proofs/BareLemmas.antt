@@ -11,9 +11,14 @@ use Rattle.serde_json.specs.View.{view, items_view, items_of, members_view}
 use Rattle.serde_json.specs.declared.value.Value.{Value}
 use Rattle.serde_json.proofs.Views.{Entry}
 use Rattle.ps_json.specs.Fields.{is_comment}
-use Rattle.limit_apply.specs.Bare.{bare, bare_items, bare_members, with_bare}
+use Rattle.limit_apply.specs.Bare.{bare, bare_items, bare_members, with_plain}
 
 -- ---- comments are left out once
+
+kept_twice : (k : List ℕ) (d : Data) (ms : Members) → bare d ≡ d → bare_members ms ≡ ms → (b : Bool) → is_comment k ≡ b
+    → bare_members (cond b ms (member k d ms)) ≡ cond b ms (member k d ms)
+kept_twice k d ms one rest true is = rest
+kept_twice k d ms one rest false is = rw is (λ i. member k (one i) (rest i))
 
 mutual
   pub bare-bare : (d : Data) → bare (bare d) ≡ bare d
@@ -31,11 +36,6 @@ mutual
   bare_members-bare : (ms : Members) → bare_members (bare_members ms) ≡ bare_members ms
   bare_members-bare no_members = refl
   bare_members-bare (member k d ms) = kept_twice k (bare d) (bare_members ms) (bare-bare d) (bare_members-bare ms) (is_comment k) refl
-
-  kept_twice : (k : List ℕ) (d : Data) (ms : Members) → bare d ≡ d → bare_members ms ≡ ms → (b : Bool) → is_comment k ≡ b
-      → bare_members (cond b ms (member k d ms)) ≡ cond b ms (member k d ms)
-  kept_twice k d ms one rest true is = rest
-  kept_twice k d ms one rest false is = rw is (λ i. member k (one i) (rest i))
 
 -- ---- the members of a map, one after another
 
@@ -71,7 +71,7 @@ bare-last (first ∷ done) e more h plain =
 
 -- so the next member is put where it belongs
 pub bare-next : (done : List Entry) (e : Entry) (more : List Entry) → IsStrictlySortedBy string_cmp (keys_of (done ++ e ∷ more))
-    → with_bare (string_bytes e.0) (view e.1) (bare_members (members_view done)) ≡ bare_members (members_view (done ++ e ∷ []))
+    → with_plain (string_bytes e.0) (bare (view e.1)) (bare_members (members_view done)) ≡ bare_members (members_view (done ++ e ∷ []))
 bare-next done e more sorted =
     let rest = bare_members (members_view done) in
     let cases = elim (is_comment (string_bytes e.0)) as (λ b. is_comment (string_bytes e.0) ≡ b → cond b rest (put (string_bytes e.0) (bare (view e.1)) rest) ≡ bare_members (members_view (done ++ e ∷ []))) [
@@ -82,6 +82,9 @@ bare-next done e more sorted =
 
 -- ---- the items of a list
 
-pub bare_items-map : (ds : List Data) → bare_items (items_of ds) ≡ items_of (map bare ds)
+bare_items-map : (ds : List Data) → bare_items (items_of ds) ≡ items_of (map bare ds)
 bare_items-map [] = refl
 bare_items-map (d ∷ ds) = ap (item (bare d)) (bare_items-map ds)
+
+pub items_copied : (made items : List Value) → map view made ≡ map bare (map view items) → items_view made ≡ bare_items (items_view items)
+items_copied made items same = ap items_of same ∙ sym (bare_items-map (map view items))

@@ -1,5 +1,5 @@
 -- A configuration that was read is read again from its text.
-use Rattle.std.proofs.Common.{◌≡◌, ℕ, List, Ok, ◌×◌, refl, ap, sym, ◌∙◌}
+use Rattle.std.proofs.Common.{◌≡◌, ℕ, List, Ok, refl, ap, sym, ◌∙◌}
 use Rattle.serde_json.specs.Data.{Data}
 use Rattle.serde_json.specs.Written.{compact_text}
 use Rattle.ps_json.specs.Tree.{tree_of}

@@ -23,8 +23,8 @@ abbrev mutual
   bare_members (member k d ms) = if is_comment k then bare_members ms else member k (bare d) (bare_members ms)
 
 -- a member put to the others, unless it is a comment
-abbrev pub with_bare : List ℕ → Data → Members → Members
-with_bare k d ms = if is_comment k then ms else put k (bare d) ms
+abbrev pub with_plain : List ℕ → Data → Members → Members
+with_plain k d ms = if is_comment k then ms else put k d ms
 
 -- the compact text of what is left
 abbrev pub bare_text : Data → List ℕ

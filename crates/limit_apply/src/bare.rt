@@ -3,7 +3,7 @@ ghost use Rattle.std.specs.Prelude.{◌≡◌, IfOk, OnOk, Ok};
 ghost use Rattle.serde_json.specs.View.{view, items_view, members_view};
 ghost use Rattle.ps_json.specs.Fields.{is_comment};
 ghost use Rattle.ps_json.specs.Tree.{tree_of};
-ghost use Rattle.limit_apply.specs.Bare.{bare, bare_items, bare_members, with_bare, bare_text};
+ghost use Rattle.limit_apply.specs.Bare.{bare, bare_items, bare_members, with_plain, bare_text};
 
 use plugin_core::result::write_text;
 use ps_json::shape::{is_deeper, is_whole};
@@ -45,26 +45,25 @@ fn copy_members(alloc: Global, members: &Map<String, Value>) -> Result<Map<Strin
 {
     let mut copies = Map::new(alloc);
     for (name, member) in members.iter() {
-        copy_member(alloc, &mut copies, name.as_str(), member)?;
+        let copy = copy_bare(alloc, member)?;
+        put_plain(alloc, &mut copies, name.as_str(), copy)?;
     }
     Ok(copies)
 }
 
-#[cycle(bare)]
-fn copy_member(
+/// Puts a member to the others, unless it is a comment.
+fn put_plain(
     alloc: Global,
     copies: &mut Map<String, Value>,
     name: &str,
-    member: &Value,
+    value: Value,
 ) -> Result<(), Memory>
-    ensures { OnOk result (members_view copies.new.entries
-        ≡ with_bare name.now (view member.now) (members_view copies.old.entries)) }
+    ensures { OnOk result (members_view copies.new.entries ≡ with_plain name.now (view value) (members_view copies.old.entries)) }
 {
     if is_comment(name) {
         return Ok(());
     }
-    let member = copy_bare(alloc, member)?;
-    put(copies, alloc, name, member)?;
+    put(copies, alloc, name, value)?;
     Ok(())
 }
 

@@ -177,6 +177,7 @@ fn counted(lists: Lists, priorities: Priorities, text: Text) -> Result<Limits, L
 impl Limits {
     /// The configuration that a tree is. The first refusal comes, in the order in which
     /// `docs/specification/limits.md` names the members.
+    #[tactic(auto, using(crate::proofs::ReadLemmas::read_again))]
     pub fn read(alloc: Global, value: Value) -> Result<Limits, LimitFault>
         ensures { GivesUnless LimitFault.Memory result (config_of (view value)) }
     {
