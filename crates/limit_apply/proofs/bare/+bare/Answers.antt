@@ -1,4 +1,4 @@
-use Rattle.std.proofs.Common.{◌≡◌, [], ◌∷◌, ◌++◌, sym, ap, ◌∙◌, subst, append_assoc, take_all, map}
+use Rattle.std.proofs.Common.{◌≡◌, [], ◌∷◌, ◌++◌, sym, ap, ◌∙◌, subst, append_assoc, take_all, map, rules}
 use Rattle.std.specs.List.Sorted.{IsStrictlySortedBy}
 use Rattle.std.specs.Map.{keys_of}
 use Rattle.std.specs.String.{string_cmp}
@@ -18,11 +18,13 @@ copy_members-loop-name-preserved t c =
     let next = bare-next done e left (subst (λ es. IsStrictlySortedBy string_cmp (keys_of es)) all c.iter-name-items.ensures.ordered) in (
       done ++ e ∷ [],
       all ∙ sym (append_assoc done (e ∷ []) left),
-      c.in_ok-put_plain.ensures ∙ (λ i. with_plain (c.as_str.ensures.value i) (c.in_ok-copy_bare.ensures i) (l.invariant.2 i)) ∙ next,
+      c.in_ok-put_plain.ensures ∙ (λ i. with_plain (c.as_str.ensures.value i) (c.in_ok-copy.ensures i) (l.invariant.2 i)) ∙ next,
     )
 
 pub copy_items-returns : goal.copy_items-returns
 copy_items-returns t c =
     let l = c.loop-item in
-    let all = take_all l.item-index l.item-items (search rules) in
-    items_copied _ _ (l.invariant ∙ ap (λ vs. map bare (map view vs)) all)
+    let items = c.deref-item-items.result.now in
+    let here : items ≡ c.args.items.now.items = search rules in
+    let all = take_all l.item-index items (search rules) in
+    items_copied _ _ (l.invariant ∙ ap (λ vs. map bare (map view vs)) (all ∙ here))
