@@ -1,7 +1,6 @@
 -- A configuration that was read is read again from its text.
-use Rattle.std.proofs.Common.{◌≡◌, ℕ, List, Ok, refl, ap, sym, ◌∙◌}
+use Rattle.std.proofs.Common.{◌≡◌, ℕ, List, Ok, refl}
 use Rattle.serde_json.specs.Data.{Data}
-use Rattle.serde_json.specs.Written.{compact_text}
 use Rattle.ps_json.specs.Tree.{tree_of}
 use Rattle.limit_apply.specs.Bare.{bare, bare_text}
 use Rattle.limit_apply.specs.Read.{parts_of, config, config_in}
