@@ -1,3 +1,6 @@
+pub mod BareLemmas
 pub mod CivilLemmas
+pub mod OpenLemmas
+pub mod ReadLemmas
 pub mod SignedLemmas
 pub mod WalkLemmas

@@ -1,4 +1,5 @@
 pub mod Application
+pub mod Bare
 pub mod Bounds
 pub mod Civil
 pub mod Limit

@@ -1,5 +1,5 @@
 -- What a configuration of limits answers.
-use Rattle.std.specs.Prelude.{ℕ, ◌+◌, ◌<◌, ◌^◌, ℤ, int_lt, Bool, List, [], ◌∷◌, length, Option, Some, None, if◌then◌else◌}
+use Rattle.std.specs.Prelude.{ℕ, ◌+◌, ℤ, int_lt, Bool, List, [], ◌∷◌, length, Option, Some, None, if◌then◌else◌}
 use Rattle.std.specs.Option.{unwrap_or}
 use Rattle.ps_time.specs.Span.{Span}
 use Rattle.ps_time.specs.declared.asker.Asker.{Asker}
@@ -23,13 +23,8 @@ pub record Config : Type 0 where
   pub limits : List (Named Limit)
   pub applications : List Application
   pub priorities : Priorities
-
--- places and counts of entries fit 32 bits
-pub record IsCounted (config : Config) : Type 0 where
-  pub identifiers : length config.identifiers < 2 ^ 32
-  pub classifiers : length config.classifiers < 2 ^ 32
-  pub limits : length config.limits < 2 ^ 32
-  pub applications : length config.applications < 2 ^ 32
+  -- the compact text of the tree without comments
+  pub text : List ℕ
 
 abbrev pub counts_of : Config → Counts
 counts_of config = record {

@@ -1,5 +1,5 @@
 -- The configuration that stands where there is none.
-use Rattle.std.specs.Prelude.{pos, true, false, List, [], ◌∷◌, codes}
+use Rattle.std.specs.Prelude.{ℕ, pos, true, false, List, [], ◌∷◌, codes}
 use Rattle.limit_ident.specs.declared.classifier.Classifier.{Classifier}
 use Rattle.limit_ident.specs.declared.identifier.Condition.TheVariants.{Always}
 use Rattle.limit_ident.specs.declared.identifier.Identifier.{Identifier}
@@ -22,6 +22,9 @@ open_limits = record { name = codes "always"; value = record { rule = PassFail t
 abbrev pub open_applications : List Application
 open_applications = record { classifier = 0; apply = record { require = All; limits = 0 ∷ [] } ∷ []; invert = false; stop_on_failure = false } ∷ []
 
+abbrev pub open_text : List ℕ
+open_text = codes "{\"applications\":[{\"apply\":[{\"limits\":[\"always\"],\"require\":\"all\"}],\"classifier\":\"default\"}],\"classifiers\":[{\"identifiers\":[\"everybody\"],\"name\":\"default\"}],\"identifiers\":[{\"name\":\"everybody\",\"type\":\"always\"}],\"limits\":[{\"data\":{\"pass\":true},\"name\":\"always\",\"type\":\"pass-fail\"}],\"priorities\":{\"default\":1000}}"
+
 abbrev pub open_config : Config
 open_config = record {
   identifiers = open_identifiers;
@@ -29,4 +32,5 @@ open_config = record {
   limits = open_limits;
   applications = open_applications;
   priorities = record { default = pos 1_000; ceilings = [] };
+  text = open_text;
 }

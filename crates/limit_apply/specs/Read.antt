@@ -1,5 +1,5 @@
 -- Which configuration of limits a JSON tree is.
-use Rattle.std.specs.Prelude.{ℕ, ◌&&◌, ◌<◌, ◌^◌, pos, negsuc, int_le, List, length, Result, Ok, Err, ⊤, if◌then◌else◌, codes}
+use Rattle.std.specs.Prelude.{◌≡◌, ℕ, ◌&&◌, ◌<◌, ◌^◌, pos, negsuc, int_le, List, length, Result, Ok, Err, ⊤, if◌then◌else◌, codes}
 use Rattle.serde_json.specs.Data.{Data, Members}
 use Rattle.serde_json.specs.Find.{get_member}
 use Rattle.ps_json.specs.Answer.{then_with}
@@ -14,6 +14,8 @@ use Rattle.limit_ident.specs.declared.fault.LimitFault.{LimitFault}
 use Rattle.limit_ident.specs.declared.fault.LimitFault.TheVariants.{BadRange}
 use Rattle.limit_ident.specs.declared.identifier.Identifier.{Identifier}
 use Rattle.limit_ident.specs.declared.named.Named.{Named}
+use Rattle.ps_json.specs.Tree.{tree_of}
+use Rattle.limit_apply.specs.Bare.{bare, bare_text}
 use Rattle.limit_apply.specs.Limits.{Config}
 use Rattle.limit_apply.specs.ReadApplications.{applications_in, priorities_of}
 use Rattle.limit_apply.specs.ReadLimits.{limits_in}
@@ -54,13 +56,14 @@ pub record AreCounted (lists : Lists) : Type 0 where
   pub limits : length lists.limits < 2 ^ 32
   pub applications : length lists.applications < 2 ^ 32
 
-abbrev pub config : Lists → Priorities → Config
-config lists priorities = record {
+abbrev pub config : Lists → Priorities → List ℕ → Config
+config lists priorities text = record {
   identifiers = lists.identifiers;
   classifiers = lists.classifiers;
   limits = lists.limits;
   applications = lists.applications;
   priorities = priorities;
+  text = text;
 }
 
 -- the priorities, behind which a description may be, and nothing else but comments
@@ -69,10 +72,27 @@ ended_priorities cs ms =
     then_with (priorities_of cs (get_member (codes "priorities") ms)) (λ priorities.
     then_with (described (without_member (codes "priorities") ms)) (λ _. Ok priorities))
 
-abbrev pub config_of : Data → Result Config LimitFault
-config_of d =
+-- the entries and priorities of a tree
+unfoldable pub parts_of : Data → Result (Lists × Priorities) LimitFault
+parts_of d =
     then_with (object_in (codes "limits") d) (λ ms.
     then_with (schema_of ms) (λ _.
     let ms = without_member (codes "schema") ms in
     then_with (lists_of ms) (λ lists.
-    then_with (ended_priorities lists.classifiers (after_lists ms)) (λ priorities. Ok (config lists priorities)))))
+    then_with (ended_priorities lists.classifiers (after_lists ms)) (λ priorities. Ok (lists, priorities)))))
+
+-- comments are left out before all else
+abbrev pub config_of : Data → Result Config LimitFault
+config_of d = then_with (parts_of (bare d)) (λ parts. Ok (config parts.0 parts.1 (bare_text d)))
+
+-- the configuration that a text is
+unfoldable pub config_in : List ℕ → Result Config LimitFault
+config_in text = then_with (in_json (tree_of text)) config_of
+
+-- places and counts of entries fit 32 bits, and the text is read again as the same configuration
+pub record IsKept (config : Config) : Type 0 where
+  pub identifiers : length config.identifiers < 2 ^ 32
+  pub classifiers : length config.classifiers < 2 ^ 32
+  pub limits : length config.limits < 2 ^ 32
+  pub applications : length config.applications < 2 ^ 32
+  pub again : config_in config.text ≡ Ok config

@@ -2,6 +2,7 @@
 #![tactic(auto)]
 
 pub mod application;
+pub mod bare;
 pub mod bounds;
 pub mod civil;
 pub mod limit;

@@ -1,6 +1,7 @@
 //! A configuration of limits, and what it answers.
-ghost use Rattle.std.specs.Prelude.{◌≡◌, IfOk};
+ghost use Rattle.std.specs.Prelude.{◌≡◌, IfOk, Ok};
 ghost use Rattle.limit_apply.specs.Limits.{verdict_at, permits_of, admits_of, ceiling_of, holds_at, counts_of};
+ghost use Rattle.limit_apply.specs.Read.{config_in};
 
 use crate::application::Application;
 use crate::limit::Limit;
@@ -13,6 +14,7 @@ use ps_time::duplicate::Duplicate;
 use ps_time::interval::Interval;
 use ps_time::items::Items;
 use ps_time::memory::Memory;
+use ps_time::text::Text;
 use std::alloc::Global;
 use std::marker::Model;
 
@@ -63,16 +65,18 @@ pub struct Limits {
     pub(crate) limits: Items<Named<Limit>>,
     pub(crate) applications: Items<Application>,
     pub(crate) priorities: Priorities,
+    pub(crate) text: Text,
 }
 
 impl Model for Limits {
-    ghost use Rattle.limit_apply.specs.Limits.{Config, IsCounted};
+    ghost use Rattle.limit_apply.specs.Limits.{Config};
+    ghost use Rattle.limit_apply.specs.Read.{IsKept};
 
     ghost Value = { Config };
 
-    ghost view = { λ l. record { identifiers = l.identifiers; classifiers = l.classifiers; limits = l.limits; applications = l.applications; priorities = l.priorities } };
+    ghost view = { λ l. record { identifiers = l.identifiers; classifiers = l.classifiers; limits = l.limits; applications = l.applications; priorities = l.priorities; text = l.text } };
 
-    ghost invariant = { λ l. IsCounted (record { identifiers = l.identifiers; classifiers = l.classifiers; limits = l.limits; applications = l.applications; priorities = l.priorities }) };
+    ghost invariant = { λ l. IsKept (record { identifiers = l.identifiers; classifiers = l.classifiers; limits = l.limits; applications = l.applications; priorities = l.priorities; text = l.text }) };
 }
 
 impl Limits {
@@ -153,19 +157,29 @@ impl Limits {
         self.walk(asker, test, &None)
     }
 
+    /// The compact text of the configuration without its comments. Two configurations of the same text are the
+    /// same.
+    pub fn text(&self) -> &str
+        ensures text { result.now ≡ self.now.text }
+        ensures again { config_in result.now ≡ Ok self.now }
+    {
+        self.text.as_str()
+    }
+
     pub fn copy(&self, alloc: Global) -> Result<Limits, Memory>
         ensures { IfOk result (λ made. made ≡ self.now) }
     {
         let identifiers = self.identifiers.copy(alloc)?;
         let classifiers = self.classifiers.copy(alloc)?;
         let (limits, applications) = self.copy_uses(alloc)?;
-        let priorities = self.priorities.duplicate(alloc)?;
+        let (priorities, text) = self.copy_told(alloc)?;
         Ok(Limits {
             identifiers,
             classifiers,
             limits,
             applications,
             priorities,
+            text,
         })
     }
 
@@ -174,5 +188,12 @@ impl Limits {
     {
         let limits = self.limits.copy(alloc)?;
         Ok((limits, self.applications.copy(alloc)?))
+    }
+
+    fn copy_told(&self, alloc: Global) -> Result<(Priorities, Text), Memory>
+        ensures { IfOk result (λ made. made ≡ (self.now.priorities, self.now.text)) }
+    {
+        let priorities = self.priorities.duplicate(alloc)?;
+        Ok((priorities, self.text.copy(alloc)?))
     }
 }

@@ -1,6 +1,6 @@
 //! The configuration that permits everything.
 ghost use Rattle.std.specs.Prelude.{◌≡◌, [], ◌∷◌, IfOk};
-ghost use Rattle.limit_apply.specs.Open.{open_identifiers, open_classifiers, open_limits, open_applications, open_config};
+ghost use Rattle.limit_apply.specs.Open.{open_identifiers, open_classifiers, open_limits, open_applications, open_text, open_config};
 
 use crate::application::{Application, Group};
 use crate::limit::{Limit, Rule};
@@ -85,16 +85,27 @@ fn default_to_always(alloc: Global) -> Result<Items<Application>, Memory>
     Ok(list)
 }
 
+const TEXT: &str =
+    r#"{"applications":[{"apply":[{"limits":["always"],"require":"all"}],"classifier":"default"}],"classifiers":[{"identifiers":["everybody"],"name":"default"}],"identifiers":[{"name":"everybody","type":"always"}],"limits":[{"data":{"pass":true},"name":"always","type":"pass-fail"}],"priorities":{"default":1000}}"#;
+
+fn uses_and_text(alloc: Global) -> Result<(Items<Application>, Text), Memory>
+    ensures { IfOk result (λ made. made ≡ (open_applications, open_text)) }
+{
+    let applications = default_to_always(alloc)?;
+    Ok((applications, Text::new(alloc, TEXT)?))
+}
+
 impl Limits {
     /// The configuration that stands where there is none: everybody may do everything, with priorities up to
     /// 1,000.
+    #[tactic(auto, using(crate::proofs::OpenLemmas::open_again))]
     pub fn open(alloc: Global) -> Result<Limits, Memory>
         ensures { IfOk result (λ made. made ≡ open_config) }
     {
         let identifiers = everybody(alloc)?;
         let classifiers = default_classifier(alloc)?;
         let limits = always(alloc)?;
-        let applications = default_to_always(alloc)?;
+        let (applications, text) = uses_and_text(alloc)?;
         Ok(Limits {
             identifiers,
             classifiers,
@@ -104,6 +115,7 @@ impl Limits {
                 default: 1_000,
                 ceilings: Items::new(alloc),
             },
+            text,
         })
     }
 }

@@ -6,9 +6,10 @@ ghost use Rattle.ps_json.specs.Fields.{without_member};
 ghost use Rattle.limit_ident.specs.Member.{required};
 ghost use Rattle.limit_apply.specs.ReadApplications.{applications_in};
 ghost use Rattle.limit_apply.specs.ReadLimits.{limits_in};
-ghost use Rattle.limit_apply.specs.Read.{schema_in, schema_of, identifiers_in, classifiers_in, lists_of, after_lists, AreCounted, config, ended_priorities, config_of};
+ghost use Rattle.limit_apply.specs.Read.{schema_in, schema_of, identifiers_in, classifiers_in, lists_of, after_lists, AreCounted, parts_of, config, ended_priorities, config_of, config_in};
 
 use crate::application::Application;
+use crate::bare::{copy_bare, write_bare};
 use crate::limit::Limit;
 use crate::limits::{Limits, Priorities};
 use crate::read_applications::{read_applications, read_priorities};
@@ -21,6 +22,7 @@ use limit_ident::named::Named;
 use ps_json::fields::Fields;
 use ps_json::kinds::read_integer;
 use ps_time::items::Items;
+use ps_time::text::Text;
 use serde_json::Value;
 use std::alloc::Global;
 
@@ -129,36 +131,6 @@ impl Lists {
     }
 }
 
-/// The configuration. A list of 2^32 entries or more is answered as want of memory.
-fn counted(lists: Lists, priorities: Priorities) -> Result<Limits, LimitFault>
-    ensures { GivesUnless LimitFault.Memory result (Ok (config lists priorities)) }
-{
-    if !lists.fit() {
-        return Err(LimitFault::Memory);
-    }
-    Ok(Limits {
-        identifiers: lists.identifiers,
-        classifiers: lists.classifiers,
-        limits: lists.limits,
-        applications: lists.applications,
-        priorities,
-    })
-}
-
-impl Limits {
-    /// The configuration that a tree is. The first refusal comes, in the order in which
-    /// `docs/specification/limits.md` names the members.
-    pub fn read(alloc: Global, value: Value) -> Result<Limits, LimitFault>
-        ensures { GivesUnless LimitFault.Memory result (config_of (view value)) }
-    {
-        let mut fields = Fields::open(alloc, value, "limits")?;
-        take_schema(alloc, &mut fields)?;
-        let lists = take_lists(alloc, &mut fields)?;
-        let priorities = take_priorities(alloc, fields, lists.classifiers.as_slice())?;
-        counted(lists, priorities)
-    }
-}
-
 /// The priorities, and the end of the configuration.
 fn take_priorities(
     alloc: Global,
@@ -170,4 +142,47 @@ fn take_priorities(
     let priorities = read_priorities(alloc, fields.take("priorities"), classifiers)?;
     end_described(alloc, fields)?;
     Ok(priorities)
+}
+
+/// The entries and priorities of a tree.
+#[tactic(auto, unfolding(crate::specs::Read::parts_of))]
+fn read_parts(alloc: Global, value: Value) -> Result<(Lists, Priorities), LimitFault>
+    ensures { GivesUnless LimitFault.Memory result (parts_of (view value)) }
+{
+    let mut fields = Fields::open(alloc, value, "limits")?;
+    take_schema(alloc, &mut fields)?;
+    let lists = take_lists(alloc, &mut fields)?;
+    let priorities = take_priorities(alloc, fields, lists.classifiers.as_slice())?;
+    Ok((lists, priorities))
+}
+
+/// The configuration. A list of 2^32 entries or more is answered as want of memory.
+fn counted(lists: Lists, priorities: Priorities, text: Text) -> Result<Limits, LimitFault>
+    requires { config_in text ≡ Ok (config lists priorities text) }
+    ensures { GivesUnless LimitFault.Memory result (Ok (config lists priorities text)) }
+{
+    if !lists.fit() {
+        return Err(LimitFault::Memory);
+    }
+    Ok(Limits {
+        identifiers: lists.identifiers,
+        classifiers: lists.classifiers,
+        limits: lists.limits,
+        applications: lists.applications,
+        priorities,
+        text,
+    })
+}
+
+impl Limits {
+    /// The configuration that a tree is. The first refusal comes, in the order in which
+    /// `docs/specification/limits.md` names the members.
+    #[tactic(auto, using(crate::proofs::ReadLemmas::read_again))]
+    pub fn read(alloc: Global, value: Value) -> Result<Limits, LimitFault>
+        ensures { GivesUnless LimitFault.Memory result (config_of (view value)) }
+    {
+        let (lists, priorities) = read_parts(alloc, copy_bare(alloc, &value)?)?;
+        let text = write_bare(alloc, &value)?;
+        counted(lists, priorities, text)
+    }
 }

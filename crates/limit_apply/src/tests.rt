@@ -1,6 +1,7 @@
 //! The tables of docs/specification/limits.md, worked out by hand.
 mod faults;
 mod held;
+mod texts;
 mod times;
 mod verdicts;
 

@@ -1,0 +1,87 @@
+//! Trees without their comments.
+ghost use Rattle.std.specs.Prelude.{◌≡◌, IfOk, OnOk, Ok};
+ghost use Rattle.serde_json.specs.View.{view, items_view, members_view};
+ghost use Rattle.ps_json.specs.Fields.{is_comment};
+ghost use Rattle.ps_json.specs.Tree.{tree_of};
+ghost use Rattle.limit_apply.specs.Bare.{bare, bare_items, bare_members, with_plain, bare_text};
+
+use plugin_core::result::write_text;
+use ps_json::shape::{is_deeper, is_whole};
+use ps_json::tree::MAX_DEPTH;
+use ps_time::memory::Memory;
+use ps_time::text::Text;
+use serde_json::{Map, Value, put};
+use std::alloc::Global;
+
+/// A copy without the members whose names begin with `#`, at every depth.
+#[cycle(bare)]
+pub fn copy_bare(alloc: Global, value: &Value) -> Result<Value, Memory>
+    ensures { IfOk result (λ made. view made ≡ bare (view value.now)) }
+{
+    match value {
+        Value::Null => Ok(Value::Null),
+        Value::Bool(flag) => Ok(Value::Bool(*flag)),
+        Value::Number(number) => Ok(Value::Number(*number)),
+        Value::String(text) => Ok(Value::String(text.clone()?)),
+        Value::Array(items) => Ok(Value::Array(copy_items(alloc, items)?)),
+        Value::Object(members) => Ok(Value::Object(copy_members(alloc, members)?)),
+    }
+}
+
+#[cycle(bare)]
+fn copy_items(alloc: Global, items: &Vec<Value>) -> Result<Vec<Value>, Memory>
+    ensures { IfOk result (λ made. items_view made.items ≡ bare_items (items_view items.now.items)) }
+{
+    let mut copies = Vec::new(alloc);
+    for item in items {
+        copies.push(copy_bare(alloc, item)?)?;
+    }
+    Ok(copies)
+}
+
+#[cycle(bare)]
+fn copy_members(alloc: Global, members: &Map<String, Value>) -> Result<Map<String, Value>, Memory>
+    ensures { IfOk result (λ made. members_view made.entries ≡ bare_members (members_view members.now.entries)) }
+{
+    let mut copies = Map::new(alloc);
+    for (name, member) in members.iter() {
+        let copy = copy_bare(alloc, member)?;
+        put_plain(alloc, &mut copies, name.as_str(), copy)?;
+    }
+    Ok(copies)
+}
+
+/// Puts a member to the others, unless it is a comment.
+fn put_plain(
+    alloc: Global,
+    copies: &mut Map<String, Value>,
+    name: &str,
+    value: Value,
+) -> Result<(), Memory>
+    ensures { OnOk result (members_view copies.new.entries ≡ with_plain name.now (view value) (members_view copies.old.entries)) }
+{
+    if is_comment(name) {
+        return Ok(());
+    }
+    put(copies, alloc, name, value)?;
+    Ok(())
+}
+
+fn is_comment(name: &str) -> bool
+    ensures { result ≡ is_comment name.now }
+{
+    matches!(name.as_bytes(), [b'#', ..])
+}
+
+/// The compact text of the tree without its comments. One that is then deeper than 64 levels, or has a number
+/// that isn't whole, is answered as want of memory: no configuration is such a tree.
+pub fn write_bare(alloc: Global, value: &Value) -> Result<Text, Memory>
+    ensures text { IfOk result (λ text. text ≡ bare_text (view value.now)) }
+    ensures reads { IfOk result (λ text. tree_of text ≡ Ok (bare (view value.now))) }
+{
+    let value = copy_bare(alloc, value)?;
+    if !is_whole(&value) || is_deeper(&value, MAX_DEPTH) {
+        return Err(Memory);
+    }
+    write_text(alloc, &value)
+}
