@@ -32,6 +32,7 @@ impl<D: Disk> Journal<D> {
         ensures told { OnOk result (TellsAll (D.told self.old.counting) (D.told self.new.counting) (append_calls self.old.end payload.now)) }
         ensures told_first { OnErr result (TellsFirst (D.told self.old.counting) (D.told self.new.counting) (append_calls self.old.end payload.now)) }
         ensures later { D.disk_faults self.old.counting ≤ D.disk_faults self.new.counting }
+        ensures calm { OnOk result (D.disk_faults self.new.counting ≡ D.disk_faults self.old.counting) }
         ensures cause { OnErr result (Rose (D.disk_faults self.old.counting) (D.disk_faults self.new.counting)) }
     {
         put_record(&mut self.buffer, payload);
@@ -60,6 +61,7 @@ impl<D: Disk> Journal<D> {
         ensures told { OnOk result (TellsAll (D.told self.old.counting) (D.told self.new.counting) (Cut (self.old.end + 1) ∷ Sync ∷ [])) }
         ensures told_first { OnErr result (TellsFirst (D.told self.old.counting) (D.told self.new.counting) (Cut (self.old.end + 1) ∷ Sync ∷ [])) }
         ensures later { D.disk_faults self.old.counting ≤ D.disk_faults self.new.counting }
+        ensures calm { OnOk result (D.disk_faults self.new.counting ≡ D.disk_faults self.old.counting) }
         ensures cause { OnErr result (Rose (D.disk_faults self.old.counting) (D.disk_faults self.new.counting)) }
     {
         self.pending = Pending::Unopened;

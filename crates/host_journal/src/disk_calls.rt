@@ -71,7 +71,7 @@ pub fn read_whole<D: Disk>(alloc: Global, disk: &mut D) -> Result<Vec<u8>, OpenR
     ensures bytes { D.premise → IfOk result (λ bytes. bytes.items ≡ D.seen disk.old) }
     ensures fixed { D.premise → OnOk result (Only (D.seen disk.old) (D.may_leave disk.new)) }
     ensures read { D.premise → IsRead D.seen D.may_leave D.moment D.left_since disk.old disk.new }
-    ensures told { OnOk result (TellsAll (D.told disk.old) (D.told disk.new) (Sync ∷ [])) }
+    ensures told { TellsAll (D.told disk.old) (D.told disk.new) (Sync ∷ []) }
     ensures later { D.disk_faults disk.old ≤ D.disk_faults disk.new }
     ensures calm { OnOk result (D.disk_faults disk.new ≡ D.disk_faults disk.old) }
     ensures cause { IsErrOf result OpenReason.DiskFault → Rose (D.disk_faults disk.old) (D.disk_faults disk.new) }
@@ -118,6 +118,7 @@ pub fn sync_both<D: Disk>(one: &mut D, other: &mut D) -> Result<(), DiskFault>
     ensures told_err { OnErr result (TellsSyncs D.told one.old other.old one.new other.new) }
     ensures later_one { D.disk_faults one.old ≤ D.disk_faults one.new }
     ensures later_other { D.disk_faults other.old ≤ D.disk_faults other.new }
+    ensures calm { OnOk result ((D.disk_faults one.new ≡ D.disk_faults one.old) × (D.disk_faults other.new ≡ D.disk_faults other.old)) }
     ensures cause { OnErr result (Rose (D.disk_faults one.old) (D.disk_faults one.new) ⊎ Rose (D.disk_faults other.old) (D.disk_faults other.new)) }
 {
     one.sync()?;
@@ -131,6 +132,7 @@ pub fn is_open_at<D: Disk>(disk: &mut D, at: u64) -> Result<bool, DiskFault>
     ensures read { D.premise → IsRead D.seen D.may_leave D.moment D.left_since disk.old disk.new }
     ensures told { D.told disk.new ≡ D.told disk.old }
     ensures later { D.disk_faults disk.old ≤ D.disk_faults disk.new }
+    ensures calm { OnOk result (D.disk_faults disk.new ≡ D.disk_faults disk.old) }
     ensures cause { OnErr result (Rose (D.disk_faults disk.old) (D.disk_faults disk.new)) }
 {
     let mut gate = [0; 1];

@@ -1,12 +1,14 @@
 //! A journal on two disks.
-ghost use Rattle.std.specs.Prelude.{◌≡◌, ◌⊎◌, ◌+◌, ◌-◌, ◌≤◌, ◌<◌, ◌^◌, not, if◌then◌else◌, IsTrue, Ok, Err, length, IfOk, IfErr, OnOk, IsErrOf};
+ghost use Rattle.std.specs.Prelude.{◌≡◌, ◌⊎◌, ◌+◌, ◌-◌, ◌≤◌, ◌<◌, ◌^◌, not, if◌then◌else◌, IsTrue, Ok, Err, length, IfOk, IfErr, OnOk, OnErr, IsErrOf, ◌∷◌, []};
 ghost use Rattle.ps_ports.specs.Causes.{Rose};
 ghost use Rattle.ps_ports.specs.Disk.{Only};
 ghost use Rattle.ps_ports.specs.MemoryDisk.{armed, armed_number};
+ghost use Rattle.ps_ports.specs.declared.disk.DiskCall.TheVariants.{Sync};
 ghost use Rattle.host_journal.specs.Calls.{IsRead};
 ghost use Rattle.host_journal.specs.Format.{stands};
 ghost use Rattle.host_journal.specs.Pair.{pair_of};
 ghost use Rattle.host_journal.specs.State.{is_ready, stored, opened_as, EachImage, IsAt, IsOurs, SameButRoom, first_disk, second_disk};
+ghost use Rattle.host_journal.specs.Told.{TellsAll, TellsSyncs};
 
 use crate::disk_calls::read_whole;
 use crate::fault::{OpenFault, OpenReason};
@@ -59,6 +61,7 @@ impl<D: Disk> Journal<D> {
         ensures stored { D.premise → IfOk result (λ r. stored D.seen r.0 ≡ pair_of (D.seen first) (D.seen second)) }
         ensures durable { D.premise → IfOk result (λ r. EachImage D.may_leave r.0 (λ pair. pair ≡ pair_of (D.seen first) (D.seen second))) }
         ensures ready { IfOk result (λ r. IsTrue (is_ready r.0.pending)) }
+        ensures room { IfOk result (λ r. r.0.room ≡ 0) }
 
         // Until it is done, and where it isn't, each image is one that a crash could have left before.
         ensures read_first { D.premise → IfOk result (λ r. IsRead D.seen D.may_leave D.moment D.left_since first (first_disk r.0)) }
@@ -66,10 +69,16 @@ impl<D: Disk> Journal<D> {
         ensures refused_first { D.premise → IfErr result (λ f. IsRead D.seen D.may_leave D.moment D.left_since first f.first) }
         ensures refused_second { D.premise → IfErr result (λ f. IsRead D.seen D.may_leave D.moment D.left_since second f.second) }
 
+        // It makes two calls that are told, the two syncs.
+        ensures told_first { IfOk result (λ r. TellsAll (D.told first) (D.told (first_disk r.0)) (Sync ∷ [])) }
+        ensures told_second { IfOk result (λ r. TellsAll (D.told second) (D.told (second_disk r.0)) (Sync ∷ [])) }
+        ensures told_err { IfErr result (λ f. TellsSyncs D.told first second f.first f.second) }
+
         // Exactly where the disks stand for nothing.
         ensures place { D.premise → IfErr result (λ f. (place : _) → f.reason ≡ OpenReason.NotAJournal place → pair_of (D.seen first) (D.seen second) ≡ Err place) }
         ensures fault { IfErr result (λ f. f.reason ≡ OpenReason.DiskFault → Rose (D.disk_faults first) (D.disk_faults f.first) ⊎ Rose (D.disk_faults second) (D.disk_faults f.second)) }
         ensures later { IfErr result (λ f. (D.disk_faults first ≤ D.disk_faults f.first) × (D.disk_faults second ≤ D.disk_faults f.second)) }
+        ensures calm { IfOk result (λ r. (D.disk_faults (first_disk r.0) ≡ D.disk_faults first) × (D.disk_faults (second_disk r.0) ≡ D.disk_faults second)) }
     {
         let mut first = first;
         let mut second = second;
@@ -182,10 +191,14 @@ fn read_disks<D: Disk>(
     ensures fixed { D.premise → OnOk result (Only (D.seen first.new) (D.may_leave first.new) × Only (D.seen second.new) (D.may_leave second.new)) }
     ensures read_first { D.premise → IsRead D.seen D.may_leave D.moment D.left_since first.old first.new }
     ensures read_second { D.premise → IsRead D.seen D.may_leave D.moment D.left_since second.old second.new }
+    ensures told_first { OnOk result (TellsAll (D.told first.old) (D.told first.new) (Sync ∷ [])) }
+    ensures told_second { OnOk result (TellsAll (D.told second.old) (D.told second.new) (Sync ∷ [])) }
+    ensures told_err { OnErr result (TellsSyncs D.told first.old second.old first.new second.new) }
     ensures place { D.premise → (place : _) → IsErrOf result (OpenReason.NotAJournal place) → pair_of (D.seen first.old) (D.seen second.old) ≡ Err place }
     ensures fault { IsErrOf result OpenReason.DiskFault → Rose (D.disk_faults first.old) (D.disk_faults first.new) ⊎ Rose (D.disk_faults second.old) (D.disk_faults second.new) }
     ensures later_first { D.disk_faults first.old ≤ D.disk_faults first.new }
     ensures later_second { D.disk_faults second.old ≤ D.disk_faults second.new }
+    ensures calm { OnOk result ((D.disk_faults first.new ≡ D.disk_faults first.old) × (D.disk_faults second.new ≡ D.disk_faults second.old)) }
 {
     let one = read_whole(alloc, first)?;
     let two = read_whole(alloc, second)?;

@@ -36,6 +36,7 @@ impl<D: Disk> Journal<D> {
         ensures kept { OnErr result ((self.new.counting ≡ self.old.counting) × (self.new.second ≡ self.old.second)) }
         ensures told { OnOk result (TellsAll (D.told self.old.other) (D.told self.new.counting) (snapshot_calls self.old.shut (self.old.generation + 1) image.now)) }
         ensures told_first { OnErr result (TellsFirst (D.told self.old.other) (D.told self.new.other) (snapshot_calls self.old.shut (self.old.generation + 1) image.now)) }
+        ensures calm { OnOk result (D.disk_faults self.new.counting ≡ D.disk_faults self.old.other) }
         ensures cause { OnErr result (Rose (D.disk_faults self.old.other) (D.disk_faults self.new.other)) }
     {
         put_image(&mut self.buffer, self.generation + 1, image);
