@@ -1,5 +1,5 @@
 //! Snapshots: bytes worked out by hand, stops and faults at each disk call, and `reload` after each
-//! fault, also after those of an append.
+//! fault, also after those of an append and of a cut.
 use crate::append_tests::{add, opened, stands_for};
 use crate::journal::Journal;
 use ps_ports::image::Image;
@@ -210,6 +210,34 @@ fn append_reloads(alloc: Global, call: u64, bytes: u64) -> Result<bool, Fail> {
 fn an_append_that_fails_and_a_reload(rt: HostRuntime) -> Result<(), Fail> {
     for (call, bytes) in &APPEND_FAULTS {
         assert!(rt; append_reloads(rt.alloc(), *call, *bytes)?, "{call}");
+    }
+    Ok(())
+}
+
+// The record 01 02, and two bytes behind its last gate that are nobody's.
+const WITH_TAIL: [u8; 31] =
+    *b"PSCHJRN1\x01\0\0\0\0\0\0\0\x01\0\0\0\0\x01\0\0\0\x02\x01\x02\0\x08\x09";
+
+// Which of the two calls of a cut fails, and what the first disk reads then.
+const CUT_FAULTS: [(u64, &[u8]); 2] = [(1, &WITH_TAIL), (2, &ONE_RECORD)];
+
+fn cut_reloads(alloc: Global, call: u64, wanted: &[u8]) -> Result<bool, Fail> {
+    let Some((mut journal, _list)) = opened(alloc, pair_with(alloc, &WITH_TAIL, &OLDER)?) else {
+        return Ok(false);
+    };
+    journal.fail_at(Some(call));
+    if !journal.is_ready() || journal.cut_tail().is_ok() || !reloads(&mut journal, false) {
+        return Ok(false);
+    }
+    let bytes = journal.record_bytes();
+    let (first, second) = journal.into_disks();
+    Ok(bytes == 7 && first.bytes() == wanted && has_image(alloc, (first, second), false)?)
+}
+
+#[test]
+fn a_cut_that_fails_and_a_reload(rt: HostRuntime) -> Result<(), Fail> {
+    for (call, wanted) in &CUT_FAULTS {
+        assert!(rt; cut_reloads(rt.alloc(), *call, wanted)?, "{call}");
     }
     Ok(())
 }
