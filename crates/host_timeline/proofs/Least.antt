@@ -9,28 +9,12 @@ use Rattle.std.specs.Ordering.{ordering_reverse}
 use Rattle.ps_time.specs.Key.{key_cmp}
 use Rattle.ps_time.specs.Sorted.{IsAscending}
 use Rattle.ps_time.proofs.KeyLemmas.{key_cmp_total}
+use Rattle.ps_time.proofs.SortedLemmas.{ascending-filter}
 use Rattle.host_timeline.specs.declared.booking.Booking.{Booking}
 use Rattle.host_timeline.specs.Booking.{keys_of, lesser, least_key}
 use Rattle.host_timeline.specs.Timeline.{IsAscendingBookings}
 
 module _ {K X : Type 0} (cmp : K → K → Ordering) (key : X → K) where
-  -- what holds of every item holds of those that pass
-  all-filter : (P : X → Type 0) (p : X → Bool) (xs : List X) → AllByRecursion P xs → AllByRecursion P (filter p xs)
-  all-filter P p [] all = tt
-  all-filter P p (x ∷ xs) all =
-      elim (p x) as (λ b. AllByRecursion P (cond b (x ∷ filter p xs) (filter p xs))) [
-        | true ↦ (all.0, all-filter P p xs all.1)
-        | false ↦ all-filter P p xs all.1
-      ]
-
-  pub ascending-filter : (p : X → Bool) (xs : List X) → IsAscending cmp key xs → IsAscending cmp key (filter p xs)
-  ascending-filter p [] up = tt
-  ascending-filter p (x ∷ xs) up =
-      elim (p x) as (λ b. IsAscending cmp key (cond b (x ∷ filter p xs) (filter p xs))) [
-        | true ↦ (all-filter _ p xs up.0, ascending-filter p xs up.1)
-        | false ↦ ascending-filter p xs up.1
-      ]
-
   all-keys : (P : K → Type 0) (xs : List X) → AllByRecursion (λ x. P (key x)) xs → AllByRecursion P (map key xs)
   all-keys P [] all = tt
   all-keys P (x ∷ xs) all = (all.0, all-keys P xs all.1)
@@ -50,7 +34,7 @@ least_first b (d ∷ ds) up =
 -- and the first that a test lets through has the least key of those
 least_passing : (p : Booking → Bool) (bs : List Booking) (b : Booking) (rest : List Booking) → IsAscendingBookings bs → filter p bs ≡ b ∷ rest → least_key (keys_of (filter p bs)) ≡ Some b.key
 least_passing p bs b rest up passing =
-    let left : IsAscendingBookings (b ∷ rest) = subst IsAscendingBookings passing (ascending-filter key_cmp (λ b. b.key) p bs up) in
+    let left : IsAscendingBookings (b ∷ rest) = subst IsAscendingBookings passing (ascending-filter key_cmp_total (λ b. b.key) p bs up) in
     rw passing (least_first b rest left)
 
 -- where none passes before place i, and the booking there does, its key is the least of those that pass
@@ -68,7 +52,7 @@ least_at_end p bs items i left past =
 
 -- the keys of those that pass are ascending
 pub ascending_passing : (p : Booking → Bool) (bs : List Booking) → IsAscendingBookings bs → IsAscending key_cmp (λ k. k) (keys_of (filter p bs))
-ascending_passing p bs up = ascending-keys key_cmp (λ b. b.key) (filter p bs) (ascending-filter key_cmp (λ b. b.key) p bs up)
+ascending_passing p bs up = ascending-keys key_cmp (λ b. b.key) (filter p bs) (ascending-filter key_cmp_total (λ b. b.key) p bs up)
 
 -- none is in the way exactly where all that conflict may be preempted
 pub none_least : (q r : Booking → Bool) (bs : List Booking) → is_none (least_key (keys_of (filter (λ b. q b && not (r b)) bs))) ≡ list_all r (filter q bs)
