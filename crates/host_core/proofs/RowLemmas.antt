@@ -4,7 +4,6 @@ use Rattle.std.proofs.lemmas.List.Elements.{recursion_from_All, All-from_recursi
 use Rattle.std.specs.Ordering.{is_eq, match_ordering, ordering_reverse}
 use Rattle.std.specs.declared.cmp.Ordering.TheVariants.{Less, Equal, Greater}
 use Rattle.std.specs.List.{AllByRecursion}
-use Rattle.std.specs.declared.cmp.Ordering.{Ordering}
 use Rattle.ps_time.specs.Key.{key_cmp}
 use Rattle.ps_time.proofs.KeyLemmas.{key_cmp_total, key_cmp_same}
 use Rattle.ps_time.specs.declared.key.RunKey.{RunKey}
@@ -51,17 +50,6 @@ found_behind r rs (x ∷ xs) above found = (ap (λ z. cond (is_eq z) (Some r) (f
 pub each_found : (rows : List RunRow) → IsAscendingRows rows → AllByRecursion (λ x. find_row rows x.key ≡ Some x) rows
 each_found [] up = tt
 each_found (r ∷ rs) up = (ap (λ z. cond (is_eq z) (Some r) (find_row rs r.key)) (key_cmp_same r.key), found_behind r rs rs up.0 (each_found rs up.1))
-
--- a row that was put is found
-pub find_row-put : (r : RunRow) (rows : List RunRow) → find_row rows r.key ≡ None → find_row (put_row rows r) r.key ≡ Some r
-find_row-put r [] none = ap (λ z. cond (is_eq z) (Some r) None) (key_cmp_same r.key)
-find_row-put r (x ∷ xs) none = go (key_cmp x.key r.key) refl none (find_row-put r xs)
-  where
-    go : (c : Ordering) → key_cmp x.key r.key ≡ c → cond (is_eq c) (Some x) (find_row xs r.key) ≡ None → (find_row xs r.key ≡ None → find_row (put_row xs r) r.key ≡ Some r)
-        → find_row (match_ordering c (x ∷ put_row xs r) (x ∷ put_row xs r) (r ∷ x ∷ xs)) r.key ≡ Some r
-    go Less order none later = ap (λ z. cond (is_eq z) (Some x) (find_row (put_row xs r) r.key)) order ∙ later none
-    go Equal order none later = cc
-    go Greater order none later = ap (λ z. cond (is_eq z) (Some r) (find_row (x ∷ xs) r.key)) (key_cmp_same r.key)
 
 -- ---- what holds of all rows ----
 module _ (P : RunRow → Type 0) (k : RunKey) (r : RunRow) where
