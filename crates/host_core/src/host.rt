@@ -132,6 +132,7 @@ impl Host {
     /// Makes room for changes, so that they can be absorbed.
     pub fn reserve(&mut self, changes: &Changes) -> Result<(), Memory>
         ensures book { self.new.book ≡ self.old.book }
+        ensures never_less { self.old.room ≤ self.new.room }
         ensures room { OnOk result (added changes.now.list ≤ self.new.room) }
     {
         let mut count = 0;
