@@ -16,7 +16,7 @@ pub record IsYearAfter (most year days : ℕ) (found : ℕ × ℕ) : Type 0 wher
   pub to : found.0 ≤ year + most
   pub same : day_count (pos found.0) 1 1 + found.1 ≡ day_count (pos year) 1 1 + days
 
-year_after_is : (most year days : ℕ) → days < 365 * (most + 1) → IsYearAfter most year days (year_after most year days)
+pub year_after_is : (most year days : ℕ) → days < 365 * (most + 1) → IsYearAfter most year days (year_after most year days)
 unfolding year_after
 year_after_is zero year days few = record {
   inside = omega (arith, days_in_year_bounds (pos year));
@@ -53,7 +53,7 @@ pub record IsMonthAfter (year month days : ℕ) (found : ℕ × ℕ) : Type 0 wh
   pub to : found.0 ≤ 12
   pub same : day_count (pos year) found.0 1 + found.1 ≡ day_count (pos year) month 1 + days
 
-month_after_is : (most year month days : ℕ) → 1 ≤ month → month + most ≡ 12 → days + days_of_months (pos year) (month - 1) < days_in_year (pos year) →
+pub month_after_is : (most year month days : ℕ) → 1 ≤ month → month + most ≡ 12 → days + days_of_months (pos year) (month - 1) < days_in_year (pos year) →
     IsMonthAfter year month days (month_after most year month days)
 unfolding month_after
 month_after_is zero year month days first last few = let twelve : month ≡ 12 = omega arith in
