@@ -5,10 +5,7 @@ ghost use Rattle.host_timeline.specs.Booking.{conflicts_with, can_preempt, is_fi
 use ps_time::class::{Class, classes_conflict};
 use ps_time::interval::Interval;
 use ps_time::key::RunKey;
-use ps_time::moment::Moment;
-
-/// How long before its start a run is on deck and can't be preempted any more, in seconds.
-const ON_DECK: u64 = 10;
+use ps_time::moment::{Moment, ON_DECK};
 
 /// What a run reserves on a host.
 #[derive(Clone, Copy, Debug, PartialEq, Eq)]

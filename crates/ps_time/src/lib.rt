@@ -15,7 +15,7 @@ pub mod moment;
 pub mod moment_text;
 pub mod name;
 pub mod number;
-pub mod picture;
+mod picture;
 pub mod read_length;
 pub mod read_moment;
 pub mod read_start;

@@ -6,6 +6,9 @@ pub const MAX_MOMENT: u64 = 4_102_444_800;
 /// The greatest length, in seconds: ten years of 365 days.
 pub const MAX_LENGTH: u64 = 315_360_000;
 
+/// How long before its start a run is on deck, and can't be preempted any more, in seconds.
+pub const ON_DECK: u64 = 10;
+
 /// Whole seconds since 1970 UTC, from 0 to `MAX_MOMENT`.
 pub type Moment = u64;
 

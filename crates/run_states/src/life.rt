@@ -7,7 +7,7 @@ use crate::row::{Ending, RunRow};
 use crate::state::State;
 use crate::why::{Cause, Closing, Why};
 use ps_time::interval::Interval;
-use ps_time::moment::Moment;
+use ps_time::moment::{Moment, ON_DECK};
 use ps_time::text::Text;
 
 /// How long a question and an acceptance hold, in seconds.
@@ -16,9 +16,6 @@ pub const HOLD: u64 = 60;
 /// How long after its start a run may still be started, and how long after its end it may take to
 /// clean up, in seconds.
 pub const GRACE: u64 = 15;
-
-/// How long before its start a confirmed run is on deck, in seconds.
-pub const DECK: u64 = 10;
 
 /// A step in the life of a row.
 #[derive(Drop)]
@@ -206,7 +203,7 @@ pub fn state_name(row: &RunRow, moment: Moment) -> State
         };
     }
     match row.interval {
-        Some(interval) if row.confirmed.is_some() && interval.start <= moment + DECK => {
+        Some(interval) if row.confirmed.is_some() && interval.start <= moment + ON_DECK => {
             State::OnDeck
         }
         _ => State::Pending,
