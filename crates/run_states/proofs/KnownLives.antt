@@ -1,5 +1,5 @@
 -- The tables of a row's life on known rows: a run over the seconds 100 to 150, worked out by hand.
-use Rattle.std.proofs.Common.{◌≡◌, ℕ, pos, List, [], Option, Some, None, true, false, refl}
+use Rattle.std.proofs.Common.{◌≡◌, ℕ, pos, [], Option, Some, None, true, false, refl}
 use Rattle.plugin_core.specs.declared.test_spec.TestSpec.TheVariants.{Idleex}
 use Rattle.run_states.specs.declared.row.Ending.{Ending}
 use Rattle.run_states.specs.declared.row.RunRow.{RunRow}
