@@ -3,4 +3,3 @@ pub mod CivilLemmas
 pub mod OpenLemmas
 pub mod ReadLemmas
 pub mod SignedLemmas
-pub mod WalkLemmas

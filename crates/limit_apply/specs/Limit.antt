@@ -1,7 +1,8 @@
 -- When a limit is true of a test and a run of it.
-use Rattle.std.specs.Prelude.{ℕ, min, max, ◌&&◌, nat_le, nat_lt, Bool, true, false, List, Option, Some, None, bytes_eq, if◌then◌else◌, codes}
+use Rattle.std.specs.Prelude.{ℕ, min, max, ◌&&◌, nat_le, nat_lt, Bool, true, false, List, Option, Some, None, bytes_eq, if◌then◌else◌}
 use Rattle.std.specs.List.{list_any}
 use Rattle.ps_time.specs.Span.{Span}
+use Rattle.plugin_core.specs.Kind.{kind_text, test_kind}
 use Rattle.plugin_core.specs.declared.test_spec.TestSpec.{TestSpec}
 use Rattle.plugin_core.specs.declared.test_spec.TestSpec.TheVariants.{Idle, Idleex, Idlebgm, Idlemany, Simplestream}
 use Rattle.limit_ident.specs.Identifier.{turned}
@@ -16,13 +17,6 @@ use Rattle.limit_apply.specs.declared.limit.Rule.TheVariants.{PassFail, TestType
 use Rattle.limit_apply.specs.declared.limit.Limit.{Limit}
 
 -- ---- tests
-
-abbrev pub test_name : TestSpec → List ℕ
-test_name (Idle duration starting parting) = codes "idle"
-test_name (Idleex duration starting parting) = codes "idleex"
-test_name (Idlebgm duration starting parting interval) = codes "idlebgm"
-test_name (Idlemany duration starting parting hosts) = codes "idlemany"
-test_name (Simplestream dest material dawdle timeout) = codes "simplestream"
 
 -- the lengths that a test has
 abbrev pub duration_in : TestSpec → Option ℕ
@@ -80,8 +74,8 @@ in_times schedule (Some run) = in_schedule schedule run
 
 abbrev pub rule_holds : TestSpec → Option Span → Rule → Bool
 rule_holds test run (PassFail pass) = pass
-rule_holds test run (TestType types) = is_listed (test_name test) types
-rule_holds test run (Test name lengths) = bytes_eq name (test_name test) && lengths_kept lengths test
+rule_holds test run (TestType types) = is_listed (kind_text (test_kind test)) types
+rule_holds test run (Test name lengths) = bytes_eq name (kind_text (test_kind test)) && lengths_kept lengths test
 rule_holds test run (RunDateRange range) = in_range range run
 rule_holds test run (RunSchedule schedule) = in_times schedule run
 

@@ -85,7 +85,7 @@ impl Group {
         self.require.ended(found)
     }
 
-    #[tactic(auto, using(crate::proofs::WalkLemmas::walked_met))]
+    #[tactic(auto, using(limit_ident::proofs::RequireLemmas::walked_met))]
     fn passes(&self, limits: &[Named<Limit>], test: &TestSpec, run: &Option<Interval>) -> bool
         ensures { result ≡ group_passes limits.now test.now run.now self.now }
     {

@@ -1,10 +1,11 @@
 //! Limits: what may be true of a run.
 ghost use Rattle.std.specs.Prelude.{◌≡◌, Option};
 ghost use Rattle.ps_time.specs.Span.{Span};
-ghost use Rattle.limit_apply.specs.Limit.{test_name, duration_in, interval_in, dawdle_in, timeout_in, kept, lengths_kept, is_listed, in_dates, in_range, in_times, rule_holds, limit_holds, is_run_rule};
+ghost use Rattle.limit_apply.specs.Limit.{duration_in, interval_in, dawdle_in, timeout_in, kept, lengths_kept, is_listed, in_dates, in_range, in_times, rule_holds, limit_holds, is_run_rule};
 
 use crate::bounds::Bounds;
 use crate::schedule::Schedule;
+use plugin_core::kind::{kind_name, kind_of};
 use plugin_core::test_spec::TestSpec;
 use ps_time::duplicate::Duplicate;
 use ps_time::interval::Interval;
@@ -71,18 +72,6 @@ impl Duplicate for Limit {
             rule: self.rule.duplicate(alloc)?,
             invert: self.invert,
         })
-    }
-}
-
-fn test_name(test: &TestSpec) -> &'static str
-    ensures { result.now ≡ test_name test.now }
-{
-    match test {
-        TestSpec::Idle { .. } => "idle",
-        TestSpec::Idleex { .. } => "idleex",
-        TestSpec::Idlebgm { .. } => "idlebgm",
-        TestSpec::Idlemany { .. } => "idlemany",
-        TestSpec::Simplestream { .. } => "simplestream",
     }
 }
 
@@ -195,11 +184,11 @@ impl Rule {
     {
         match self {
             Rule::PassFail(pass) => *pass,
-            Rule::TestType(types) => is_listed(test_name(test), types.as_slice()),
+            Rule::TestType(types) => is_listed(kind_name(kind_of(test)), types.as_slice()),
             Rule::Test {
                 test: name,
                 lengths,
-            } => { name.as_str() == test_name(test) && lengths.are_kept(test) }
+            } => { name.as_str() == kind_name(kind_of(test)) && lengths.are_kept(test) }
             Rule::RunDateRange(range) => is_in_range(range, run),
             Rule::RunSchedule(schedule) => is_in_schedule(schedule, run),
         }
