@@ -1,24 +1,13 @@
 -- The merged tree has whole numbers alone, and isn't deeper than its results by more than three levels.
-use Rattle.std.proofs.Common.{◌≡◌, ℕ, ◌+◌, ◌≤◌, nat_lt, List, [], ◌∷◌, All, true, false, Option, Some, None, Ok, Err, Result, refl, ap, arith}
-use Rattle.std.specs.Str.{IsUtf8, is_utf8}
+use Rattle.std.proofs.Common.{◌≡◌, ℕ, ◌+◌, ◌≤◌, nat_lt, List, [], ◌∷◌, All, true, false, Option, Some, None, Ok, Err, Result, refl, arith}
 use Rattle.std.proofs.lemmas.List.Elements.{All-head, All-tail, All-nil, All-cons}
 use Rattle.std.proofs.lemmas.Bool.Decides.{nat_tests}
-use Rattle.std.proofs.lemmas.Str.{IsUtf8-from_is_utf8}
 use Rattle.serde_json.specs.Data.{Data, depth, items_depth}
 use Rattle.serde_json.specs.View.{items_of}
 use Rattle.serde_json.specs.Written.{has_float, items_have_float}
 use Rattle.ps_json.specs.Tree.{parsed, tree_of, IsWhole}
 use Rattle.ps_json.specs.declared.fault.JsonFault.{JsonFault}
-use Rattle.archive_retry.specs.Merge.{IsResult, IsTreeText, result_tree, participants, merged}
-
--- bytes that are parsed are a text
-pub parsed_utf8 : (bs : List ℕ) (d : Data) → parsed bs ≡ Ok d → IsUtf8 bs
-parsed_utf8 bs d is =
-    let cases = elim (is_utf8 bs) as (λ b. is_utf8 bs ≡ b → is_utf8 bs ≡ true) [
-      | true ↦ λ yes. yes
-      | false ↦ λ no. let wrong = rw no at is in cc
-    ] in
-    IsUtf8-from_is_utf8 bs (cases refl)
+use Rattle.archive_retry.specs.Merge.{IsResult, result_tree, participants, merged}
 
 -- what is read nests at most 64 levels
 read_depth : (bs : List ℕ) (d : Data) → tree_of bs ≡ Ok d → depth d ≤ 64

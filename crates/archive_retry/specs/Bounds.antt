@@ -1,5 +1,5 @@
 -- The bounds that every policy keeps.
-use Rattle.std.specs.Prelude.{◌≤◌, List, length, All}
+use Rattle.std.specs.Prelude.{◌≤◌, length, All}
 use Rattle.ps_time.specs.declared.moment.TheConstants.{MAX_LENGTH}
 use Rattle.archive_retry.specs.declared.policy.Entry.{Entry}
 use Rattle.archive_retry.specs.declared.policy.Policy.{Policy}

@@ -1,8 +1,8 @@
 -- The results of a run's participants, made one.
-use Rattle.std.specs.Prelude.{◌≡◌, ℕ, Bool, true, false, List, [], ◌∷◌, Option, Some, None, Result, Ok, Err, IfSome, codes}
+use Rattle.std.specs.Prelude.{◌≡◌, ℕ, Bool, false, List, [], ◌∷◌, Option, Some, None, Result, Ok, Err, IfSome, codes}
 use Rattle.std.specs.List.{list_all}
 use Rattle.serde_json.specs.Data.{Data, null, unsigned, boolean, number, string, array, object, no_members, member}
-use Rattle.serde_json.specs.Find.{get, as_bool}
+use Rattle.serde_json.specs.Find.{get}
 use Rattle.serde_json.specs.View.{items_of}
 use Rattle.ps_json.specs.Tree.{tree_of, IsWhole}
 use Rattle.ps_json.specs.declared.fault.JsonFault.{JsonFault}

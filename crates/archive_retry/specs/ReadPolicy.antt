@@ -1,6 +1,6 @@
 -- Which policy a JSON tree is.
 use Rattle.std.specs.Prelude.{ℕ, ◌&&◌, nat_le, List, [], ◌∷◌, ◌++◌, length, Result, Ok, Err, if◌then◌else◌, codes}
-use Rattle.serde_json.specs.Data.{Data, Members}
+use Rattle.serde_json.specs.Data.{Data}
 use Rattle.ps_json.specs.Answer.{then_with, lifted}
 use Rattle.ps_json.specs.Fields.{without_member, need_of, end_of}
 use Rattle.ps_json.specs.Kinds.{count_of, text_of, list_of, members_of}

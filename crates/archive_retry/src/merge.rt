@@ -6,7 +6,7 @@ ghost use Rattle.serde_json.specs.Written.{compact_text};
 ghost use Rattle.ps_json.specs.Tree.{IsWhole, tree_of};
 ghost use Rattle.archive_retry.specs.Merge.{IsTreeText, IsResult, result_tree, is_good, participant, participants, all_good, merged};
 
-use ps_json::tree::{read_tree, write_tree};
+use ps_json::tree::{read_tree, write_text};
 use ps_time::memory::Memory;
 use ps_time::text::Text;
 use serde_json::{Value, json};
@@ -91,20 +91,4 @@ pub fn merge(alloc: Global, hosts: &[Text], results: &[Option<Text>]) -> Result<
     let value = merged_tree(alloc, hosts, results)?;
     let text = write_text(alloc, &value)?;
     Ok(text)
-}
-
-/// The compact text of a tree.
-pub(crate) fn write_text(alloc: Global, value: &Value) -> Result<Text, Memory>
-    requires whole { IsWhole (view value.now) }
-    requires flat { depth (view value.now) ≤ 127 }
-    ensures text { IfOk result (λ text. text ≡ compact_text (view value.now)) }
-    ensures reads { IfOk result (λ text. depth (view value.now) ≤ 64 → tree_of text ≡ Ok (view value.now)) }
-{
-    let Ok(bytes) = write_tree(alloc, value) else {
-        return Err(Memory);
-    };
-    match String::from_utf8(bytes) {
-        Ok(string) => Ok(Text::from_string(string)),
-        Err(_) => unreachable!(),
-    }
 }

@@ -5,13 +5,13 @@ ghost use Rattle.archive_retry.specs.Bounds.{IsPolicy};
 ghost use Rattle.archive_retry.specs.Merge.{IsResult};
 
 use crate::fault::PolicyFault;
-use crate::merge::{merge, write_text};
+use crate::merge::merge;
 use crate::policy::{Entry, Policy};
 use crate::read_policy::read_policy;
 use crate::retry::{due, tried};
 use crate::state::ArchiveState;
 use ps_json::shape::{is_deeper, is_whole};
-use ps_json::tree::read_tree;
+use ps_json::tree::{read_tree, write_text};
 use ps_time::items::Items;
 use ps_time::same::Same;
 use ps_time::text::Text;

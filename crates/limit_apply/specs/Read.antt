@@ -5,8 +5,9 @@ use Rattle.serde_json.specs.Find.{get_member}
 use Rattle.ps_json.specs.Answer.{then_with}
 use Rattle.ps_json.specs.Fields.{without_member}
 use Rattle.ps_json.specs.Kinds.{integer_of}
-use Rattle.limit_ident.specs.Fault.{in_json}
-use Rattle.limit_ident.specs.Member.{required, optional, member_then, object_in, described}
+use Rattle.limit_ident.specs.Fault.{in_json, wrapped}
+use Rattle.ps_json.specs.Member.{required, optional, member_then}
+use Rattle.limit_ident.specs.Member.{object_in, described}
 use Rattle.limit_ident.specs.ReadClassifiers.{classifiers_of}
 use Rattle.limit_ident.specs.ReadIdentifiers.{identifiers_of}
 use Rattle.limit_ident.specs.declared.classifier.Classifier.{Classifier}
@@ -39,10 +40,10 @@ classifiers_in is name d = classifiers_of is d
 
 abbrev pub lists_of : Members → Result Lists LimitFault
 lists_of ms =
-    member_then (codes "identifiers") (required identifiers_in) ms (λ is ms.
-    member_then (codes "classifiers") (required (classifiers_in is)) ms (λ cs ms.
-    member_then (codes "limits") (required limits_in) ms (λ ls ms.
-    member_then (codes "applications") (required (applications_in cs ls)) ms (λ applications ms.
+    member_then (codes "identifiers") (required wrapped identifiers_in) ms (λ is ms.
+    member_then (codes "classifiers") (required wrapped (classifiers_in is)) ms (λ cs ms.
+    member_then (codes "limits") (required wrapped limits_in) ms (λ ls ms.
+    member_then (codes "applications") (required wrapped (applications_in cs ls)) ms (λ applications ms.
     Ok (record { identifiers = is; classifiers = cs; limits = ls; applications = applications })))))
 
 abbrev pub after_lists : Members → Members

@@ -4,8 +4,9 @@ use Rattle.serde_json.specs.Data.{Data, Members}
 use Rattle.ps_json.specs.Answer.{then_with}
 use Rattle.ps_json.specs.Fields.{without_member}
 use Rattle.ps_json.specs.Kinds.{integer_of, list_of}
-use Rattle.limit_ident.specs.Fault.{in_json}
-use Rattle.limit_ident.specs.Member.{required, optional, member_then, flag_in, object_in, some_in, described}
+use Rattle.limit_ident.specs.Fault.{in_json, wrapped}
+use Rattle.ps_json.specs.Member.{required, optional, member_then}
+use Rattle.limit_ident.specs.Member.{flag_in, object_in, some_in, described}
 use Rattle.limit_ident.specs.Named.{place_in}
 use Rattle.limit_ident.specs.ReadClassifiers.{require_in, places_in}
 use Rattle.limit_ident.specs.declared.classifier.Classifier.{Classifier}
@@ -23,8 +24,8 @@ use Rattle.limit_apply.specs.declared.limits.Priorities.{Priorities}
 abbrev pub group_of : List (Named Limit) → Data → Result Group LimitFault
 group_of ls d =
     then_with (object_in (codes "apply") d) (λ ms.
-    member_then (codes "require") (required require_in) ms (λ require ms.
-    member_then (codes "limits") (required (places_in ls)) ms (λ places ms.
+    member_then (codes "require") (required wrapped require_in) ms (λ require ms.
+    member_then (codes "limits") (required wrapped (places_in ls)) ms (λ places ms.
     then_with (described ms) (λ _. Ok (record { require = require; limits = places })))))
 
 abbrev pub groups_from : List (Named Limit) → List Group → List Data → Result (List Group) LimitFault
@@ -36,8 +37,8 @@ apply_in ls name d = then_with (some_in name d) (groups_from ls [])
 
 abbrev pub told_of : List (Named Classifier) → List (Named Limit) → Members → Result Application LimitFault
 told_of cs ls ms =
-    member_then (codes "classifier") (required (place_in cs)) ms (λ classifier ms.
-    member_then (codes "apply") (required (apply_in ls)) ms (λ apply ms.
+    member_then (codes "classifier") (required wrapped (place_in cs)) ms (λ classifier ms.
+    member_then (codes "apply") (required wrapped (apply_in ls)) ms (λ apply ms.
     member_then (codes "invert") (optional false flag_in) ms (λ invert ms.
     member_then (codes "stop-on-failure") (optional false flag_in) ms (λ stop ms.
     Ok (record { classifier = classifier; apply = apply; invert = invert; stop_on_failure = stop })))))
@@ -69,8 +70,8 @@ ceiling_in name d =
 
 abbrev pub ceiling_of : List (Named Classifier) → Members → Result Ceiling LimitFault
 ceiling_of cs ms =
-    member_then (codes "classifier") (required (place_in cs)) ms (λ classifier ms.
-    member_then (codes "ceiling") (required ceiling_in) ms (λ ceiling ms.
+    member_then (codes "classifier") (required wrapped (place_in cs)) ms (λ classifier ms.
+    member_then (codes "ceiling") (required wrapped ceiling_in) ms (λ ceiling ms.
     Ok (record { classifier = classifier; ceiling = ceiling })))
 
 abbrev pub entry_of : List (Named Classifier) → Data → Result Ceiling LimitFault

@@ -10,7 +10,9 @@ use Rattle.ps_time.specs.Moment.{moment_of}
 use Rattle.ps_time.specs.declared.moment.Round.{Round}
 use Rattle.ps_time.specs.declared.moment.Round.TheVariants.{Up, Down}
 use Rattle.ps_time.specs.declared.moment.TimeFault.{TimeFault}
-use Rattle.limit_ident.specs.Member.{required, optional, member_then, text_in, flag_in, object_in, some_in, ended, described}
+use Rattle.ps_json.specs.Member.{required, optional, member_then}
+use Rattle.limit_ident.specs.Member.{text_in, flag_in, object_in, some_in, ended, described}
+use Rattle.limit_ident.specs.Fault.{wrapped}
 use Rattle.limit_ident.specs.Named.{new_in}
 use Rattle.limit_ident.specs.declared.fault.LimitFault.{LimitFault}
 use Rattle.limit_ident.specs.declared.fault.LimitFault.TheVariants.{Json, UnknownType, BadRange}
@@ -65,15 +67,15 @@ names_in name d = then_with (some_in name d) (names_from name [])
 abbrev pub range_in : List ℕ → List ℕ → Data → Result Bounds LimitFault
 range_in len name d =
     then_with (object_in name d) (λ ms.
-    member_then (codes "lower") (required length_in) ms (λ lower ms.
-    member_then (codes "upper") (required length_in) ms (λ upper ms.
+    member_then (codes "lower") (required wrapped length_in) ms (λ lower ms.
+    member_then (codes "upper") (required wrapped length_in) ms (λ upper ms.
     if nat_lt upper lower then Err (BadRange len)
     else then_with (ended ms) (λ _. Ok (record { lower = lower; upper = upper })))))
 
 abbrev pub bounds_in : List ℕ → Data → Result Bounds LimitFault
 bounds_in name d =
     then_with (object_in name d) (λ ms.
-    member_then (codes "range") (required (range_in name)) ms (λ bounds ms.
+    member_then (codes "range") (required wrapped (range_in name)) ms (λ bounds ms.
     then_with (ended ms) (λ _. Ok bounds)))
 
 abbrev pub some_bounds_in : List ℕ → Data → Result (Option Bounds) LimitFault
@@ -100,21 +102,21 @@ pass_of (Some d) =
 abbrev pub test_type_in : List ℕ → Data → Result Rule LimitFault
 test_type_in name d =
     then_with (object_in name d) (λ ms.
-    member_then (codes "types") (required names_in) ms (λ types ms.
+    member_then (codes "types") (required wrapped names_in) ms (λ types ms.
     then_with (ended ms) (λ _. Ok (test_type types))))
 
 abbrev pub test_in : List ℕ → Data → Result Rule LimitFault
 test_in name d =
     then_with (object_in name d) (λ ms.
-    member_then (codes "test") (required text_in) ms (λ test ms.
-    member_then (codes "limit") (required lengths_in) ms (λ lengths ms.
+    member_then (codes "test") (required wrapped text_in) ms (λ test ms.
+    member_then (codes "limit") (required wrapped lengths_in) ms (λ lengths ms.
     then_with (ended ms) (λ _. Ok (of_test test lengths)))))
 
 -- the start is rounded up, the end is dropped to its second, and isn't before the start
 abbrev pub dates_of : Members → Result DateRange LimitFault
 dates_of ms =
-    member_then (codes "start") (required (moment_in Up)) ms (λ start ms.
-    member_then (codes "end") (required (moment_in Down)) ms (λ end ms.
+    member_then (codes "start") (required wrapped (moment_in Up)) ms (λ start ms.
+    member_then (codes "end") (required wrapped (moment_in Down)) ms (λ end ms.
     if nat_lt end start then Err (BadRange (codes "end"))
     else member_then (codes "overlap") (optional false flag_in) ms (λ overlap ms.
     Ok (record { start = start; end = end; overlap = overlap }))))
@@ -131,10 +133,10 @@ times_in name d = then_with (schedule_in name d) (λ schedule. Ok (run_schedule 
 
 unfoldable pub rule_of : Kind → List ℕ → Members → Result Rule LimitFault
 rule_of PassFail name ms = pass_of (get_member name ms)
-rule_of TestType name ms = required test_type_in name ms
-rule_of Test name ms = required test_in name ms
-rule_of RunDateRange name ms = required dates_in name ms
-rule_of RunSchedule name ms = required times_in name ms
+rule_of TestType name ms = required wrapped test_type_in name ms
+rule_of Test name ms = required wrapped test_in name ms
+rule_of RunDateRange name ms = required wrapped dates_in name ms
+rule_of RunSchedule name ms = required wrapped times_in name ms
 
 -- ---- entries
 
@@ -154,8 +156,8 @@ rest_of kind ms = then_with (told_of kind ms) (λ limit. then_with (described (a
 abbrev pub limit_of : List (Named Limit) → Data → Result (Named Limit) LimitFault
 limit_of before d =
     then_with (object_in (codes "limits") d) (λ ms.
-    member_then (codes "name") (required (new_in before)) ms (λ name ms.
-    member_then (codes "type") (required kind_in) ms (λ kind ms.
+    member_then (codes "name") (required wrapped (new_in before)) ms (λ name ms.
+    member_then (codes "type") (required wrapped kind_in) ms (λ kind ms.
     then_with (rest_of kind ms) (λ limit. Ok (record { name = name; value = limit })))))
 
 abbrev pub limits_from : List (Named Limit) → List Data → Result (List (Named Limit)) LimitFault

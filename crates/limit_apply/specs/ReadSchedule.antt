@@ -5,8 +5,9 @@ use Rattle.serde_json.specs.Find.{as_object}
 use Rattle.ps_json.specs.Answer.{then_with}
 use Rattle.ps_json.specs.Fields.{without_member}
 use Rattle.ps_json.specs.Kinds.{integer_of}
-use Rattle.limit_ident.specs.Fault.{in_json}
-use Rattle.limit_ident.specs.Member.{required, optional, member_then, flag_in, object_in, some_in, ended}
+use Rattle.limit_ident.specs.Fault.{in_json, wrapped}
+use Rattle.ps_json.specs.Member.{required, optional, member_then}
+use Rattle.limit_ident.specs.Member.{flag_in, object_in, some_in, ended}
 use Rattle.limit_ident.specs.declared.fault.LimitFault.{LimitFault}
 use Rattle.limit_ident.specs.declared.fault.LimitFault.TheVariants.{BadRange}
 use Rattle.limit_apply.specs.declared.bounds.Bounds.{Bounds}
@@ -21,8 +22,8 @@ number_in place least most name d =
 abbrev pub range_in : ℕ → ℕ → List ℕ → Data → Result Bounds LimitFault
 range_in least most place d =
     then_with (object_in place d) (λ ms.
-    member_then (codes "lower") (required (number_in place least most)) ms (λ lower ms.
-    member_then (codes "upper") (required (number_in place least most)) ms (λ upper ms.
+    member_then (codes "lower") (required wrapped (number_in place least most)) ms (λ lower ms.
+    member_then (codes "upper") (required wrapped (number_in place least most)) ms (λ upper ms.
     if nat_lt upper lower then Err (BadRange place)
     else then_with (ended ms) (λ _. Ok (record { lower = lower; upper = upper })))))
 

@@ -5,9 +5,8 @@ ghost use Rattle.ps_json.specs.Fields.{is_comment};
 ghost use Rattle.ps_json.specs.Tree.{tree_of};
 ghost use Rattle.limit_apply.specs.Bare.{bare, bare_items, bare_members, with_plain, bare_text};
 
-use plugin_core::result::write_text;
 use ps_json::shape::{is_deeper, is_whole};
-use ps_json::tree::MAX_DEPTH;
+use ps_json::tree::{MAX_DEPTH, write_text};
 use ps_time::memory::Memory;
 use ps_time::text::Text;
 use serde_json::{Map, Value, put};

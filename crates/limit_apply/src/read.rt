@@ -3,7 +3,8 @@ ghost use Rattle.std.specs.Prelude.{◌≡◌, ◌<◌, ◌^◌, ◌↔◌, IsTr
 ghost use Rattle.serde_json.specs.View.{view};
 ghost use Rattle.ps_json.specs.Answer.{GivesUnless};
 ghost use Rattle.ps_json.specs.Fields.{without_member};
-ghost use Rattle.limit_ident.specs.Member.{required};
+ghost use Rattle.ps_json.specs.Member.{required};
+ghost use Rattle.limit_ident.specs.Fault.{wrapped};
 ghost use Rattle.limit_apply.specs.ReadApplications.{applications_in};
 ghost use Rattle.limit_apply.specs.ReadLimits.{limits_in};
 ghost use Rattle.limit_apply.specs.Read.{schema_in, schema_of, identifiers_in, classifiers_in, lists_of, after_lists, AreCounted, parts_of, config, ended_priorities, config_of, config_in};
@@ -56,7 +57,7 @@ fn take_schema(alloc: Global, fields: &mut Fields) -> Result<(), LimitFault>
 }
 
 fn need_identifiers(alloc: Global, fields: &mut Fields) -> Result<Identifiers, LimitFault>
-    ensures value { GivesUnless LimitFault.Memory result (required identifiers_in (codes "identifiers") fields.old) }
+    ensures value { GivesUnless LimitFault.Memory result (required wrapped identifiers_in (codes "identifiers") fields.old) }
     ensures rest { fields.new ≡ without_member (codes "identifiers") fields.old }
 {
     let value = fields.need(alloc, "identifiers")?;
@@ -69,7 +70,7 @@ fn need_classifiers(
     identifiers: &Identifiers,
 ) -> Result<Classifiers, LimitFault>
     ensures value { GivesUnless LimitFault.Memory result
-        (required (classifiers_in identifiers.now) (codes "classifiers") fields.old) }
+        (required wrapped (classifiers_in identifiers.now) (codes "classifiers") fields.old) }
     ensures rest { fields.new ≡ without_member (codes "classifiers") fields.old }
 {
     let value = fields.need(alloc, "classifiers")?;
@@ -77,7 +78,7 @@ fn need_classifiers(
 }
 
 fn need_limits(alloc: Global, fields: &mut Fields) -> Result<Items<Named<Limit>>, LimitFault>
-    ensures value { GivesUnless LimitFault.Memory result (required limits_in (codes "limits") fields.old) }
+    ensures value { GivesUnless LimitFault.Memory result (required wrapped limits_in (codes "limits") fields.old) }
     ensures rest { fields.new ≡ without_member (codes "limits") fields.old }
 {
     let value = fields.need(alloc, "limits")?;
@@ -91,7 +92,7 @@ fn need_applications(
     limits: &[Named<Limit>],
 ) -> Result<Items<Application>, LimitFault>
     ensures value { GivesUnless LimitFault.Memory result
-        (required (applications_in classifiers.now limits.now) (codes "applications") fields.old) }
+        (required wrapped (applications_in classifiers.now limits.now) (codes "applications") fields.old) }
     ensures rest { fields.new ≡ without_member (codes "applications") fields.old }
 {
     let value = fields.need(alloc, "applications")?;

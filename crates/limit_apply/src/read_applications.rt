@@ -3,7 +3,8 @@ ghost use Rattle.std.specs.Prelude.{◌≡◌, ◌≤ℤ◌, pos, negsuc, [], ma
 ghost use Rattle.serde_json.specs.View.{view};
 ghost use Rattle.ps_json.specs.Answer.{GivesUnless};
 ghost use Rattle.ps_json.specs.Fields.{without_member};
-ghost use Rattle.limit_ident.specs.Member.{required};
+ghost use Rattle.ps_json.specs.Member.{required};
+ghost use Rattle.limit_ident.specs.Fault.{wrapped};
 ghost use Rattle.limit_ident.specs.ReadClassifiers.{require_in, places_in};
 ghost use Rattle.limit_ident.specs.Named.{place_in};
 ghost use Rattle.limit_apply.specs.ReadApplications.{group_of, groups_from, apply_in, told_of, after_told, application_of, applications_from, applications_in, ceiling_in, ceiling_of, entry_of, entries_from, default_of, ceilings_of, priorities_of};
@@ -24,7 +25,7 @@ use serde_json::Value;
 use std::alloc::Global;
 
 fn need_require(alloc: Global, fields: &mut Fields) -> Result<Require, LimitFault>
-    ensures value { GivesUnless LimitFault.Memory result (required require_in (codes "require") fields.old) }
+    ensures value { GivesUnless LimitFault.Memory result (required wrapped require_in (codes "require") fields.old) }
     ensures rest { fields.new ≡ without_member (codes "require") fields.old }
 {
     let value = fields.need(alloc, "require")?;
@@ -37,7 +38,7 @@ fn need_limits(
     limits: &[Named<Limit>],
 ) -> Result<Items<usize>, LimitFault>
     ensures value { GivesUnless LimitFault.Memory result
-        (required (places_in limits.now) (codes "limits") fields.old) }
+        (required wrapped (places_in limits.now) (codes "limits") fields.old) }
     ensures rest { fields.new ≡ without_member (codes "limits") fields.old }
 {
     let value = fields.need(alloc, "limits")?;
@@ -77,7 +78,7 @@ fn need_apply(
     limits: &[Named<Limit>],
 ) -> Result<Items<Group>, LimitFault>
     ensures value { GivesUnless LimitFault.Memory result
-        (required (apply_in limits.now) (codes "apply") fields.old) }
+        (required wrapped (apply_in limits.now) (codes "apply") fields.old) }
     ensures rest { fields.new ≡ without_member (codes "apply") fields.old }
 {
     let value = fields.need(alloc, "apply")?;
@@ -91,7 +92,7 @@ fn need_classifier(
     classifiers: &[Named<Classifier>],
 ) -> Result<usize, LimitFault>
     ensures value { GivesUnless LimitFault.Memory result
-        (required (place_in classifiers.now) (codes "classifier") fields.old) }
+        (required wrapped (place_in classifiers.now) (codes "classifier") fields.old) }
     ensures rest { fields.new ≡ without_member (codes "classifier") fields.old }
 {
     let value = fields.need(alloc, "classifier")?;
@@ -176,7 +177,7 @@ fn read_ceiling(alloc: Global, value: Value, name: &str) -> Result<i16, LimitFau
 }
 
 fn need_ceiling(alloc: Global, fields: &mut Fields) -> Result<i16, LimitFault>
-    ensures value { GivesUnless LimitFault.Memory result (required ceiling_in (codes "ceiling") fields.old) }
+    ensures value { GivesUnless LimitFault.Memory result (required wrapped ceiling_in (codes "ceiling") fields.old) }
     ensures bound { IfOk result (λ z. (negsuc 999 ≤ℤ z) × (z ≤ℤ pos 1_000)) }
     ensures rest { fields.new ≡ without_member (codes "ceiling") fields.old }
 {

@@ -3,7 +3,8 @@ ghost use Rattle.std.specs.Prelude.{◌≡◌, [], map, option_map, codes, OnOk}
 ghost use Rattle.serde_json.specs.View.{view};
 ghost use Rattle.ps_json.specs.Answer.{GivesUnless};
 ghost use Rattle.ps_json.specs.Fields.{without_member};
-ghost use Rattle.limit_ident.specs.Member.{required, optional};
+ghost use Rattle.ps_json.specs.Member.{required, optional};
+ghost use Rattle.limit_ident.specs.Fault.{wrapped};
 ghost use Rattle.limit_apply.specs.ReadLimits.{kind_of, kind_in, pass_of, names_from, test_type_in, length_in, moment_in, range_in, bounds_in, some_bounds_in, lengths_in, test_in, dates_in, dates_of, times_in, rule_of, told_of, after_told, rest_of, limit_of, limits_from, limits_in};
 
 use crate::bounds::Bounds;
@@ -47,7 +48,7 @@ fn read_kind(text: &str) -> Option<Kind>
 }
 
 fn need_kind(alloc: Global, fields: &mut Fields) -> Result<Kind, LimitFault>
-    ensures value { GivesUnless LimitFault.Memory result (required kind_in (codes "type") fields.old) }
+    ensures value { GivesUnless LimitFault.Memory result (required wrapped kind_in (codes "type") fields.old) }
     ensures rest { fields.new ≡ without_member (codes "type") fields.old }
 {
     let name = need_text(alloc, fields, "type")?;
@@ -92,7 +93,7 @@ fn read_type_data(alloc: Global, value: Value) -> Result<Rule, LimitFault>
 }
 
 fn need_length(alloc: Global, fields: &mut Fields, name: &str) -> Result<Length, LimitFault>
-    ensures value { GivesUnless LimitFault.Memory result (required length_in name.now fields.old) }
+    ensures value { GivesUnless LimitFault.Memory result (required wrapped length_in name.now fields.old) }
     ensures rest { fields.new ≡ without_member name.now fields.old }
 {
     let text = need_text(alloc, fields, name)?;
@@ -108,7 +109,7 @@ fn need_moment(
     name: &str,
     round: Round,
 ) -> Result<Moment, LimitFault>
-    ensures value { GivesUnless LimitFault.Memory result (required (moment_in round) name.now fields.old) }
+    ensures value { GivesUnless LimitFault.Memory result (required wrapped (moment_in round) name.now fields.old) }
     ensures rest { fields.new ≡ without_member name.now fields.old }
 {
     let text = need_text(alloc, fields, name)?;

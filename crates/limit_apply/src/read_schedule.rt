@@ -3,7 +3,8 @@ ghost use Rattle.std.specs.Prelude.{◌≡◌, [], map, codes, OnOk};
 ghost use Rattle.serde_json.specs.View.{view};
 ghost use Rattle.ps_json.specs.Answer.{GivesUnless};
 ghost use Rattle.ps_json.specs.Fields.{without_member};
-ghost use Rattle.limit_ident.specs.Member.{required, optional};
+ghost use Rattle.ps_json.specs.Member.{required, optional};
+ghost use Rattle.limit_ident.specs.Fault.{wrapped};
 ghost use Rattle.limit_apply.specs.ReadSchedule.{number_in, range_in, item_of, items_from, numbers_in, schedule_of, after_schedule, schedule_in};
 
 use crate::bounds::Bounds;
@@ -43,7 +44,7 @@ fn need_number(
     most: u8,
 ) -> Result<u64, LimitFault>
     ensures value { GivesUnless LimitFault.Memory result
-        (required (number_in place.now least most) name.now fields.old) }
+        (required wrapped (number_in place.now least most) name.now fields.old) }
     ensures rest { fields.new ≡ without_member name.now fields.old }
 {
     let value = fields.need(alloc, name)?;

@@ -10,7 +10,9 @@ use Rattle.limit_ident.specs.declared.identifier.Identifier.{Identifier}
 use Rattle.limit_ident.specs.declared.named.Named.{Named}
 use Rattle.limit_ident.specs.declared.require.Require.{Require}
 use Rattle.limit_ident.specs.declared.require.Require.TheVariants.{All as all, Any as any, One as one, None as no_one}
-use Rattle.limit_ident.specs.Member.{required, optional, member_then, text_in, object_in, some_in, described}
+use Rattle.ps_json.specs.Member.{required, optional, member_then}
+use Rattle.limit_ident.specs.Member.{text_in, object_in, some_in, described}
+use Rattle.limit_ident.specs.Fault.{wrapped}
 use Rattle.limit_ident.specs.Named.{new_in, place_in}
 
 abbrev pub require_of : List ℕ → Option Require
@@ -39,14 +41,14 @@ places_in es name d = then_with (some_in name d) (places_from es name [])
 -- what stands behind the name
 abbrev pub rest_of : List (Named Identifier) → Members → Result Classifier LimitFault
 rest_of is ms =
-    member_then (codes "identifiers") (required (places_in is)) ms (λ places ms.
+    member_then (codes "identifiers") (required wrapped (places_in is)) ms (λ places ms.
     member_then (codes "require") (optional any require_in) ms (λ require ms.
     then_with (described ms) (λ _. Ok (record { identifiers = places; require = require }))))
 
 abbrev pub classifier_of : List (Named Identifier) → List (Named Classifier) → Data → Result (Named Classifier) LimitFault
 classifier_of is before d =
     then_with (object_in (codes "classifiers") d) (λ ms.
-    member_then (codes "name") (required (new_in before)) ms (λ name ms.
+    member_then (codes "name") (required wrapped (new_in before)) ms (λ name ms.
     then_with (rest_of is ms) (λ classifier. Ok (record { name = name; value = classifier }))))
 
 abbrev pub classifiers_from : List (Named Identifier) → List (Named Classifier) → List Data → Result (List (Named Classifier)) LimitFault

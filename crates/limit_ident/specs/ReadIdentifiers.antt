@@ -19,7 +19,9 @@ use Rattle.limit_ident.specs.declared.named.Named.{Named}
 use Rattle.limit_ident.specs.declared.read_identifiers.Kind.{Kind}
 use Rattle.limit_ident.specs.declared.read_identifiers.Kind.TheVariants.{Always, CidrList, Hint as hint}
 use Rattle.limit_ident.specs.Address.{block_of}
-use Rattle.limit_ident.specs.Member.{required, optional, member_then, text_in, flag_in, object_in, some_in, ended, described}
+use Rattle.ps_json.specs.Member.{required, optional, member_then}
+use Rattle.limit_ident.specs.Member.{text_in, flag_in, object_in, some_in, ended, described}
+use Rattle.limit_ident.specs.Fault.{wrapped}
 use Rattle.limit_ident.specs.Named.{new_in}
 
 -- ---- words
@@ -57,15 +59,15 @@ style_in name d =
 abbrev pub match_in : List ℕ → Data → Result (Style × List ℕ) LimitFault
 match_in name d =
     then_with (object_in name d) (λ ms.
-    member_then (codes "style") (required style_in) ms (λ style ms.
-    member_then (codes "match") (required text_in) ms (λ text ms.
+    member_then (codes "style") (required wrapped style_in) ms (λ style ms.
+    member_then (codes "match") (required wrapped text_in) ms (λ text ms.
     then_with (ended ms) (λ _. Ok (style, text)))))
 
 abbrev pub hinted_in : List ℕ → Data → Result Condition LimitFault
 hinted_in name d =
     then_with (object_in name d) (λ ms.
-    member_then (codes "hint") (required hint_in) ms (λ hint ms.
-    member_then (codes "match") (required match_in) ms (λ match ms.
+    member_then (codes "hint") (required wrapped hint_in) ms (λ hint ms.
+    member_then (codes "match") (required wrapped match_in) ms (λ match ms.
     then_with (ended ms) (λ _. Ok (hinted hint match.0 match.1)))))
 
 abbrev pub block_in : Data → Result Block LimitFault
@@ -85,7 +87,7 @@ blocks_in name d = then_with (some_in name d) (blocks_from [])
 abbrev pub cidr_list_in : List ℕ → Data → Result Condition LimitFault
 cidr_list_in name d =
     then_with (object_in name d) (λ ms.
-    member_then (codes "cidrs") (required blocks_in) ms (λ blocks ms.
+    member_then (codes "cidrs") (required wrapped blocks_in) ms (λ blocks ms.
     then_with (ended ms) (λ _. Ok (cidr_list blocks))))
 
 -- an object without members, or nothing
@@ -95,8 +97,8 @@ always_of (Some d) = then_with (object_in (codes "data") d) (λ ms. then_with (e
 
 unfoldable pub condition_of : Kind → List ℕ → Members → Result Condition LimitFault
 condition_of Always name ms = always_of (get_member name ms)
-condition_of hint name ms = required hinted_in name ms
-condition_of CidrList name ms = required cidr_list_in name ms
+condition_of hint name ms = required wrapped hinted_in name ms
+condition_of CidrList name ms = required wrapped cidr_list_in name ms
 
 -- ---- entries
 
@@ -116,8 +118,8 @@ rest_of kind ms = then_with (told_of kind ms) (λ identifier. then_with (describ
 abbrev pub identifier_of : List (Named Identifier) → Data → Result (Named Identifier) LimitFault
 identifier_of before d =
     then_with (object_in (codes "identifiers") d) (λ ms.
-    member_then (codes "name") (required (new_in before)) ms (λ name ms.
-    member_then (codes "type") (required kind_in) ms (λ kind ms.
+    member_then (codes "name") (required wrapped (new_in before)) ms (λ name ms.
+    member_then (codes "type") (required wrapped kind_in) ms (λ kind ms.
     then_with (rest_of kind ms) (λ identifier. Ok (record { name = name; value = identifier })))))
 
 abbrev pub identifiers_from : List (Named Identifier) → List Data → Result (List (Named Identifier)) LimitFault

@@ -3,7 +3,9 @@ ghost use Rattle.std.specs.Prelude.{◌≡◌, map, false, codes};
 ghost use Rattle.serde_json.specs.View.{view};
 ghost use Rattle.ps_json.specs.Answer.{GivesUnless, seen_as};
 ghost use Rattle.ps_json.specs.Fields.{without_member};
-ghost use Rattle.limit_ident.specs.Member.{required, optional, text_in, flag_in, some_in, described};
+ghost use Rattle.ps_json.specs.Member.{required, optional};
+ghost use Rattle.limit_ident.specs.Member.{text_in, flag_in, some_in, described};
+ghost use Rattle.limit_ident.specs.Fault.{wrapped};
 
 use crate::fault::LimitFault;
 use ps_json::fields::Fields;
@@ -25,7 +27,7 @@ pub fn read_some(alloc: Global, value: Value, name: &str) -> Result<Vec<Value>, 
 
 /// A text that has to be there.
 pub fn need_text(alloc: Global, fields: &mut Fields, name: &str) -> Result<Text, LimitFault>
-    ensures value { GivesUnless LimitFault.Memory result (required text_in name.now fields.old) }
+    ensures value { GivesUnless LimitFault.Memory result (required wrapped text_in name.now fields.old) }
     ensures rest { fields.new ≡ without_member name.now fields.old }
 {
     let value = fields.need(alloc, name)?;

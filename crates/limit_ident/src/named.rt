@@ -1,10 +1,10 @@
 //! Entries of a list that others name.
-ghost use Rattle.std.specs.Prelude.{◌≡◌, ◌<◌, length, IfOk, IfSome};
+ghost use Rattle.std.specs.Prelude.{◌≡◌, ◌<◌, length, IfOk, IfSome, codes};
 ghost use Rattle.serde_json.specs.View.{view};
 ghost use Rattle.ps_json.specs.Answer.{GivesUnless};
 ghost use Rattle.ps_json.specs.Fields.{without_member};
-ghost use Rattle.std.specs.Prelude.{codes};
-ghost use Rattle.limit_ident.specs.Member.{required};
+ghost use Rattle.ps_json.specs.Member.{required};
+ghost use Rattle.limit_ident.specs.Fault.{wrapped};
 ghost use Rattle.limit_ident.specs.Named.{place_of, new_in, place_in};
 
 use crate::fault::LimitFault;
@@ -53,7 +53,7 @@ pub fn need_name<T>(
     fields: &mut Fields,
     entries: &[Named<T>],
 ) -> Result<Text, LimitFault>
-    ensures value { GivesUnless LimitFault.Memory result (required (new_in entries.now) (codes "name") fields.old) }
+    ensures value { GivesUnless LimitFault.Memory result (required wrapped (new_in entries.now) (codes "name") fields.old) }
     ensures rest { fields.new ≡ without_member (codes "name") fields.old }
 {
     let name = need_text(alloc, fields, "name")?;

@@ -3,7 +3,8 @@ ghost use Rattle.std.specs.Prelude.{◌≡◌, ◌<◌, [], map, length, codes, 
 ghost use Rattle.serde_json.specs.View.{view};
 ghost use Rattle.ps_json.specs.Answer.{GivesUnless};
 ghost use Rattle.ps_json.specs.Fields.{without_member};
-ghost use Rattle.limit_ident.specs.Member.{required, optional};
+ghost use Rattle.ps_json.specs.Member.{required, optional};
+ghost use Rattle.limit_ident.specs.Fault.{wrapped};
 ghost use Rattle.limit_ident.specs.declared.require.Require.TheVariants.{Any as any};
 ghost use Rattle.limit_ident.specs.ReadClassifiers.{require_of, require_in, places_from, places_in, rest_of, classifier_of, classifiers_from, classifiers_of};
 
@@ -89,7 +90,7 @@ fn need_identifiers(
     identifiers: &Identifiers,
 ) -> Result<Items<usize>, LimitFault>
     ensures value { GivesUnless LimitFault.Memory result
-        (required (places_in identifiers.now) (codes "identifiers") fields.old) }
+        (required wrapped (places_in identifiers.now) (codes "identifiers") fields.old) }
     ensures rest { fields.new ≡ without_member (codes "identifiers") fields.old }
 {
     let value = fields.need(alloc, "identifiers")?;

@@ -3,7 +3,8 @@ ghost use Rattle.std.specs.Prelude.{◌≡◌, [], map, option_map, codes, OnOk}
 ghost use Rattle.serde_json.specs.View.{view};
 ghost use Rattle.ps_json.specs.Answer.{GivesUnless};
 ghost use Rattle.ps_json.specs.Fields.{without_member};
-ghost use Rattle.limit_ident.specs.Member.{required};
+ghost use Rattle.ps_json.specs.Member.{required};
+ghost use Rattle.limit_ident.specs.Fault.{wrapped};
 ghost use Rattle.limit_ident.specs.ReadIdentifiers.{kind_of, kind_in, hint_in, style_in, match_in, hinted_in, block_in, blocks_from, cidr_list_in, always_of, condition_of, told_of, after_told, rest_of, identifier_of, identifiers_from, identifiers_of};
 
 use crate::address::{Block, read_block};
@@ -39,7 +40,7 @@ fn read_kind(text: &str) -> Option<Kind>
 }
 
 fn need_kind(alloc: Global, fields: &mut Fields) -> Result<Kind, LimitFault>
-    ensures value { GivesUnless LimitFault.Memory result (required kind_in (codes "type") fields.old) }
+    ensures value { GivesUnless LimitFault.Memory result (required wrapped kind_in (codes "type") fields.old) }
     ensures rest { fields.new ≡ without_member (codes "type") fields.old }
 {
     let name = need_text(alloc, fields, "type")?;
@@ -50,7 +51,7 @@ fn need_kind(alloc: Global, fields: &mut Fields) -> Result<Kind, LimitFault>
 }
 
 fn need_hint(alloc: Global, fields: &mut Fields) -> Result<Hint, LimitFault>
-    ensures value { GivesUnless LimitFault.Memory result (required hint_in (codes "hint") fields.old) }
+    ensures value { GivesUnless LimitFault.Memory result (required wrapped hint_in (codes "hint") fields.old) }
     ensures rest { fields.new ≡ without_member (codes "hint") fields.old }
 {
     let text = need_text(alloc, fields, "hint")?;
@@ -62,7 +63,7 @@ fn need_hint(alloc: Global, fields: &mut Fields) -> Result<Hint, LimitFault>
 }
 
 fn need_style(alloc: Global, fields: &mut Fields) -> Result<Style, LimitFault>
-    ensures value { GivesUnless LimitFault.Memory result (required style_in (codes "style") fields.old) }
+    ensures value { GivesUnless LimitFault.Memory result (required wrapped style_in (codes "style") fields.old) }
     ensures rest { fields.new ≡ without_member (codes "style") fields.old }
 {
     let text = need_text(alloc, fields, "style")?;

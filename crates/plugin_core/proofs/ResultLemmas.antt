@@ -1,12 +1,9 @@
 -- Texts of results, and their ticks.
-use Rattle.std.proofs.Common.{◌≡◌, ℕ, ◌+◌, ◌*◌, ◌<◌, ◌≤◌, List, [], ◌∷◌, ◌++◌, map, true, false, Ok, refl, sym, arith}
+use Rattle.std.proofs.Common.{◌≡◌, ℕ, ◌+◌, ◌*◌, ◌<◌, ◌≤◌, List, [], ◌∷◌, ◌++◌, map, sym, arith}
 use Rattle.std.proofs.lemmas.List.{map-append}
 use Rattle.std.proofs.lemmas.List.FromFn.{map-range_with_len_more}
-use Rattle.std.specs.Str.{IsUtf8, is_utf8}
 use Rattle.std.proofs.Math.Nat.{mul-le-mul_right}
-use Rattle.std.proofs.lemmas.Str.{IsUtf8-from_is_utf8}
 use Rattle.serde_json.specs.Data.{Data}
-use Rattle.ps_json.specs.Tree.{parsed}
 use Rattle.ps_time.specs.declared.moment.TheConstants.{MAX_LENGTH, MAX_MOMENT}
 use Rattle.plugin_core.specs.declared.run.Outcome.{Outcome}
 use Rattle.plugin_core.specs.declared.run.Outcome.TheVariants.{Good}
@@ -15,15 +12,6 @@ use Rattle.plugin_core.specs.declared.test_spec.TestSpec.{TestSpec}
 use Rattle.plugin_core.specs.declared.test_spec.TestSpec.TheVariants.{Idlebgm}
 use Rattle.plugin_core.specs.Bounds.{IsTest}
 use Rattle.plugin_core.specs.ResultText.{tick, ticks, TicksFit}
-
--- bytes that are parsed are a text
-pub parsed_utf8 : (bs : List ℕ) (d : Data) → parsed bs ≡ Ok d → IsUtf8 bs
-parsed_utf8 bs d is =
-    let cases = elim (is_utf8 bs) as (λ b. is_utf8 bs ≡ b → is_utf8 bs ≡ true) [
-      | true ↦ λ yes. yes
-      | false ↦ λ no. let wrong = rw no at is in cc
-    ] in
-    IsUtf8-from_is_utf8 bs (cases refl)
 
 -- a tick isn't after the last one
 pub tick_within : (started interval count passed most : ℕ) → passed < count → started + count * interval ≤ most → started + (passed + 1) * interval ≤ most

@@ -1,9 +1,9 @@
 -- The trees of tests and results have whole numbers alone, and aren't deep.
-use Rattle.std.proofs.Common.{◌≡◌, ℕ, ◌+◌, ◌*◌, ◌/◌, ◌≤◌, List, [], ◌∷◌, map, true, false, Option, Some, None, refl, arith}
+use Rattle.std.proofs.Common.{◌≡◌, ℕ, ◌+◌, ◌*◌, ◌/◌, ◌≤◌, List, [], ◌∷◌, map, false, Option, Some, None, refl, arith}
 use Rattle.std.specs.List.{range_with_len}
-use Rattle.serde_json.specs.Data.{string, depth, items_depth, members_depth}
+use Rattle.serde_json.specs.Data.{string, depth, items_depth}
 use Rattle.serde_json.specs.View.{items_of}
-use Rattle.serde_json.specs.Written.{has_float, items_have_float, members_have_float}
+use Rattle.serde_json.specs.Written.{has_float, items_have_float}
 use Rattle.plugin_core.specs.declared.run.Outcome.{Outcome}
 use Rattle.plugin_core.specs.declared.run.Outcome.TheVariants.{Good, TimedOut, NotTaken, Restarted}
 use Rattle.plugin_core.specs.declared.run.Role.{Role}
@@ -12,7 +12,7 @@ use Rattle.plugin_core.specs.declared.run.ToolView.{ToolView}
 use Rattle.plugin_core.specs.declared.test_spec.TestSpec.{TestSpec}
 use Rattle.plugin_core.specs.declared.test_spec.TestSpec.TheVariants.{Idle, Idleex, Idlebgm, Idlemany, Simplestream}
 use Rattle.plugin_core.specs.ResultText.{tick, streamed, good_result, result_data}
-use Rattle.plugin_core.specs.WriteTest.{spec_members, test_data}
+use Rattle.plugin_core.specs.WriteTest.{test_data}
 
 pub names_whole : (names : List (List ℕ)) → items_have_float (items_of (map string names)) ≡ false
 names_whole [] = refl

@@ -13,7 +13,7 @@ use Rattle.ps_time.specs.Name.{is_name}
 use Rattle.ps_time.specs.declared.moment.TheConstants.{MAX_LENGTH}
 use Rattle.plugin_core.specs.declared.test_spec.TestSpec.{TestSpec}
 use Rattle.plugin_core.specs.declared.test_spec.TestSpec.TheVariants.{Idle, Idleex, Idlebgm, Idlemany, Simplestream}
-use Rattle.plugin_core.specs.Bounds.{IsTest, IsSleep, IsComment}
+use Rattle.plugin_core.specs.Bounds.{IsTest, IsComment}
 use Rattle.plugin_core.specs.ReadTest.{names_from, are_hosts, test_of}
 use Rattle.plugin_core.specs.WriteTest.{test_data}
 

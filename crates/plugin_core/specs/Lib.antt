@@ -2,7 +2,6 @@ pub mod Bounds
 pub mod Choice
 pub mod Fault
 pub mod Kind
-pub mod Member
 pub mod Participants
 pub mod ReadTest
 pub mod ResultText

@@ -1,5 +1,5 @@
 -- Which test a JSON tree is.
-use Rattle.std.specs.Prelude.{ℕ, ◌/◌, ◌+◌, Bool, true, false, not, ◌&&◌, ◌==◌, nat_lt, nat_le, List, [], ◌∷◌, ◌++◌, length, Option, Some, None, Result, Ok, Err, ⊤, if◌then◌else◌, codes}
+use Rattle.std.specs.Prelude.{ℕ, ◌/◌, ◌+◌, Bool, true, not, ◌&&◌, ◌==◌, nat_lt, nat_le, List, [], ◌∷◌, ◌++◌, length, Option, Some, None, Result, Ok, Err, if◌then◌else◌, codes}
 use Rattle.serde_json.specs.Data.{Data, Members}
 use Rattle.ps_json.specs.Answer.{then_with, lifted}
 use Rattle.ps_json.specs.Fields.{without_member, end_of}
@@ -17,7 +17,7 @@ use Rattle.plugin_core.specs.declared.test_spec.TestSpec.TheVariants.{Idle, Idle
 use Rattle.plugin_core.specs.declared.read_test.Sleeping.{Sleeping}
 use Rattle.plugin_core.specs.Fault.{wrapped, in_json}
 use Rattle.plugin_core.specs.Kind.{kind_of_text}
-use Rattle.plugin_core.specs.Member.{required, optional, member_then}
+use Rattle.ps_json.specs.Member.{required, optional, member_then}
 use Rattle.plugin_core.specs.Participants.{is_named}
 
 -- ---- contents of members

@@ -7,7 +7,7 @@ use Rattle.ps_time.specs.Moment.{moment_text_of}
 use Rattle.ps_time.specs.declared.moment.TheConstants.{MAX_MOMENT}
 use Rattle.plugin_core.specs.declared.run.ToolView.{ToolView}
 use Rattle.plugin_core.specs.declared.run.Role.{Role}
-use Rattle.plugin_core.specs.declared.run.Role.TheVariants.{Only, Source, Dest}
+use Rattle.plugin_core.specs.declared.run.Role.TheVariants.{Dest}
 use Rattle.plugin_core.specs.declared.run.Outcome.{Outcome}
 use Rattle.plugin_core.specs.declared.run.Outcome.TheVariants.{Good, TimedOut, NotTaken, Restarted}
 use Rattle.plugin_core.specs.declared.test_spec.TestSpec.{TestSpec}

@@ -10,7 +10,7 @@ ghost use Rattle.plugin_core.specs.Bounds.{IsTest, IsSleep, IsPaced, AreHosts, I
 ghost use Rattle.plugin_core.specs.Fault.{wrapped};
 ghost use Rattle.plugin_core.specs.TestSpec.{test_length};
 ghost use Rattle.plugin_core.specs.declared.test_spec.TestSpec.{TestSpec};
-ghost use Rattle.plugin_core.specs.Member.{required, optional};
+ghost use Rattle.ps_json.specs.Member.{required, optional};
 ghost use Rattle.plugin_core.specs.ReadTest.{schema, length_in, duration_in, text_within, comment_in, host_in, names_from, all_differ, are_hosts, hosts_in, sleeping_of, after_sleeping, ended, idle_of, idleex_of, paced, idlebgm_of, idlemany_of, whole, simplestream_of, spec_of, kind_in, object_in, test_of};
 
 use crate::fault::SpecFault;

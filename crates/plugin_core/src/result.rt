@@ -10,7 +10,7 @@ ghost use Rattle.plugin_core.specs.ResultText.{failed, slept, tick, ticks, ticke
 
 use crate::run::{Outcome, Role, ToolView};
 use crate::test_spec::TestSpec;
-use ps_json::tree::write_tree;
+use ps_json::tree::write_text;
 use ps_time::length_text::length_text;
 use ps_time::memory::Memory;
 use ps_time::moment::{Length, Moment};
@@ -144,20 +144,4 @@ pub fn result_text(
 {
     let value = write_result(alloc, test, tool, outcome)?;
     write_text(alloc, &value)
-}
-
-/// The compact text of a tree.
-pub fn write_text(alloc: Global, value: &Value) -> Result<Text, Memory>
-    requires whole { IsWhole (view value.now) }
-    requires flat { depth (view value.now) ≤ 64 }
-    ensures text { IfOk result (λ text. text ≡ compact_text (view value.now)) }
-    ensures reads { IfOk result (λ text. tree_of text ≡ Ok (view value.now)) }
-{
-    let Ok(bytes) = write_tree(alloc, value) else {
-        return Err(Memory);
-    };
-    match String::from_utf8(bytes) {
-        Ok(string) => Ok(Text::from_string(string)),
-        Err(_) => unreachable!(),
-    }
 }

@@ -32,3 +32,12 @@ pub tree_text : (bs : List ℕ) (d : Data) → IsUtf8 bs → read bs ≡ Some d 
 tree_text bs d text reads shallow =
     let here : nat_lt 64 (depth d) ≡ false = grind (arith, nat_tests) in
     rw (parsed_text bs d text reads, here) refl
+
+-- bytes that are parsed are a text
+pub parsed_utf8 : (bs : List ℕ) (d : Data) → parsed bs ≡ Ok d → IsUtf8 bs
+parsed_utf8 bs d is =
+    let cases = elim (is_utf8 bs) as (λ b. is_utf8 bs ≡ b → is_utf8 bs ≡ true) [
+      | true ↦ λ yes. yes
+      | false ↦ λ no. let wrong = rw no at is in cc
+    ] in
+    IsUtf8-from_is_utf8 bs (cases refl)

@@ -3,4 +3,5 @@ pub mod Coding
 pub mod Fault
 pub mod Fields
 pub mod Kinds
+pub mod Member
 pub mod Tree

@@ -3,8 +3,8 @@ ghost use Rattle.std.specs.Prelude.{◌≡◌, ◌≢◌, Some};
 ghost use Rattle.ps_json.specs.declared.fault.JsonFault.TheVariants.{Memory as out_of_memory};
 ghost use Rattle.ps_json.specs.Fault.{fault_text};
 
-use crate::memory::Memory;
-use crate::name::Name;
+use ps_time::memory::Memory;
+use ps_time::text::Text;
 use std::alloc::{AllocError, Global};
 use std::error::Error;
 use std::fmt;
@@ -20,12 +20,12 @@ pub enum JsonFault {
     /// The bytes are no UTF-8.
     NotUtf8,
     /// A member that has to be there isn't.
-    Missing(Name),
+    Missing(Text),
     /// The value of this member, or an item of the list there, is of another kind, or out of its
     /// bounds.
-    WrongKind(Name),
+    WrongKind(Text),
     /// A member that nobody takes.
-    Unknown(Name),
+    Unknown(Text),
     /// Want of memory, which may come in place of any answer.
     Memory,
 }
@@ -35,7 +35,7 @@ impl JsonFault {
     pub fn missing(alloc: Global, name: &str) -> JsonFault
         ensures { result ≢ JsonFault.Memory → result ≡ JsonFault.Missing name.now }
     {
-        match Name::new(alloc, name) {
+        match Text::new(alloc, name) {
             Ok(name) => JsonFault::Missing(name),
             Err(Memory) => JsonFault::Memory,
         }
@@ -45,7 +45,7 @@ impl JsonFault {
     pub fn wrong_kind(alloc: Global, name: &str) -> JsonFault
         ensures { result ≢ JsonFault.Memory → result ≡ JsonFault.WrongKind name.now }
     {
-        match Name::new(alloc, name) {
+        match Text::new(alloc, name) {
             Ok(name) => JsonFault::WrongKind(name),
             Err(Memory) => JsonFault::Memory,
         }
@@ -55,7 +55,7 @@ impl JsonFault {
     pub fn unknown(alloc: Global, name: &str) -> JsonFault
         ensures { result ≢ JsonFault.Memory → result ≡ JsonFault.Unknown name.now }
     {
-        match Name::new(alloc, name) {
+        match Text::new(alloc, name) {
             Ok(name) => JsonFault::Unknown(name),
             Err(Memory) => JsonFault::Memory,
         }

@@ -5,8 +5,6 @@ pub mod fault;
 pub mod fields;
 pub mod kinds;
 pub mod law;
-pub mod memory;
-pub mod name;
 pub mod shape;
 #[cfg(test)]
 mod tests;

@@ -4,10 +4,9 @@ use crate::fault::JsonFault;
 use crate::fields::Fields;
 use crate::kinds::{read_boolean, read_count, read_integer, read_list, read_text};
 use crate::law::law_taken_once;
-use crate::memory::Memory;
-use crate::name::Name;
 use crate::shape::{is_deeper, is_whole};
 use crate::tree::{copy_tree, read_tree, write_tree};
+use ps_time::memory::Memory;
 use std::alloc::Global;
 use std::fmt::Display;
 use std::test::Fail;
@@ -378,13 +377,8 @@ fn values_by_kind(rt: HostRuntime) -> Result<(), Fail> {
 }
 
 #[test]
-fn names_and_faults(rt: HostRuntime) -> Result<(), Fail> {
+fn faults_are_shown(rt: HostRuntime) -> Result<(), Fail> {
     let alloc = rt.alloc();
-    let name = Name::new(alloc, "max-runs")?;
-    let copy = name.copy(alloc)?;
-    assert!(rt; copy == name && copy.is("max-runs") && !copy.is("max"));
-    assert!(rt; Name::new(alloc, "B")? < Name::new(alloc, "a")?);
-    assert_eq!(rt; name.into_string().as_str(), "max-runs");
     for (fault, expected) in [
         (JsonFault::Syntax, "syntax"),
         (JsonFault::TooDeep, "too deep"),

@@ -8,8 +8,9 @@ ghost use Rattle.ps_json.specs.Answer.{GivesUnless, seen_as};
 ghost use Rattle.ps_json.specs.Tree.{IsWhole, parsed, tree_of};
 
 use crate::fault::JsonFault;
-use crate::memory::Memory;
 use crate::shape::is_deeper;
+use ps_time::memory::Memory;
+use ps_time::text::Text;
 use serde_json::Value;
 use serde_json::error::Category;
 use std::alloc::Global;
@@ -61,6 +62,19 @@ pub fn write_tree(alloc: Global, value: &Value) -> Result<Vec<u8>, Memory>
         → tree_of bytes.items ≡ Ok (view value.now)) }
 {
     Ok(value.to_vec(alloc)?)
+}
+
+/// The compact text of a tree, as `write_tree` gives it.
+pub fn write_text(alloc: Global, value: &Value) -> Result<Text, Memory>
+    requires whole { IsWhole (view value.now) }
+    requires flat { depth (view value.now) ≤ 127 }
+    ensures text { IfOk result (λ text. text ≡ compact_text (view value.now)) }
+    ensures reads { IfOk result (λ text. depth (view value.now) ≤ 64 → tree_of text ≡ Ok (view value.now)) }
+{
+    match String::from_utf8(write_tree(alloc, value)?) {
+        Ok(text) => Ok(Text::from_string(text)),
+        Err(_) => unreachable!(),
+    }
 }
 
 /// An equal tree. Its memory comes from where the tree's own does.

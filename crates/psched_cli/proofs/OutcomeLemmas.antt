@@ -12,10 +12,6 @@ use Rattle.psched_cli.specs.Command.{takes_input}
 use Rattle.psched_cli.specs.Outcome.{most_bytes, outcome_of, status_of, unread_of}
 use Rattle.psched_cli.specs.Psched.{Comes, Exactly, IsChecked, IsGiven, IsSafeReport, IsRehearsed, IsValid, Told}
 
-pub IfOk-map : {T E : Type 0} {P Q : T → Type 0} (r : Result T E) → ((x : T) → P x → Q x) → IfOk r P → IfOk r Q
-IfOk-map (Ok x) f p = f x p
-IfOk-map (Err e) f p = tt
-
 -- what holds of the bytes of a source that was read to its end
 pub rehearsed_of : (held left : Option (List ℕ)) (bytes : List ℕ) (outcome : Outcome) → GaveAll held left bytes → IsSafeReport bytes outcome → IsRehearsed held left outcome
 rehearsed_of None left bytes outcome gave s = (record { input = bytes; all = tt; ended = tt; script = s.script; grammar = s.grammar; safe = s.safe }, s.report)

@@ -6,16 +6,14 @@ use Rattle.std.proofs.lemmas.List.Elements.{All-head, All-tail}
 use Rattle.std.specs.Str.{bytes_eq}
 use Rattle.serde_json.specs.Data.{array}
 use Rattle.serde_json.specs.View.{items_of}
-use Rattle.ps_json.specs.Kinds.{items_list}
 use Rattle.ps_json.proofs.TreeLemmas.{items_list-items_of}
 use Rattle.ps_time.specs.Length.{length_of, length_text_of}
 use Rattle.ps_time.specs.declared.moment.TheConstants.{MAX_LENGTH}
 use Rattle.archive_retry.specs.Bounds.{IsEntry, IsPolicy}
 use Rattle.archive_retry.specs.ReadPolicy.{entry_of, entries_from, policy_of}
 use Rattle.archive_retry.specs.declared.policy.Entry.{Entry}
-use Rattle.archive_retry.specs.declared.policy.Policy.{Policy}
 use Rattle.task_spec.specs.Bounds.{FitsArchiver, IsArchive}
-use Rattle.task_spec.specs.ReadArchive.{settings_members, settings_text, data_members, archive_of, archives_from, archives_in, is_archiver}
+use Rattle.task_spec.specs.ReadArchive.{settings_members, settings_text, data_members, archive_of, archives_from, archives_in}
 use Rattle.task_spec.specs.WriteTask.{entry_data, with_policy, archive_data}
 use Rattle.task_spec.specs.declared.task.Archive.{Archive}
 

@@ -1,7 +1,7 @@
 -- The tree of a task has whole numbers alone, and nests at most 64 levels.
-use Rattle.std.proofs.Common.{◌≡◌, ◌≢◌, ℕ, ℤ, pos, negsuc, ◌+◌, ◌≤◌, List, [], ◌∷◌, length, map, All, true, false, Option, Some, None, Ok, IfSome, refl, codes, arith}
+use Rattle.std.proofs.Common.{◌≡◌, ℕ, ℤ, pos, negsuc, ◌≤◌, List, [], ◌∷◌, map, All, false, Option, Some, None, IfSome, refl, arith}
 use Rattle.std.proofs.lemmas.List.Elements.{All-head, All-tail}
-use Rattle.serde_json.specs.Data.{Data, array, object, Members, no_members, depth, items_depth, members_depth}
+use Rattle.serde_json.specs.Data.{depth, items_depth, members_depth}
 use Rattle.serde_json.specs.Find.{of_integer, is_float}
 use Rattle.serde_json.specs.View.{items_of}
 use Rattle.serde_json.specs.Written.{has_float, items_have_float, members_have_float}
@@ -11,7 +11,7 @@ use Rattle.plugin_core.proofs.ShapeLemmas.{test_whole, test_flat, names_whole, n
 use Rattle.schedule_rule.specs.Rule.{Schedule}
 use Rattle.task_spec.specs.Bounds.{IsArchive, IsReference, IsRest}
 use Rattle.task_spec.specs.ReadArchive.{settings_members}
-use Rattle.task_spec.specs.WriteTask.{schedule_data, entry_data, with_policy, members_in, archive_data, task_data}
+use Rattle.task_spec.specs.WriteTask.{schedule_data, entry_data, with_policy, archive_data, task_data}
 use Rattle.task_spec.specs.declared.task.Archive.{Archive}
 use Rattle.task_spec.specs.declared.task.Task.{Task}
 

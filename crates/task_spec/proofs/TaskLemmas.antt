@@ -26,7 +26,7 @@ use Rattle.schedule_rule.specs.Rule.{Schedule}
 use Rattle.task_spec.proofs.ArchiveLemmas.{archives_back}
 use Rattle.task_spec.proofs.ScheduleLemmas.{schedule_back}
 use Rattle.task_spec.proofs.StartLemmas.{start_read}
-use Rattle.task_spec.specs.Bounds.{IsReference, IsRest, IsTask}
+use Rattle.task_spec.specs.Bounds.{IsReference, IsTask}
 use Rattle.task_spec.specs.ReadArchive.{archives_in}
 use Rattle.task_spec.specs.ReadSchedule.{schedule_in}
 use Rattle.task_spec.specs.ReadTask.{is_tool, leads, tools_from, tools_in, reference_in, priority_in, test_in, task_of}

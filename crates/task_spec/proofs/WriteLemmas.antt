@@ -1,5 +1,5 @@
 -- What is put into a task's objects, and the shape of its tree.
-use Rattle.std.proofs.Common.{◌≡◌, ◌<◌, ◌≤◌, List, [], ◌∷◌, length, map, codes, refl, arith}
+use Rattle.std.proofs.Common.{◌≡◌, ◌<◌, List, [], ◌∷◌, length, map, codes, refl, arith}
 use Rattle.serde_json.specs.Data.{Members, array, put}
 use Rattle.serde_json.specs.View.{items_of}
 use Rattle.archive_retry.specs.declared.policy.Entry.{Entry}

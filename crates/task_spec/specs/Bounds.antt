@@ -1,8 +1,7 @@
 -- The bounds that every task keeps.
-use Rattle.std.specs.Prelude.{ℕ, ℤ, pos, negsuc, ◌≡◌, ◌≢◌, ◌≤◌, ◌≤ℤ◌, Bool, true, false, List, [], ◌∷◌, length, Option, Some, None, Ok, IfSome, All, codes}
+use Rattle.std.specs.Prelude.{ℕ, pos, negsuc, ◌≡◌, ◌≢◌, ◌≤◌, ◌≤ℤ◌, true, List, length, Option, Some, None, Ok, IfSome, All, codes}
 use Rattle.std.specs.List.{list_all}
 use Rattle.std.specs.Option.{ForSome}
-use Rattle.std.specs.Str.{bytes_eq}
 use Rattle.serde_json.specs.Data.{Data, null, object, depth}
 use Rattle.serde_json.specs.Written.{compact_text}
 use Rattle.ps_json.specs.Tree.{tree_of, IsWhole}

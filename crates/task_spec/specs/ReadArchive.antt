@@ -1,5 +1,5 @@
 -- Which archive a JSON tree is.
-use Rattle.std.specs.Prelude.{ℕ, Bool, true, false, ◌&&◌, nat_le, List, [], ◌∷◌, ◌++◌, length, Option, Some, None, Result, Ok, Err, if◌then◌else◌, codes}
+use Rattle.std.specs.Prelude.{ℕ, Bool, true, nat_le, List, [], ◌∷◌, ◌++◌, length, Option, Some, None, Result, Ok, Err, if◌then◌else◌, codes}
 use Rattle.std.specs.Str.{bytes_eq}
 use Rattle.serde_json.specs.Data.{Data, unsigned, number, object, Members, no_members, member}
 use Rattle.serde_json.specs.Written.{compact_text}
@@ -7,7 +7,7 @@ use Rattle.ps_json.specs.Answer.{then_with, lifted}
 use Rattle.ps_json.specs.Fields.{without_member, end_of}
 use Rattle.ps_json.specs.Kinds.{count_of, text_of, list_of, members_of}
 use Rattle.ps_json.specs.declared.fault.JsonFault.TheVariants.{WrongKind}
-use Rattle.plugin_core.specs.Member.{required, optional, member_then}
+use Rattle.ps_json.specs.Member.{required, optional, member_then}
 use Rattle.archive_retry.specs.ReadPolicy.{policy_of}
 use Rattle.archive_retry.specs.declared.policy.Policy.{Policy}
 use Rattle.task_spec.specs.declared.fault.TaskFault.{TaskFault}

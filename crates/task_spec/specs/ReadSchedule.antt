@@ -9,7 +9,7 @@ use Rattle.ps_time.specs.Moment.{moment_of}
 use Rattle.ps_time.specs.Start.{start_of}
 use Rattle.ps_time.specs.declared.moment.Round.TheVariants.{Down}
 use Rattle.ps_time.specs.declared.moment.TimeFault.TheVariants.{Range}
-use Rattle.plugin_core.specs.Member.{optional, member_then}
+use Rattle.ps_json.specs.Member.{optional, member_then}
 use Rattle.schedule_rule.specs.Rule.{Schedule}
 use Rattle.task_spec.specs.declared.fault.TaskFault.{TaskFault}
 use Rattle.task_spec.specs.declared.fault.TaskFault.TheVariants.{BadTime}

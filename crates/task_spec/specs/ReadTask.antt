@@ -1,7 +1,7 @@
 -- Which task a JSON tree is.
 use Rattle.std.specs.Prelude.{ℕ, ℤ, pos, negsuc, Bool, true, false, ◌&&◌, nat_le, List, [], ◌∷◌, ◌++◌, length, Option, Some, None, is_some, option_and_then, Result, Ok, Err, if◌then◌else◌, codes}
 use Rattle.std.specs.Str.{bytes_eq}
-use Rattle.serde_json.specs.Data.{Data, null, Members, depth}
+use Rattle.serde_json.specs.Data.{Data, Members, depth}
 use Rattle.serde_json.specs.Find.{as_number, as_i64, as_null}
 use Rattle.serde_json.specs.Written.{has_float, compact_text}
 use Rattle.ps_json.specs.Answer.{then_with, lifted}
@@ -11,13 +11,12 @@ use Rattle.ps_json.specs.declared.fault.JsonFault.TheVariants.{WrongKind}
 use Rattle.plugin_core.specs.declared.test_spec.TestSpec.{TestSpec}
 use Rattle.plugin_core.specs.declared.test_spec.TestSpec.TheVariants.{Idle, Idleex, Idlebgm, Idlemany, Simplestream}
 use Rattle.plugin_core.specs.Choice.{tool_of_text}
-use Rattle.plugin_core.specs.Member.{required, optional, member_then}
+use Rattle.ps_json.specs.Member.{required, optional, member_then}
 use Rattle.plugin_core.specs.ReadTest.{test_of}
 use Rattle.schedule_rule.specs.Rule.{Schedule}
 use Rattle.task_spec.specs.declared.fault.TaskFault.{TaskFault}
 use Rattle.task_spec.specs.declared.fault.TaskFault.TheVariants.{Json, BadPriority, UnknownTool, BadSpec}
 use Rattle.task_spec.specs.declared.read_task.Rest.{Rest}
-use Rattle.task_spec.specs.declared.task.Archive.{Archive}
 use Rattle.task_spec.specs.declared.task.Task.{Task}
 use Rattle.task_spec.specs.Fault.{wrapped, in_json, wrapped_spec}
 use Rattle.task_spec.specs.ReadArchive.{archives_in}

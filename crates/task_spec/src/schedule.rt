@@ -5,7 +5,7 @@ ghost use Rattle.serde_json.specs.View.{view};
 ghost use Rattle.ps_json.specs.Answer.{GivesUnless};
 ghost use Rattle.ps_json.specs.Fields.{without_member};
 ghost use Rattle.ps_time.specs.declared.moment.TheConstants.{MAX_LENGTH, MAX_MOMENT};
-ghost use Rattle.plugin_core.specs.Member.{optional};
+ghost use Rattle.ps_json.specs.Member.{optional};
 ghost use Rattle.task_spec.specs.ReadSchedule.{start_in, length_in, repeat_in, until_in, runs_in, schedule_members, schedule_in};
 
 use crate::fault::TaskFault;

@@ -1,4 +1,4 @@
-use Rattle.std.proofs.Common.{◌≡◌, ◌<◌, sym, ◌∙◌, length, arith}
+use Rattle.std.proofs.Common.{sym, ◌∙◌, arith}
 use Rattle.archive_retry.proofs.RetryLemmas.{wait_at, wait_after_it}
 use Rattle.archive_retry.proofs.retry.wait_of.Goals as goal
 

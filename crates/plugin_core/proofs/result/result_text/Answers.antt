@@ -1,4 +1,7 @@
-use Rattle.std.proofs.Common.{arith}
+use Rattle.std.proofs.Common.{◌≡◌, ◌≤◌, Ok, subst, arith}
+use Rattle.std.proofs.lemmas.Result.{IfOk-weaker}
+use Rattle.serde_json.specs.Data.{Data, depth}
+use Rattle.ps_json.specs.Tree.{tree_of}
 use Rattle.plugin_core.proofs.ShapeLemmas.{result_whole, result_flat}
 use Rattle.plugin_core.proofs.result.result_text.Goals as goal
 
@@ -19,3 +22,8 @@ returns-clause-whole c = result_whole c.args.test.now c.args.tool.now c.args.out
 
 pub returns-clause-flat : goal.returns-clause-flat
 returns-clause-flat c = result_flat c.args.test.now c.args.tool.now c.args.outcome
+
+pub returns-clause-reads : goal.returns-clause-reads
+returns-clause-reads c =
+    let flat = result_flat c.args.test.now c.args.tool.now c.args.outcome in
+    IfOk-weaker c.write_text.result _ _ (λ text reads. subst (λ (d : Data). depth d ≤ 64 → tree_of text ≡ Ok d) c.in_ok-value.ensures reads (omega (arith, flat))) c.write_text.ensures.reads

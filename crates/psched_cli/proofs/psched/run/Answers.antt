@@ -2,16 +2,17 @@ use Rattle.std.proofs.Common.{◌≡◌, Some, None, ap, sym, inl, rules}
 use Rattle.psched_cli.specs.declared.command.Command.TheVariants.{Help, Version}
 use Rattle.psched_cli.specs.Command.{asked}
 use Rattle.psched_cli.specs.Outcome.{outcome_of}
-use Rattle.psched_cli.proofs.OutcomeLemmas.{IfOk-map, given_unread}
+use Rattle.std.proofs.lemmas.Result.{IfOk-weaker}
+use Rattle.psched_cli.proofs.OutcomeLemmas.{given_unread}
 use Rattle.psched_cli.proofs.psched.run.Goals as goal
 
 pub returns-in-Some-Rehearse-clause-rehearsed : goal.returns-in-Some-Rehearse-clause-rehearsed
 returns-in-Some-Rehearse-clause-rehearsed g c =
-    IfOk-map c.rehearse_source.result (λ outcome done zero _. done zero) c.rehearse_source.ensures.rehearsed
+    IfOk-weaker c.rehearse_source.result _ _ (λ outcome done zero _. done zero) c.rehearse_source.ensures.rehearsed
 
 pub returns-in-Some-ValidateLimits-clause-validated : goal.returns-in-Some-ValidateLimits-clause-validated
 returns-in-Some-ValidateLimits-clause-validated g c =
-    IfOk-map c.validate_source.result (λ outcome done zero _. done zero) c.validate_source.ensures.validated
+    IfOk-weaker c.validate_source.result _ _ (λ outcome done zero _. done zero) c.validate_source.ensures.validated
 
 pub returns-in-Some-Help-clause-comes : goal.returns-in-Some-Help-clause-comes
 returns-in-Some-Help-clause-comes g c =

@@ -1,5 +1,5 @@
 -- How grammars of objects are written: a line for each member, in the order in which they are read.
-use Rattle.std.specs.Prelude.{ℕ, List, Option, Some, None, Result, Ok, Err}
+use Rattle.std.specs.Prelude.{ℕ, List, Option, Some, None, Result, Ok}
 use Rattle.serde_json.specs.Data.{Data, Members}
 use Rattle.serde_json.specs.Find.{get_member}
 use Rattle.ps_json.specs.Answer.{then_with, lifted}
