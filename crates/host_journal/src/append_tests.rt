@@ -45,14 +45,24 @@ pub fn stands_for(
     wanted: &[&[u8]],
     more: &[&[u8]],
 ) -> Result<bool, Fail> {
-    let Some((mut journal, list)) = opened(alloc, pair) else {
+    let Some((journal, list)) = opened(alloc, pair) else {
         return Ok(false);
     };
-    if !is_list(&list, wanted) || !add(&mut journal, &[3])? {
+    Ok(is_list(&list, wanted) && goes_on(alloc, journal, more)?)
+}
+
+// One more append of 03, and an opening, which gives this list.
+pub fn goes_on(
+    alloc: Global,
+    journal: Journal<MemoryDisk>,
+    wanted: &[&[u8]],
+) -> Result<bool, Fail> {
+    let mut journal = journal;
+    if !add(&mut journal, &[3])? {
         return Ok(false);
     }
     match opened(alloc, journal.into_disks()) {
-        Some((_journal, list)) => Ok(is_list(&list, more)),
+        Some((_journal, list)) => Ok(is_list(&list, wanted)),
         None => Ok(false),
     }
 }
