@@ -14,7 +14,6 @@ use std::alloc::Global;
 
 /// A test and its parameters, as the pScheduler reference names them; `Idlemany` is psched's own.
 /// Lengths are whole seconds, comments have at most 1,024 bytes.
-#[derive(Drop)]
 pub enum TestSpec {
     /// The lead sleeps.
     Idle {
@@ -59,6 +58,42 @@ pub enum TestSpec {
         /// How long after that both wait for the text to come, at least 1 s.
         timeout: Length,
     },
+}
+
+// Written out, so that a drop elsewhere is one call, and not a case for each kind.
+impl Drop for TestSpec {
+    fn drop(self) {
+        match self {
+            TestSpec::Idle {
+                duration: _,
+                starting_comment: _,
+                parting_comment: _,
+            } => {}
+            TestSpec::Idleex {
+                duration: _,
+                starting_comment: _,
+                parting_comment: _,
+            } => {}
+            TestSpec::Idlebgm {
+                duration: _,
+                starting_comment: _,
+                parting_comment: _,
+                interval: _,
+            } => {}
+            TestSpec::Idlemany {
+                duration: _,
+                starting_comment: _,
+                parting_comment: _,
+                hosts: _,
+            } => {}
+            TestSpec::Simplestream {
+                dest: _,
+                test_material: _,
+                dawdle: _,
+                timeout: _,
+            } => {}
+        }
+    }
 }
 
 /// The class in which the test runs.

@@ -20,7 +20,6 @@ use std::marker::Model;
 
 /// A file in memory, which keeps its writes, cuts and syncs, and gives what a crash after any of them
 /// leaves. A call that finds no memory fails.
-#[derive(Drop)]
 pub struct MemoryDisk {
     history: History,
     calls: FailingCalls,
@@ -36,6 +35,18 @@ impl Model for MemoryDisk {
     ghost Value = { DiskState };
 
     ghost view = { λ d. record { history = d.history; calls = d.calls; until_fault = d.until_fault; faults = d.faults; starved = d.starved } };
+}
+
+impl Drop for MemoryDisk {
+    fn drop(self) {
+        let MemoryDisk {
+            history: _,
+            calls: _,
+            until_fault: _,
+            faults: _,
+            starved: _,
+        } = self;
+    }
 }
 
 impl MemoryDisk {
@@ -96,7 +107,14 @@ impl MemoryDisk {
         ensures image { IfOk result (λ disk. IsImage (first_calls calls self.history) (bytes_now disk.history)) }
     {
         let alloc = self.history.alloc();
-        let bytes = self.history.crashed(calls, image)?;
+        let MemoryDisk {
+            history,
+            calls: _,
+            until_fault: _,
+            faults: _,
+            starved: _,
+        } = self;
+        let bytes = history.crashed(calls, image)?;
         Ok(MemoryDisk::new(alloc, bytes, Vec::new(alloc)))
     }
 
@@ -104,7 +122,20 @@ impl MemoryDisk {
     pub fn reopened(self) -> MemoryDisk
         ensures { result ≡ reopened self }
     {
-        MemoryDisk { faults: 0, ..self }
+        let MemoryDisk {
+            history,
+            calls,
+            until_fault,
+            faults: _,
+            starved,
+        } = self;
+        MemoryDisk {
+            history,
+            calls,
+            until_fault,
+            faults: 0,
+            starved,
+        }
     }
 
     // Whether the next write, cut or sync is to fail, whatever it is. Counts it.

@@ -80,7 +80,9 @@ impl RunRow {
         ensures { self.new ≡ close_row closing self.old }
     {
         if self.closed.is_none() {
-            self.closed = Some(closing);
+            drop(self.closed.replace(closing));
+        } else {
+            drop(closing);
         }
     }
 

@@ -24,7 +24,6 @@ pub enum What {
 }
 
 /// Why a host takes no part in a run.
-#[derive(Drop)]
 pub enum Denial {
     /// Its limits don't permit the run.
     Limits(Verdict),
@@ -42,6 +41,21 @@ pub enum Denial {
     NotParticipant,
     /// It doesn't have this tool, or the tool doesn't run the test.
     NoTool(Text),
+}
+
+impl Drop for Denial {
+    fn drop(self) {
+        match self {
+            Denial::Limits(_) => {}
+            Denial::Past(_, _) => {}
+            Denial::Conflict(_) => {}
+            Denial::Full(_, _) => {}
+            Denial::Differs(_, _) => {}
+            Denial::Closed(_) => {}
+            Denial::NotParticipant => {}
+            Denial::NoTool(_) => {}
+        }
+    }
 }
 
 impl Denial {
@@ -87,7 +101,6 @@ impl Same for Denial {
 }
 
 /// Why a run didn't come about.
-#[derive(Drop)]
 pub enum Cause {
     /// No start suits all participants.
     NoSlot,
@@ -99,6 +112,18 @@ pub enum Cause {
     Silent,
     /// It was accepted, and the hold ended before the confirmation.
     HoldEnded,
+}
+
+impl Drop for Cause {
+    fn drop(self) {
+        match self {
+            Cause::NoSlot => {}
+            Cause::NoTool => {}
+            Cause::Denied(_, _) => {}
+            Cause::Silent => {}
+            Cause::HoldEnded => {}
+        }
+    }
 }
 
 impl Cause {
@@ -138,7 +163,6 @@ impl Same for Cause {
 }
 
 /// Why a row was closed.
-#[derive(Drop)]
 pub enum Why {
     /// It was confirmed, and didn't start in time.
     Missed,
@@ -146,6 +170,17 @@ pub enum Why {
     Preempted(RunKey),
     Nonstart(Cause),
     Canceled,
+}
+
+impl Drop for Why {
+    fn drop(self) {
+        match self {
+            Why::Missed => {}
+            Why::Preempted(_) => {}
+            Why::Nonstart(_) => {}
+            Why::Canceled => {}
+        }
+    }
 }
 
 impl Why {
