@@ -7,5 +7,3 @@ pub mod policy;
 pub mod read_policy;
 pub mod retry;
 pub mod state;
-#[cfg(test)]
-mod tests;

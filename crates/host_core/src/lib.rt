@@ -6,5 +6,3 @@ pub mod change;
 pub mod config;
 pub mod host;
 pub mod step;
-#[cfg(test)]
-mod tests;

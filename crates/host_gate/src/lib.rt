@@ -10,5 +10,3 @@ mod view;
 pub use gate::{Front, Gate, Memory, Pass, Spent};
 pub use kept::Kept;
 
-#[cfg(test)]
-mod tests;

@@ -2,6 +2,4 @@
 #![tactic(auto)]
 
 pub mod booking;
-#[cfg(test)]
-mod tests;
 pub mod timeline;

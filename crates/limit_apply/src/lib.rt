@@ -13,5 +13,3 @@ pub mod read_applications;
 pub mod read_limits;
 pub mod read_schedule;
 pub mod schedule;
-#[cfg(test)]
-mod tests;

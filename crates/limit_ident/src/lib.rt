@@ -10,5 +10,3 @@ pub mod named;
 pub mod read_classifiers;
 pub mod read_identifiers;
 pub mod require;
-#[cfg(test)]
-mod tests;

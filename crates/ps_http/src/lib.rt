@@ -12,6 +12,4 @@ pub mod message;
 mod next;
 pub mod reader;
 mod target;
-#[cfg(test)]
-mod tests;
 pub mod written;

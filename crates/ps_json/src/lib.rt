@@ -6,6 +6,4 @@ pub mod fields;
 pub mod kinds;
 pub mod law;
 pub mod shape;
-#[cfg(test)]
-mod tests;
 pub mod tree;

@@ -5,8 +5,6 @@
 pub mod adapters;
 pub mod all;
 pub mod disk;
-#[cfg(test)]
-mod disk_tests;
 mod failing_calls;
 pub mod fault;
 pub mod file_disk;
@@ -23,7 +21,5 @@ mod shelf;
 pub mod sink;
 pub mod source;
 pub mod stream;
-#[cfg(test)]
-mod tests;
 mod unread;
 mod written;

@@ -20,9 +20,5 @@ pub mod read_length;
 pub mod read_moment;
 pub mod read_start;
 pub mod same;
-#[cfg(test)]
-mod tests;
 pub mod text;
 pub mod tiers;
-#[cfg(test)]
-mod time_tests;

@@ -196,6 +196,3 @@ pub fn read_script(alloc: Global, bytes: &[u8]) -> Result<Script, ScriptFault>
     }
     Ok(script)
 }
-
-#[cfg(test)]
-mod tests;

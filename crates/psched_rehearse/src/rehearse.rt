@@ -172,6 +172,3 @@ pub fn rehearse(alloc: Global, script: &Script) -> Result<Rehearsed, Memory>
         report: Text::from_string(report),
     })
 }
-
-#[cfg(test)]
-mod tests;

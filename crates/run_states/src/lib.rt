@@ -7,6 +7,4 @@ pub mod proposal;
 pub mod row;
 pub mod rows;
 pub mod state;
-#[cfg(test)]
-mod tests;
 pub mod why;

@@ -6,6 +6,4 @@ pub mod fault;
 pub mod read_task;
 pub mod schedule;
 pub mod task;
-#[cfg(test)]
-mod tests;
 pub mod write_task;

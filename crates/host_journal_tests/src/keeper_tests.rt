@@ -1,0 +1,73 @@
+//! A keeper of one number over a journal: its clauses follow from the journal's alone.
+ghost use Rattle.std.specs.Prelude.{◌≡◌, ◌≤◌, IsTrue, IfOk, OnOk};
+ghost use Rattle.std.specs.Int.{w64, to_be_bytes};
+ghost use Rattle.host_journal.specs.State.{is_ready, stored, which, EachImage};
+
+use crate::append_tests::{opened, pair_of};
+use host_journal::fault::DiskFault;
+use host_journal::journal::Journal;
+use ps_ports::disk::Disk;
+use ps_ports::memory_disk::MemoryDisk;
+use ps_ports::rack::FRESH_FIRST;
+use ps_time::memory::Memory;
+use std::alloc::Global;
+use std::process::Abort;
+use std::test::Fail;
+
+/// Keeps a number. After a fault it takes the journal up, and answers whether the number is kept.
+fn keep<D: Disk>(journal: &mut Journal<D>, number: u64) -> Result<bool, DiskFault>
+    requires ready { IsTrue (is_ready journal.old.pending) }
+    requires room { 21 ≤ journal.old.room }
+    ensures kept { D.premise → IfOk result (λ stood. EachImage D.may_leave journal.new (λ pair. pair ≡ which (to_be_bytes w64 number) stood (stored D.seen journal.old))) }
+    ensures ready { OnOk result (IsTrue (is_ready journal.new.pending)) }
+    ensures room { OnOk result (21 ≤ journal.new.room) }
+{
+    if journal.append(&number.to_be_bytes()).is_ok() {
+        return Ok(true);
+    }
+    journal.reload()
+}
+
+// Keeps a number while this call of the disk that counts fails, and answers whether it is kept then.
+fn kept(
+    journal: &mut Journal<MemoryDisk>,
+    number: u64,
+    call: Option<u64>,
+) -> Result<Option<bool>, Memory> {
+    journal.reserve(8)?;
+    journal.fail_at(call);
+    if !journal.is_ready() {
+        return Ok(None);
+    }
+    Ok(keep(journal, number).ok())
+}
+
+// A number, the call that fails, and whether the number is kept.
+const KEPT: [(u64, Option<u64>, bool); 4] = [
+    (7, None, true),
+    (8, Some(2), false),
+    (9, Some(4), true),
+    (10, Some(3), false),
+];
+
+fn all_kept(alloc: Global) -> Result<bool, Fail> {
+    let Some((mut journal, _list)) = opened(alloc, pair_of(alloc, &FRESH_FIRST)?) else {
+        return Ok(false);
+    };
+    for (number, call, wanted) in &KEPT {
+        if kept(&mut journal, *number, *call)? != Some(*wanted) {
+            return Ok(false);
+        }
+    }
+    let nine = 9u64.to_be_bytes();
+    match opened(alloc, journal.into_disks()) {
+        Some((_journal, list)) => Ok(list.len() == 3 && list[2].as_slice() == nine.as_slice()),
+        None => Ok(false),
+    }
+}
+
+#[test]
+fn a_keeper_of_one_number(rt: HostRuntime) -> Result<(), Fail> {
+    assert!(rt; all_kept(rt.alloc())?);
+    Ok(())
+}

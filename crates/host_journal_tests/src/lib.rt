@@ -1,0 +1,11 @@
+//! The tests of host_journal, over its public items.
+#![tactic(auto)]
+
+#[cfg(test)]
+mod append_tests;
+#[cfg(test)]
+mod keeper_tests;
+#[cfg(test)]
+mod snapshot_tests;
+#[cfg(test)]
+mod tests;

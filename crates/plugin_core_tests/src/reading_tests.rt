@@ -1,0 +1,214 @@
+//! Tests as trees: docs/specification/tests-and-tools.md, worked out by hand.
+ghost use Rattle.plugin_core.specs.Bounds.{IsTest};
+
+use plugin_core::fault::SpecFault;
+use plugin_core::read_test::read_test;
+use plugin_core::test_spec::TestSpec;
+use plugin_core::write_test::{law_test, write_test};
+use ps_json::tree::{read_tree, write_tree};
+use std::alloc::Global;
+use std::test::Fail;
+
+// Trees, and the test that is written again, or the refusal.
+static SLEEPING: [(&str, &str); 24] = [
+    (
+        r#"{"type":"idle","spec":{"duration":"PT10S"}}"#,
+        r#"{"spec":{"duration":"PT10S"},"type":"idle"}"#,
+    ),
+    (
+        r##"{"#t":1,"type":"idle","spec":{"#s":[],"schema":1,"duration":"PT60S","starting-comment":"a","parting-comment":""}}"##,
+        r#"{"spec":{"duration":"PT1M","parting-comment":"","starting-comment":"a"},"type":"idle"}"#,
+    ),
+    (
+        r#"{"type":"idleex","spec":{"duration":"PT0.5S","parting-comment":"z"}}"#,
+        r#"{"spec":{"duration":"PT1S","parting-comment":"z"},"type":"idleex"}"#,
+    ),
+    (
+        r#"{"type":"idlebgm","spec":{"duration":"PT64S","interval":"PT1S"}}"#,
+        r#"{"spec":{"duration":"PT1M4S","interval":"PT1S"},"type":"idlebgm"}"#,
+    ),
+    (
+        r#"{"type":"idlebgm","spec":{"duration":"PT7S","interval":"PT7S","starting-comment":"b"}}"#,
+        r#"{"spec":{"duration":"PT7S","interval":"PT7S","starting-comment":"b"},"type":"idlebgm"}"#,
+    ),
+    ("[]", "wrong kind test"),
+    ("{}", "missing type"),
+    (r#"{"type":1}"#, "wrong kind type"),
+    (r#"{"type":"idler","x":1}"#, "unknown test idler"),
+    (r#"{"type":"idle"}"#, "missing spec"),
+    (r#"{"type":"idle","spec":[]}"#, "wrong kind spec"),
+    (r#"{"type":"idle","spec":{}}"#, "missing duration"),
+    (
+        r#"{"type":"idle","spec":{"schema":2}}"#,
+        "wrong kind schema",
+    ),
+    (
+        r#"{"type":"idle","spec":{"duration":10}}"#,
+        "wrong kind duration",
+    ),
+    (
+        r#"{"type":"idle","spec":{"duration":"10"}}"#,
+        "bad time duration Syntax",
+    ),
+    (
+        r#"{"type":"idle","spec":{"duration":"P1M"}}"#,
+        "bad time duration CalendarUnit",
+    ),
+    (
+        r#"{"type":"idle","spec":{"duration":"P400000000D"}}"#,
+        "bad time duration Range",
+    ),
+    (
+        r#"{"type":"idle","spec":{"duration":"PT0S"}}"#,
+        "bad spec duration",
+    ),
+    (
+        r#"{"type":"idle","spec":{"duration":"PT1S","starting-comment":null}}"#,
+        "wrong kind starting-comment",
+    ),
+    (
+        r#"{"a":1,"type":"idle","spec":{"duration":"PT1S","interval":"PT1S"}}"#,
+        "unknown member interval",
+    ),
+    (
+        r#"{"a":1,"type":"idle","spec":{"duration":"PT1S"}}"#,
+        "unknown member a",
+    ),
+    (
+        r#"{"type":"idlebgm","spec":{"duration":"PT1S","x":1}}"#,
+        "missing interval",
+    ),
+    (
+        r#"{"type":"idlebgm","spec":{"duration":"PT1S","interval":"PT2S","x":1}}"#,
+        "bad spec interval",
+    ),
+    (
+        r#"{"type":"idlebgm","spec":{"duration":"PT65S","interval":"PT1S","x":1}}"#,
+        "bad spec duration",
+    ),
+];
+
+static OTHERS: [(&str, &str); 20] = [
+    (
+        r#"{"type":"idlemany","spec":{"duration":"PT1S","hosts":["b","a"]}}"#,
+        r#"{"spec":{"duration":"PT1S","hosts":["b","a"]},"type":"idlemany"}"#,
+    ),
+    (
+        r#"{"type":"idlemany","spec":{"duration":"PT1S"}}"#,
+        "missing hosts",
+    ),
+    (
+        r#"{"type":"idlemany","spec":{"duration":"PT1S","hosts":"a"}}"#,
+        "wrong kind hosts",
+    ),
+    (
+        r#"{"type":"idlemany","spec":{"duration":"PT1S","hosts":["a"]}}"#,
+        "bad spec hosts",
+    ),
+    (
+        r#"{"type":"idlemany","spec":{"duration":"PT1S","hosts":["a","b","a"]}}"#,
+        "bad spec hosts",
+    ),
+    (
+        r#"{"type":"idlemany","spec":{"duration":"PT1S","hosts":["a","b","c","d","e","f","g","h","i"]}}"#,
+        "bad spec hosts",
+    ),
+    (
+        r#"{"type":"idlemany","spec":{"duration":"PT1S","hosts":["a","a","B"]}}"#,
+        "wrong kind hosts",
+    ),
+    (
+        r#"{"type":"idlemany","spec":{"duration":"PT1S","hosts":["a",2]}}"#,
+        "wrong kind hosts",
+    ),
+    (
+        r#"{"type":"simplestream","spec":{"dest":"b"}}"#,
+        r#"{"spec":{"dawdle":"PT0S","dest":"b","test-material":"","timeout":"PT5S"},"type":"simplestream"}"#,
+    ),
+    (
+        r#"{"type":"simplestream","spec":{"dest":"b","test-material":"\"","dawdle":"P1D","timeout":"PT1H"}}"#,
+        r#"{"spec":{"dawdle":"P1D","dest":"b","test-material":"\"","timeout":"PT1H"},"type":"simplestream"}"#,
+    ),
+    (
+        r#"{"type":"simplestream","spec":{"timeout":"PT0S"}}"#,
+        "missing dest",
+    ),
+    (
+        r#"{"type":"simplestream","spec":{"dest":"-b"}}"#,
+        "wrong kind dest",
+    ),
+    (
+        r#"{"type":"simplestream","spec":{"dest":"b","test-material":1}}"#,
+        "wrong kind test-material",
+    ),
+    (
+        r#"{"type":"simplestream","spec":{"dest":"b","dawdle":"1"}}"#,
+        "bad time dawdle Syntax",
+    ),
+    (
+        r#"{"type":"simplestream","spec":{"dest":"b","timeout":"PT0S"}}"#,
+        "bad spec timeout",
+    ),
+    (
+        r#"{"type":"simplestream","spec":{"dest":"b","dawdle":"P3650D"}}"#,
+        "bad spec timeout",
+    ),
+    (
+        r#"{"type":"simplestream","spec":{"dest":"b","dawdle":"P3649D","timeout":"P1D"}}"#,
+        r#"{"spec":{"dawdle":"P3649D","dest":"b","test-material":"","timeout":"P1D"},"type":"simplestream"}"#,
+    ),
+    (
+        r#"{"type":"simplestream","spec":{"dest":"b","duration":"PT1S"}}"#,
+        "unknown member duration",
+    ),
+    (
+        r#"{"type":"simplestream","spec":{"schema":"1","dest":"b"}}"#,
+        "wrong kind schema",
+    ),
+    (r#"{"type":"Idle","spec":{}}"#, "unknown test Idle"),
+];
+
+fn fault_text(alloc: Global, fault: SpecFault) -> Result<String, Fail> {
+    match fault {
+        SpecFault::Json(inner) => Ok(format!(in alloc; "{inner}")?),
+        SpecFault::BadTime(member, inner) => Ok(format!(in alloc; "bad time {member} {inner:?}")?),
+        SpecFault::UnknownTest(name) => Ok(format!(in alloc; "unknown test {name}")?),
+        SpecFault::BadSpec(member) => Ok(format!(in alloc; "bad spec {member}")?),
+        SpecFault::Memory => Err(Fail::new("out of memory")),
+    }
+}
+
+fn written(alloc: Global, test: &TestSpec) -> Result<String, Fail>
+    requires { IsTest test.now }
+{
+    let value = write_test(alloc, test)?;
+    match String::from_utf8(write_tree(alloc, &value)?) {
+        Ok(text) => Ok(text),
+        Err(_) => Err(Fail::new("no UTF-8")),
+    }
+}
+
+fn told(alloc: Global, text: &str) -> Result<String, Fail> {
+    match read_test(alloc, read_tree(alloc, text.as_bytes())?) {
+        Err(fault) => fault_text(alloc, fault),
+        Ok(test) => written(alloc, &test),
+    }
+}
+
+fn check(alloc: Global, table: &[(&str, &str)]) -> Result<(), Fail> {
+    for (text, expected) in table {
+        let told = told(alloc, text)?;
+        if told.as_str() != *expected {
+            return Err(Fail::new(format_args!("{text} is told {told}")));
+        }
+    }
+    Ok(())
+}
+
+#[test]
+fn trees_of_tests(rt: HostRuntime) -> Result<(), Fail> {
+    check(rt.alloc(), &SLEEPING)?;
+    check(rt.alloc(), &OTHERS)?;
+    law_test();
+    Ok(())
+}

@@ -1,0 +1,148 @@
+//! The tables of docs/specification/tests-and-tools.md.
+ghost use Rattle.std.specs.Prelude.{◌≤◌, IfOk};
+ghost use Rattle.ps_time.specs.declared.moment.TheConstants.{MAX_LENGTH};
+ghost use Rattle.plugin_core.specs.TestSpec.{test_length};
+
+use plugin_core::test_spec::{TestSpec, class_of, length_of};
+use plugin_core::tool::{Tool, tool_name};
+use ps_time::class::Class;
+use ps_time::items::Items;
+use ps_time::memory::Memory;
+use ps_time::same::Same;
+use ps_time::text::Text;
+use std::alloc::Global;
+use std::test::Fail;
+
+fn idle(alloc: Global) -> Result<TestSpec, Memory>
+    ensures { IfOk result (λ test. test_length test ≤ MAX_LENGTH) }
+{
+    let starting_comment = Some(Text::new(alloc, "begins")?);
+    Ok(TestSpec::Idle {
+        duration: 10,
+        starting_comment,
+        parting_comment: None,
+    })
+}
+
+fn idleex(alloc: Global) -> Result<TestSpec, Memory>
+    ensures { IfOk result (λ test. test_length test ≤ MAX_LENGTH) }
+{
+    let parting_comment = Some(Text::new(alloc, "is over")?);
+    Ok(TestSpec::Idleex {
+        duration: 20,
+        starting_comment: None,
+        parting_comment,
+    })
+}
+
+fn idlebgm() -> TestSpec
+    ensures { test_length result ≤ MAX_LENGTH }
+{
+    TestSpec::Idlebgm {
+        duration: 30,
+        starting_comment: None,
+        parting_comment: None,
+        interval: 7,
+    }
+}
+
+fn idlemany(alloc: Global) -> Result<TestSpec, Memory>
+    ensures { IfOk result (λ test. test_length test ≤ MAX_LENGTH) }
+{
+    let mut hosts = Items::new(alloc);
+    hosts.push(Text::new(alloc, "a")?)?;
+    hosts.push(Text::new(alloc, "b")?)?;
+    Ok(TestSpec::Idlemany {
+        duration: 40,
+        starting_comment: None,
+        parting_comment: None,
+        hosts,
+    })
+}
+
+fn simplestream(alloc: Global) -> Result<TestSpec, Memory>
+    ensures { IfOk result (λ test. test_length test ≤ MAX_LENGTH) }
+{
+    let dest = Text::new(alloc, "b")?;
+    Ok(TestSpec::Simplestream {
+        dest,
+        test_material: Text::new(alloc, "")?,
+        dawdle: 45,
+        timeout: 5,
+    })
+}
+
+fn is_of(test: &TestSpec, class: Class, length: u64) -> bool
+    requires { test_length test.now ≤ MAX_LENGTH }
+{
+    class_of(test) == class && length_of(test) == length
+}
+
+#[test]
+fn idle_is_background(rt: HostRuntime) -> Result<(), Fail> {
+    let test = idle(rt.alloc())?;
+    assert!(rt; is_of(&test, Class::Background, 10));
+    Ok(())
+}
+
+#[test]
+fn idleex_is_exclusive(rt: HostRuntime) -> Result<(), Fail> {
+    let test = idleex(rt.alloc())?;
+    assert!(rt; is_of(&test, Class::Exclusive, 20));
+    Ok(())
+}
+
+#[test]
+fn idlebgm_is_background_multi(rt: HostRuntime) {
+    let test = idlebgm();
+    assert!(rt; is_of(&test, Class::BackgroundMulti, 30));
+}
+
+#[test]
+fn idlemany_is_exclusive(rt: HostRuntime) -> Result<(), Fail> {
+    let test = idlemany(rt.alloc())?;
+    assert!(rt; is_of(&test, Class::Exclusive, 40));
+    Ok(())
+}
+
+#[test]
+fn simplestream_is_normal_and_takes_dawdle_and_timeout(rt: HostRuntime) -> Result<(), Fail> {
+    let test = simplestream(rt.alloc())?;
+    assert!(rt; is_of(&test, Class::Normal, 50));
+    Ok(())
+}
+
+#[test]
+fn copies(rt: HostRuntime) -> Result<(), Fail> {
+    let alloc = rt.alloc();
+    let tests = [
+        idle(alloc)?,
+        idleex(alloc)?,
+        idlebgm(),
+        idlemany(alloc)?,
+        simplestream(alloc)?,
+    ];
+    for test in tests.iter() {
+        let copy = test.copy(alloc)?;
+        assert!(rt; copy.same(test));
+        let alike = tests.iter().filter(|other| copy.same(other)).count();
+        assert_eq!(rt; alike, 1);
+    }
+    Ok(())
+}
+
+#[test]
+fn names(rt: HostRuntime) -> Result<(), Fail> {
+    let names = [
+        (Tool::Sleep, "sleep"),
+        (Tool::Snooze, "snooze"),
+        (Tool::Sleepbgm, "sleepbgm"),
+        (Tool::Simplestreamer, "simplestreamer"),
+    ];
+    for (tool, name) in names {
+        assert!(rt; tool_name(tool) == name);
+        let text = format!(in rt.alloc(); "{tool}")?;
+        assert!(rt; text.as_str() == name);
+    }
+    Ok(())
+}

@@ -1,0 +1,3 @@
+//! The tests of ps_time, over its public items.
+#![tactic(auto)]
+

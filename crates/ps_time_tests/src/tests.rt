@@ -1,0 +1,259 @@
+use ps_time::asker::{Asker, Verdict};
+use ps_time::class::{Class, class_name, classes_conflict, read_class};
+use ps_time::duplicate::Duplicate;
+use ps_time::id::{Id, id_text, key_uuid, read_id, uuid_key};
+use ps_time::interval::{Interval, Window};
+use ps_time::items::Items;
+use ps_time::key::RunKey;
+use ps_time::memory::Memory;
+use ps_time::name::is_host_name;
+use ps_time::number::read_decimal;
+use ps_time::same::Same;
+use ps_time::text::Text;
+use ps_time::tiers::Tiers;
+use std::alloc::Global;
+use std::cmp::Ordering;
+
+fn key(lead: u16, task: u32, number: u32, attempt: u16) -> RunKey {
+    RunKey {
+        lead,
+        task,
+        number,
+        attempt,
+    }
+}
+
+fn is_text_copied(alloc: Global) -> Result<bool, Memory> {
+    let text = Text::new(alloc, "a-host")?;
+    let copy = text.copy(alloc)?;
+    Ok(text.same(&copy) && copy.is("a-host") && text == copy && text.len() == 6)
+}
+
+fn is_text_let_go(alloc: Global) -> Result<bool, Memory> {
+    let text = Text::new(alloc, "a-host")?;
+    Ok(text.into_string().as_str() == "a-host")
+}
+
+fn is_text_shown(alloc: Global) -> Result<bool, Memory> {
+    let text = Text::new(alloc, "a-host")?;
+    let shown = Text::from_string(format!(in alloc; "<{text}>")?);
+    Ok(shown.is("<a-host>") && shown.cmp(&text) == Ordering::Less)
+}
+
+fn two_texts(alloc: Global) -> Result<Items<Text>, Memory> {
+    let mut items = Items::new(alloc);
+    items.push(Text::new(alloc, "a-host")?)?;
+    items.push(Text::new(alloc, "another")?)?;
+    Ok(items)
+}
+
+fn is_list_copied(alloc: Global) -> Result<bool, Memory> {
+    let items = two_texts(alloc)?;
+    let twice = items.copy(alloc)?;
+    let is_copied = items.same(&twice) && twice.len() == 2;
+    Ok(is_copied && Items::from_vec(twice.into_vec()).as_slice().len() == 2)
+}
+
+#[test]
+fn texts_and_lists_are_made_with_ample_memory(rt: HostRuntime) -> Result<(), Memory> {
+    let alloc = rt.alloc();
+    assert!(rt; is_text_copied(alloc)?);
+    assert!(rt; is_text_let_go(alloc)?);
+    assert!(rt; is_text_shown(alloc)?);
+    assert!(rt; is_list_copied(alloc)?);
+    let some = Some(7_u64);
+    assert!(rt; !some.same(&None));
+    Ok(())
+}
+
+fn is_asker_copied(alloc: Global) -> Result<bool, Memory> {
+    let requester = Text::new(alloc, "10.0.0.9")?;
+    let asker = Asker {
+        requester,
+        server: Text::new(alloc, "a")?,
+    };
+    Ok(asker.same(&asker.duplicate(alloc)?))
+}
+
+fn are_tiers_copied(alloc: Global) -> Result<bool, Memory> {
+    let mut first = Items::new(alloc);
+    first.push(Window { first: 5, last: 5 })?;
+    let tiers = Tiers {
+        first,
+        second: Items::new(alloc),
+    };
+    Ok(tiers.same(&tiers.duplicate(alloc)?))
+}
+
+#[test]
+fn askers_and_tiers_are_copied(rt: HostRuntime) -> Result<(), Memory> {
+    let alloc = rt.alloc();
+    assert!(rt; is_asker_copied(alloc)?);
+    assert!(rt; are_tiers_copied(alloc)?);
+    assert!(rt; Verdict::AboveCeiling(-3).same(&Verdict::AboveCeiling(-3).duplicate(alloc)?));
+    assert!(rt; !Verdict::Permitted(1).same(&Verdict::Stopped(1)));
+    Ok(())
+}
+
+#[test]
+fn intervals_that_touch_do_not_overlap(rt: HostRuntime) -> Result<(), Memory> {
+    let run = Interval {
+        start: 100,
+        end: 150,
+    };
+    for (start, end, want) in [
+        (150, 200, false),
+        (149, 150, true),
+        (50, 100, false),
+        (50, 101, true),
+        (120, 130, true),
+        (0, 1000, true),
+    ] {
+        let other = Interval { start, end };
+        assert_eq!(rt; run.overlaps(&other), want, "at {start}");
+        assert_eq!(rt; other.overlaps(&run), want, "at {start}");
+    }
+    assert!(rt; run.same(&run.duplicate(rt.alloc())?));
+    Ok(())
+}
+
+#[test]
+fn classes_are_those_of_the_reference(rt: HostRuntime) {
+    let all = [
+        Class::BackgroundMulti,
+        Class::Background,
+        Class::Normal,
+        Class::Exclusive,
+    ];
+    let names = ["background-multi", "background", "normal", "exclusive"];
+    let conflicts = [
+        [false, false, false, false],
+        [false, false, false, false],
+        [false, false, false, true],
+        [false, false, true, true],
+    ];
+    for i in 0..4_usize {
+        assert_eq!(rt; class_name(all[i]), names[i]);
+        assert_eq!(rt; read_class(names[i]), Some(all[i]));
+        for j in 0..4_usize {
+            assert_eq!(rt; classes_conflict(all[i], all[j]), conflicts[i][j]);
+        }
+    }
+    for other in ["", "Normal", "normal ", "loud"] {
+        assert_eq!(rt; read_class(other), None);
+    }
+}
+
+#[test]
+fn names_of_hosts(rt: HostRuntime) {
+    let long = "a23456789.123456789.123456789.123456789.123456789.123456789.123";
+    for (name, want) in [
+        ("a", true),
+        ("7.example-net.org", true),
+        (long, true),
+        ("", false),
+        (".a", false),
+        ("-a", false),
+        ("A", false),
+        ("a_b", false),
+        ("a b", false),
+        ("\u{e9}", false),
+        (
+            "a23456789.123456789.123456789.123456789.123456789.123456789.1234",
+            false,
+        ),
+    ] {
+        assert_eq!(rt; is_host_name(name), want, "at {name}");
+    }
+}
+
+static DIGITS: [(&str, Option<u64>); 10] = [
+    ("0", Some(0)),
+    ("0000000007", Some(7)),
+    ("9999999999", Some(9_999_999_999)),
+    ("00000000007", None),
+    ("", None),
+    ("+1", None),
+    ("-1", None),
+    ("1 ", None),
+    ("1x", None),
+    ("\u{663}", None),
+];
+
+#[test]
+fn decimal_digits(rt: HostRuntime) {
+    for (text, want) in &DIGITS {
+        assert_eq!(rt; read_decimal(text, 1, 10), *want, "at {text}");
+    }
+    assert_eq!(rt; read_decimal("19", 2, 2), Some(19));
+    assert_eq!(rt; read_decimal("9", 2, 2), None);
+    assert_eq!(rt;
+        read_decimal("9999999999999999999", 1, 19),
+        Some(9_999_999_999_999_999_999)
+    );
+}
+
+#[test]
+fn keys_are_ordered_by_their_fields(rt: HostRuntime) {
+    let keys = [
+        key(1, 9, 9, 9),
+        key(2, 0, 9, 9),
+        key(2, 1, 0, 9),
+        key(2, 1, 1, 0),
+        key(2, 1, 1, 1),
+    ];
+    for i in 0..5_usize {
+        for j in 0..5_usize {
+            assert_eq!(rt; keys[i].order(&keys[j]), i.cmp(&j));
+            assert_eq!(rt; keys[i].same(&keys[j]), i == j);
+        }
+    }
+}
+
+// Whether a text named this and nothing else.
+fn names(found: Option<Id>, id: Id) -> bool {
+    match found {
+        Some(other) => other == id,
+        None => false,
+    }
+}
+
+#[test]
+fn identifiers_are_uuids_of_version_8(rt: HostRuntime) -> Result<(), Memory> {
+    let alloc = rt.alloc();
+    let task = Id::Task { lead: 1, task: 1 };
+    let text = id_text(alloc, task)?;
+    assert!(rt; text.is("00010000-0001-8000-8000-000000000000"));
+    assert!(rt; names(read_id(text.as_str()), task));
+    assert!(rt; names(uuid_key(key_uuid(task)), task));
+    let run = Id::Run(key(2, 65537, 258, 7));
+    let text = id_text(alloc, run)?;
+    assert!(rt; text.is("00020001-0001-8001-8000-000001020007"));
+    for text in [
+        "00020001-0001-8001-8000-000001020007",
+        "00020001000180018000000001020007",
+        "{00020001-0001-8001-8000-000001020007}",
+        "urn:uuid:00020001-0001-8001-8000-000001020007",
+    ] {
+        assert!(rt; names(read_id(text), run), "at {text}");
+    }
+    Ok(())
+}
+
+#[test]
+fn other_uuids_name_nothing(rt: HostRuntime) {
+    for other in [
+        "00010000-0001-4000-8000-000000000000",
+        "00010000-0001-8000-c000-000000000000",
+        "00010000-0001-8000-0000-000000000000",
+        "00010000-0001-8002-8000-000000000000",
+        "00010000-0001-8001-8001-000000000000",
+        "00010000-0001-8000-8000-000000010000",
+        "00010000-0001-8000-8000-000000000001",
+        "00010000-0001-8001-8000-00000000000",
+        "",
+        "a",
+    ] {
+        assert!(rt; read_id(other).is_none(), "at {other}");
+    }
+}

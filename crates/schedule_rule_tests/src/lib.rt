@@ -1,0 +1,5 @@
+//! The tests of schedule_rule, over its public items.
+#![tactic(auto)]
+
+#[cfg(test)]
+mod tests;

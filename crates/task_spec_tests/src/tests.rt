@@ -1,0 +1,368 @@
+//! Tasks as trees: docs/specification/tasks.md, worked out by hand.
+ghost use Rattle.std.specs.Prelude.{codes};
+ghost use Rattle.task_spec.specs.Bounds.{IsTask};
+
+use task_spec::fault::TaskFault;
+use task_spec::task::Task;
+use task_spec::write_task::law_task;
+use ps_json::tree::{read_tree, write_tree};
+use std::alloc::Global;
+use std::test::Fail;
+
+// What stands before the members of a table, and between the columns of what is written.
+const TEST: &str = r#"{"test":{"type":"idle","spec":{"duration":"PT10S"}}"#;
+
+static FRAME: [&str; 5] = [
+    r#"{"archives":"#,
+    r#","priority":"#,
+    r#","reference":"#,
+    r#","schedule":"#,
+    r#","schema":1,"test":{"spec":{"duration":"PT10S"},"type":"idle"}"#,
+];
+
+// Members besides the test, and the task at 1,000 s: archives, priority, reference, schedule and tools
+// as they are written; or the refusal.
+static MEMBERS: [(&str, &str); 21] = [
+    (
+        "",
+        r#"[];0;null;{"slip":"PT5M","start":"1970-01-01T00:16:40Z"};"#,
+    ),
+    (
+        r#","schema":1"#,
+        r#"[];0;null;{"slip":"PT5M","start":"1970-01-01T00:16:40Z"};"#,
+    ),
+    (
+        r#","schema":5"#,
+        r#"[];0;null;{"slip":"PT5M","start":"1970-01-01T00:16:40Z"};"#,
+    ),
+    (r#","schema":0"#, "wrong kind schema"),
+    (r#","schema":6"#, "wrong kind schema"),
+    (r#","schema":"1""#, "wrong kind schema"),
+    (
+        r##","#x":1"##,
+        r#"[];0;null;{"slip":"PT5M","start":"1970-01-01T00:16:40Z"};"#,
+    ),
+    (r#","x":1"#, "unknown member x"),
+    (
+        r#","tool":"sleep""#,
+        r#"[];0;null;{"slip":"PT5M","start":"1970-01-01T00:16:40Z"};,"tools":["sleep"]"#,
+    ),
+    (r#","tool":"ping""#, "unknown tool ping"),
+    (r#","tool":1"#, "wrong kind tool"),
+    (r#","tool":["sleep"]"#, "wrong kind tool"),
+    (
+        r#","tools":["snooze","sleep"]"#,
+        r#"[];0;null;{"slip":"PT5M","start":"1970-01-01T00:16:40Z"};,"tools":["snooze","sleep"]"#,
+    ),
+    (
+        r#","tools":["sleep","sleep"]"#,
+        r#"[];0;null;{"slip":"PT5M","start":"1970-01-01T00:16:40Z"};,"tools":["sleep","sleep"]"#,
+    ),
+    (r#","tools":[]"#, "wrong kind tools"),
+    (r#","tools":[1,2,3,4,5,6,7,8,9]"#, "wrong kind tools"),
+    (r#","tools":"sleep""#, "wrong kind tools"),
+    (r#","tools":[1]"#, "wrong kind tools"),
+    (r#","tools":["sleep","ping"]"#, "unknown tool ping"),
+    (r#","tool":"sleep","tools":["sleep"]"#, "wrong kind tools"),
+    (r#","tool":"ping","tools":[]"#, "unknown tool ping"),
+];
+
+static SCHEDULES: [(&str, &str); 27] = [
+    (
+        r#","schedule":{}"#,
+        r#"[];0;null;{"slip":"PT5M","start":"1970-01-01T00:16:40Z"};"#,
+    ),
+    (r#","schedule":[]"#, "wrong kind schedule"),
+    (
+        r#","schedule":{"start":"1970-01-01T01:00:00Z"}"#,
+        r#"[];0;null;{"slip":"PT5M","start":"1970-01-01T01:00:00Z"};"#,
+    ),
+    (
+        r#","schedule":{"start":"@PT1H"}"#,
+        r#"[];0;null;{"slip":"PT5M","start":"1970-01-01T01:00:00Z"};"#,
+    ),
+    (
+        r#","schedule":{"start":"PT10M"}"#,
+        r#"[];0;null;{"slip":"PT5M","start":"1970-01-01T00:26:40Z"};"#,
+    ),
+    (r#","schedule":{"start":5}"#, "wrong kind start"),
+    (r#","schedule":{"start":"soon"}"#, "bad time start Syntax"),
+    (
+        r#","schedule":{"start":"P1M"}"#,
+        "bad time start CalendarUnit",
+    ),
+    (r#","schedule":{"start":"@PT0S"}"#, "bad time start Range"),
+    (
+        r#","schedule":{"slip":"PT0S"}"#,
+        r#"[];0;null;{"slip":"PT0S","start":"1970-01-01T00:16:40Z"};"#,
+    ),
+    (r#","schedule":{"slip":300}"#, "wrong kind slip"),
+    (
+        r#","schedule":{"slip":"P1Y"}"#,
+        "bad time slip CalendarUnit",
+    ),
+    (
+        r#","schedule":{"repeat":"PT1H"}"#,
+        r#"[];0;null;{"repeat":"PT1H","slip":"PT5M","start":"1970-01-01T00:16:40Z"};"#,
+    ),
+    (r#","schedule":{"repeat":"PT0S"}"#, "bad time repeat Range"),
+    (r#","schedule":{"repeat":"PT"}"#, "bad time repeat Syntax"),
+    (
+        r#","schedule":{"until":"1970-01-01T02:00:00.9Z"}"#,
+        r#"[];0;null;{"slip":"PT5M","start":"1970-01-01T00:16:40Z","until":"1970-01-01T02:00:00Z"};"#,
+    ),
+    (r#","schedule":{"until":"PT1H"}"#, "bad time until Syntax"),
+    (
+        r#","schedule":{"until":"2200-01-01T00:00"}"#,
+        "bad time until Range",
+    ),
+    (
+        r#","schedule":{"max-runs":1}"#,
+        r#"[];0;null;{"max-runs":1,"slip":"PT5M","start":"1970-01-01T00:16:40Z"};"#,
+    ),
+    (
+        r#","schedule":{"max-runs":4294967295}"#,
+        r#"[];0;null;{"max-runs":4294967295,"slip":"PT5M","start":"1970-01-01T00:16:40Z"};"#,
+    ),
+    (r#","schedule":{"max-runs":0}"#, "wrong kind max-runs"),
+    (
+        r#","schedule":{"max-runs":4294967296}"#,
+        "wrong kind max-runs",
+    ),
+    (r#","schedule":{"max-runs":1.0}"#, "wrong kind max-runs"),
+    (r#","schedule":{"x":1}"#, "unknown member x"),
+    (r#","schedule":{"max-runs":0,"slip":1}"#, "wrong kind slip"),
+    (
+        r##","schedule":{"#":1,"sliprand":true}"##,
+        "unknown member sliprand",
+    ),
+    (
+        r#","schedule":{"start":"@PT1H","slip":"PT1M","repeat":"P1D","until":"1971-01-01T00:00","max-runs":3}"#,
+        r#"[];0;null;{"max-runs":3,"repeat":"P1D","slip":"PT1M","start":"1970-01-01T01:00:00Z","until":"1971-01-01T00:00:00Z"};"#,
+    ),
+];
+
+static ARCHIVES: [(&str, &str); 21] = [
+    (
+        r#","archives":[]"#,
+        r#"[];0;null;{"slip":"PT5M","start":"1970-01-01T00:16:40Z"};"#,
+    ),
+    (r#","archives":{}"#, "wrong kind archives"),
+    (r#","archives":[1,2,3,4,5,6,7,8,9]"#, "wrong kind archives"),
+    (r#","archives":[1]"#, "wrong kind archives"),
+    (r#","archives":[{}]"#, "missing archiver"),
+    (r#","archives":[{"archiver":1}]"#, "wrong kind archiver"),
+    (
+        r#","archives":[{"archiver":"http"}]"#,
+        "unknown archiver http",
+    ),
+    (
+        r#","archives":[{"archiver":"keeper"}]"#,
+        "unknown archiver keeper",
+    ),
+    (
+        r#","archives":[{"archiver":"bitbucket"}]"#,
+        r#"[{"archiver":"bitbucket","data":{}}];0;null;{"slip":"PT5M","start":"1970-01-01T00:16:40Z"};"#,
+    ),
+    (
+        r#","archives":[{"archiver":"bitbucket","data":[]}]"#,
+        "wrong kind data",
+    ),
+    (
+        r#","archives":[{"archiver":"bitbucket","data":{"fail":1}}]"#,
+        "unknown member fail",
+    ),
+    (
+        r#","archives":[{"archiver":"failer","data":{"fail":2,"retry-policy":[{"attempts":2,"wait":"PT60S"}]}}]"#,
+        r#"[{"archiver":"failer","data":{"fail":2,"retry-policy":[{"attempts":2,"wait":"PT1M"}]}}];0;null;{"slip":"PT5M","start":"1970-01-01T00:16:40Z"};"#,
+    ),
+    (
+        r#","archives":[{"archiver":"failer","data":{"fail":0}}]"#,
+        r#"[{"archiver":"failer","data":{"fail":0}}];0;null;{"slip":"PT5M","start":"1970-01-01T00:16:40Z"};"#,
+    ),
+    (
+        r#","archives":[{"archiver":"failer","data":{"fail":1001}}]"#,
+        "wrong kind fail",
+    ),
+    (
+        r#","archives":[{"archiver":"failer","data":{"fail":"1"}}]"#,
+        "wrong kind fail",
+    ),
+    (
+        r#","archives":[{"archiver":"failer","data":{"retry-policy":[],"x":1}}]"#,
+        "wrong kind retry-policy",
+    ),
+    (
+        r#","archives":[{"archiver":"failer","data":{"retry-policy":[{"attempts":0}]}}]"#,
+        "wrong kind attempts",
+    ),
+    (
+        r#","archives":[{"archiver":"failer","data":{"retry-policy":[{"attempts":1,"wait":"5"}]}}]"#,
+        "bad time wait Syntax",
+    ),
+    (
+        r#","archives":[{"archiver":"bitbucket","ttl":1}]"#,
+        "unknown member ttl",
+    ),
+    (
+        r##","archives":[{"archiver":"bitbucket","data":{"#":1,"y":2}}]"##,
+        "unknown member y",
+    ),
+    (
+        r##","archives":[{"#":1,"archiver":"bitbucket","data":{"#":1}},{"archiver":"failer"}]"##,
+        r#"[{"archiver":"bitbucket","data":{}},{"archiver":"failer","data":{}}];0;null;{"slip":"PT5M","start":"1970-01-01T00:16:40Z"};"#,
+    ),
+];
+
+static OTHERS: [(&str, &str); 16] = [
+    (
+        r#","reference":null"#,
+        r#"[];0;null;{"slip":"PT5M","start":"1970-01-01T00:16:40Z"};"#,
+    ),
+    (
+        r##","reference":{"b":[1],"a":"x","#":2}"##,
+        r##"[];0;{"#":2,"a":"x","b":[1]};{"slip":"PT5M","start":"1970-01-01T00:16:40Z"};"##,
+    ),
+    (r#","reference":1.5"#, "bad spec reference"),
+    (r#","reference":[1e2]"#, "bad spec reference"),
+    (
+        r#","reference":"""#,
+        r#"[];0;"";{"slip":"PT5M","start":"1970-01-01T00:16:40Z"};"#,
+    ),
+    (
+        r#","priority":1000"#,
+        r#"[];1000;null;{"slip":"PT5M","start":"1970-01-01T00:16:40Z"};"#,
+    ),
+    (
+        r#","priority":-1000"#,
+        r#"[];-1000;null;{"slip":"PT5M","start":"1970-01-01T00:16:40Z"};"#,
+    ),
+    (r#","priority":1001"#, "bad priority"),
+    (r#","priority":-1001"#, "bad priority"),
+    (r#","priority":"1""#, "bad priority"),
+    (r#","priority":1.0"#, "bad priority"),
+    (r#","priority":null"#, "bad priority"),
+    (r#","priority":1001,"reference":1.5"#, "bad spec reference"),
+    (r#","priority":1001,"x":1"#, "bad priority"),
+    (r#","schedule":1,"tool":2"#, "wrong kind tool"),
+    (r#","archives":1,"schedule":{"x":1}"#, "unknown member x"),
+];
+
+static BODIES: [(&str, &str); 10] = [
+    ("[]", "wrong kind task"),
+    ("{}", "missing test"),
+    (r#"{"schema":9}"#, "wrong kind schema"),
+    (r#"{"test":[]}"#, "wrong kind test"),
+    (r#"{"test":{"type":"idler"}}"#, "unknown test idler"),
+    (
+        r#"{"test":{"type":"idle","spec":{"duration":"x"}}}"#,
+        "bad time duration Syntax",
+    ),
+    (
+        r#"{"test":{"type":"idlebgm","spec":{"duration":"PT65S","interval":"PT1S"}},"tool":"ping"}"#,
+        "bad spec duration",
+    ),
+    (
+        r#"{"test":{"type":"idlemany","spec":{"duration":"PT1S","hosts":["b","a"]}},"tool":"ping"}"#,
+        "bad spec hosts",
+    ),
+    (
+        r#"{"test":{"type":"idlemany","spec":{"duration":"PT1S","hosts":["b","a"]},"z":1}}"#,
+        "unknown member z",
+    ),
+    (
+        r#"{"test":{"type":"idlemany","spec":{"duration":"PT1S","hosts":["a","b"]}}}"#,
+        r#"{"archives":[],"priority":0,"reference":null,"schedule":{"slip":"PT5M","start":"1970-01-01T00:16:40Z"},"schema":1,"test":{"spec":{"duration":"PT1S","hosts":["a","b"]},"type":"idlemany"}}"#,
+    ),
+];
+
+fn fault_text(alloc: Global, fault: TaskFault) -> Result<String, Fail> {
+    match fault {
+        TaskFault::Json(inner) => Ok(format!(in alloc; "{inner}")?),
+        TaskFault::BadTime(member, inner) => Ok(format!(in alloc; "bad time {member} {inner:?}")?),
+        TaskFault::UnknownTest(name) => Ok(format!(in alloc; "unknown test {name}")?),
+        TaskFault::BadPriority => Ok(String::from_str(alloc, "bad priority")?),
+        TaskFault::UnknownTool(name) => Ok(format!(in alloc; "unknown tool {name}")?),
+        TaskFault::UnknownArchiver(name) => Ok(format!(in alloc; "unknown archiver {name}")?),
+        TaskFault::BadSpec(member) => Ok(format!(in alloc; "bad spec {member}")?),
+        TaskFault::Memory => Err(Fail::new("out of memory")),
+    }
+}
+
+fn written(alloc: Global, task: &Task) -> Result<String, Fail>
+    requires { IsTask (codes "a") task.now }
+{
+    let value = task.write(alloc)?;
+    match String::from_utf8(write_tree(alloc, &value)?) {
+        Ok(text) => Ok(text),
+        Err(_) => Err(Fail::new("no UTF-8")),
+    }
+}
+
+fn written_copy(alloc: Global, task: &Task) -> Result<String, Fail>
+    requires { IsTask (codes "a") task.now }
+{
+    let copy = task.copy(alloc)?;
+    written(alloc, &copy)
+}
+
+// The copy of the task that is read at the lead `a`, as it is written.
+fn told(alloc: Global, text: &str) -> Result<String, Fail> {
+    match Task::read(alloc, read_tree(alloc, text.as_bytes())?, 1_000, "a") {
+        Err(fault) => fault_text(alloc, fault),
+        Ok(task) => written_copy(alloc, &task),
+    }
+}
+
+// The written task with these columns; a refusal has none.
+fn framed(alloc: Global, columns: &str) -> Result<String, Fail> {
+    if !columns.ends_with(';') && !columns.ends_with(']') {
+        return Ok(String::from_str(alloc, columns)?);
+    }
+    let mut text = String::new(alloc);
+    for (frame, column) in FRAME.iter().zip(columns.split(';')) {
+        text.push_str(frame)?;
+        text.push_str(column)?;
+    }
+    text.push_str("}")?;
+    Ok(text)
+}
+
+fn body(alloc: Global, members: &str) -> Result<String, Fail> {
+    let mut text = String::from_str(alloc, TEST)?;
+    text.push_str(members)?;
+    text.push_str("}")?;
+    Ok(text)
+}
+
+fn check(alloc: Global, table: &[(&str, &str)]) -> Result<(), Fail> {
+    for (members, columns) in table {
+        let told = told(alloc, body(alloc, members)?.as_str())?;
+        if told.as_str() != framed(alloc, columns)?.as_str() {
+            return Err(Fail::new(format_args!("{members} is told {told}")));
+        }
+    }
+    Ok(())
+}
+
+fn check_bodies(alloc: Global, table: &[(&str, &str)]) -> Result<(), Fail> {
+    for (text, expected) in table {
+        let told = told(alloc, text)?;
+        if told.as_str() != *expected {
+            return Err(Fail::new(format_args!("{text} is told {told}")));
+        }
+    }
+    Ok(())
+}
+
+#[test]
+fn tasks(rt: HostRuntime) -> Result<(), Fail> {
+    let alloc = rt.alloc();
+    check(alloc, &MEMBERS)?;
+    check(alloc, &SCHEDULES)?;
+    check(alloc, &ARCHIVES)?;
+    check(alloc, &OTHERS)?;
+    check_bodies(alloc, &BODIES)?;
+    law_task();
+    Ok(())
+}
