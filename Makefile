@@ -1,10 +1,14 @@
 # make rehearse SCRIPT=FILE         writes the report on a script
 # make validate-limits LIMITS=FILE  says whether a configuration of limits is valid
-# make build                        proves psched and the crates below it, and leaves it at build/psched
+# make build                        leaves psched at build/psched, proved: what the gate built, where no source is newer
 # make examples                     runs examples/ on build/psched
 # make test                         the gate: every proof and test, then the examples
+# make gate-cost                    the gate, and the processor seconds that each crate takes in it
 # make bench                        times build/psched
-.PHONY: rehearse validate-limits build examples test bench
+.PHONY: rehearse validate-limits build examples test gate-cost bench
+
+PROVED := crates/psched_cli/out/psched_cli
+SOURCES := crates.txt $(shell find crates -type f \( -path '*/src/*' -o -path '*/specs/*' -o -path '*/proofs/*' \) -not -path '*_tests/*' -not -path '*/out/*')
 
 rehearse:
 	@bin/rehearse "$(SCRIPT)"
@@ -12,17 +16,25 @@ rehearse:
 validate-limits:
 	@bin/validate-limits "$(LIMITS)"
 
-# Built by its first run, which tells its version.
-build:
-	cd crates/psched_cli && rt run -- --version
-	mkdir -p build
-	cp crates/psched_cli/out/psched_cli build/psched
+build: build/psched
 
-examples:
+build/psched: $(PROVED)
+	mkdir -p build
+	cp $(PROVED) build/psched
+
+# Built by its first run, which tells its version.
+$(PROVED): $(SOURCES)
+	cd crates/psched_cli && rt run -- --version
+	touch $(PROVED)
+
+examples: build
 	@bin/examples
 
 test:
 	.ci/run
+
+gate-cost:
+	@bin/gate-cost
 
 bench: build
 	python3 bench/run.py build/psched
