@@ -9,7 +9,7 @@ use ps_time::moment::TimeFault;
 use ps_time::text::Text;
 
 /// Why a tree is no policy.
-#[derive(Debug, PartialEq, Eq, Drop)]
+#[derive(Drop)]
 pub enum PolicyFault {
     /// A member is missing, of a wrong kind or unknown. It is never `JsonFault::Memory`.
     Json(JsonFault),

@@ -9,7 +9,7 @@ use ps_time::same::Same;
 use std::alloc::Global;
 
 /// Some retries with one wait.
-#[derive(Clone, Copy, Debug, PartialEq, Eq)]
+#[derive(Clone, Copy, PartialEq)]
 pub struct Entry {
     /// How many retries: 1 to 1,000.
     pub attempts: u32,
@@ -30,7 +30,7 @@ impl Same for Entry {
 }
 
 /// The entries are used up one after another; once they are spent, no attempt follows a failure.
-#[derive(Debug, Drop)]
+#[derive(Drop)]
 pub struct Policy {
     /// At most 16.
     pub entries: Items<Entry>,

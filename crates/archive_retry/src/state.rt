@@ -8,7 +8,7 @@ use ps_time::same::Same;
 use std::alloc::Global;
 
 /// It was given up where `next` is `None` and `done` is false.
-#[derive(Clone, Copy, Debug, PartialEq, Eq)]
+#[derive(Clone, Copy, PartialEq)]
 pub struct ArchiveState {
     /// How many attempts were made.
     pub tried: u32,

@@ -245,37 +245,67 @@ fn nested(
     Ok(text)
 }
 
+// Openings and closings, and how many levels each makes.
+static NESTINGS: [(&str, &str, usize); 4] = [
+    ("[", "]", 1),
+    ("{\"a\":", "}", 1),
+    ("[{\"a\":", "}]", 2),
+    ("[0,[", "],0]", 2),
+];
+
+// Levels, whether they are closed, and what is told; nothing where the text is written again.
+static LEVELS: [(usize, bool, &str); 5] = [
+    (64, true, ""),
+    (66, true, "too deep"),
+    (126, true, "too deep"),
+    (128, true, "syntax"),
+    (64, false, "syntax"),
+];
+
+static ODD_LEVELS: [(usize, bool, &str); 2] = [(65, true, "too deep"), (127, true, "too deep")];
+
+fn check_levels(
+    alloc: Global,
+    opening: &str,
+    closing: &str,
+    each: usize,
+    table: &[(usize, bool, &str)],
+) -> Result<(), Fail> {
+    for (levels, closed, expected) in table {
+        let Some(openings) = levels.checked_div(each) else {
+            return Err(Fail::new("an opening without a level"));
+        };
+        let text = nested(alloc, openings, opening, closing, *closed)?;
+        let told = answer(alloc, text.as_bytes())?;
+        let expected = if expected.len() == 0 {
+            text.as_str()
+        } else {
+            *expected
+        };
+        if told.as_str() != expected {
+            return Err(Fail::new(format_args!("{levels} levels of {opening} are told {told}")));
+        }
+    }
+    Ok(())
+}
+
+fn check_nestings(alloc: Global, table: &[(&str, &str, usize)]) -> Result<(), Fail> {
+    for (opening, closing, each) in table {
+        check_levels(alloc, opening, closing, *each, &LEVELS)?;
+    }
+    Ok(())
+}
+
 #[test]
 fn depths(rt: HostRuntime) -> Result<(), Fail> {
     let alloc = rt.alloc();
-    for (opening, closing, each) in [
-        ("[", "]", 1),
-        ("{\"a\":", "}", 1),
-        ("[{\"a\":", "}]", 2),
-        ("[0,[", "],0]", 2),
-    ] {
-        for (levels, closed, expected) in [
-            (64, true, ""),
-            (66, true, "too deep"),
-            (126, true, "too deep"),
-            (128, true, "syntax"),
-            (64, false, "syntax"),
-        ] {
-            let text = nested(alloc, levels / each, opening, closing, closed)?;
-            let told = answer(alloc, text.as_bytes())?;
-            let expected = if expected == "" {
-                text.as_str()
-            } else {
-                expected
-            };
-            assert_eq!(rt; told.as_str(), expected, "{levels} levels of {opening}");
-        }
-    }
-    for (levels, expected) in [(65, "too deep"), (127, "too deep")] {
-        let text = nested(alloc, levels, "[", "]", true)?;
-        assert_eq!(rt; answer(alloc, text.as_bytes())?.as_str(), expected);
-    }
-    let value = read_tree(alloc, b"[[],{\"a\":[1]},2]")?;
+    check_nestings(alloc, &NESTINGS)?;
+    check_levels(alloc, "[", "]", 1, &ODD_LEVELS)
+}
+
+#[test]
+fn a_tree_is_measured(rt: HostRuntime) -> Result<(), Fail> {
+    let value = read_tree(rt.alloc(), b"[[],{\"a\":[1]},2]")?;
     assert!(rt; is_deeper(&value, 2) && !is_deeper(&value, 3));
     Ok(())
 }
@@ -284,35 +314,57 @@ fn opened(alloc: Global, text: &str) -> Result<Fields, JsonFault> {
     Fields::open(alloc, read_tree(alloc, text.as_bytes())?, "whole")
 }
 
+fn taken(fields: &mut Fields, name: &str) -> Option<u64> {
+    fields.take(name)?.as_u64()
+}
+
+fn needed(alloc: Global, fields: &mut Fields, name: &str) -> Result<u64, JsonFault> {
+    let value = fields.need(alloc, name)?;
+    read_count(alloc, value, name, 0, 9)
+}
+
 #[test]
 fn members_are_taken_once(rt: HostRuntime) -> Result<(), Fail> {
     let alloc = rt.alloc();
     let mut fields = opened(alloc, "{\"b\":1,\"#c\":2,\"a\":3,\"b\":4}")?;
-    assert_eq!(rt; fields.need(alloc, "b")?.as_u64(), Some(4));
-    assert!(rt; fields.take("b").is_none());
-    assert_eq!(rt;
-        told(alloc, fields.need(alloc, "b").map(|_| ""))?.as_str(),
-        "missing b"
-    );
-    assert_eq!(rt; fields.take("a").and_then(|value| value.as_u64()), Some(3));
+    let first = needed(alloc, &mut fields, "b")?;
+    assert!(rt; first == 4 && taken(&mut fields, "b").is_none());
+    let again = told(alloc, needed(alloc, &mut fields, "b"))?;
+    assert_eq!(rt; again.as_str(), "missing b");
+    assert_eq!(rt; taken(&mut fields, "a"), Some(3));
     fields.end(alloc)?;
-    for (text, expected) in [
-        ("{}", ""),
-        ("{\"#\":1,\"#b\":2}", ""),
-        ("{\"\u{e9}\":1,\"z\":2,\"Z\":3,\"#\":4}", "unknown member Z"),
-        ("{\"\":1,\"!\":2,\"#\":3}", "unknown member "),
-        ("{\"\\u0023\":1,\"a#\":2}", "unknown member a#"),
-        ("[]", "wrong kind whole"),
-        ("null", "wrong kind whole"),
-    ] {
-        let ended = opened(alloc, text).and_then(|fields| fields.end(alloc));
-        assert_eq!(rt;
-            told(alloc, ended.map(|_| ""))?.as_str(),
-            expected,
-            "{text}"
-        );
+    Ok(())
+}
+
+// Objects, and what the end of their members tells; nothing where there are but comments.
+static ENDINGS: [(&str, &str); 7] = [
+    ("{}", ""),
+    ("{\"#\":1,\"#b\":2}", ""),
+    ("{\"\u{e9}\":1,\"z\":2,\"Z\":3,\"#\":4}", "unknown member Z"),
+    ("{\"\":1,\"!\":2,\"#\":3}", "unknown member "),
+    ("{\"\\u0023\":1,\"a#\":2}", "unknown member a#"),
+    ("[]", "wrong kind whole"),
+    ("null", "wrong kind whole"),
+];
+
+fn ended(alloc: Global, text: &str) -> Result<&'static str, JsonFault> {
+    opened(alloc, text)?.end(alloc)?;
+    Ok("")
+}
+
+fn check_endings(alloc: Global, table: &[(&str, &str)]) -> Result<(), Fail> {
+    for (text, expected) in table {
+        let told = told(alloc, ended(alloc, text))?;
+        if told.as_str() != *expected {
+            return Err(Fail::new(format_args!("{text} is told {told}")));
+        }
     }
     Ok(())
+}
+
+#[test]
+fn members_end(rt: HostRuntime) -> Result<(), Fail> {
+    check_endings(rt.alloc(), &ENDINGS)
 }
 
 // The text of a value or of its refusal.
@@ -376,20 +428,27 @@ fn values_by_kind(rt: HostRuntime) -> Result<(), Fail> {
     check_kinds(rt.alloc(), &KINDS)
 }
 
+fn check_fault(alloc: Global, fault: JsonFault, expected: &str) -> Result<(), Fail> {
+    let told = format!(in alloc; "{fault}")?;
+    if told.as_str() != expected {
+        return Err(Fail::new(format_args!("{expected} is told {told}")));
+    }
+    Ok(())
+}
+
 #[test]
 fn faults_are_shown(rt: HostRuntime) -> Result<(), Fail> {
     let alloc = rt.alloc();
-    for (fault, expected) in [
-        (JsonFault::Syntax, "syntax"),
-        (JsonFault::TooDeep, "too deep"),
-        (JsonFault::NotUtf8, "not utf-8"),
-        (JsonFault::missing(alloc, "a"), "missing a"),
-        (JsonFault::wrong_kind(alloc, "a"), "wrong kind a"),
-        (JsonFault::unknown(alloc, "a"), "unknown member a"),
-        (JsonFault::from(Memory), "out of memory"),
-    ] {
-        assert_eq!(rt; format!(in alloc; "{fault}")?.as_str(), expected);
-    }
+    check_fault(alloc, JsonFault::Syntax, "syntax")?;
+    check_fault(alloc, JsonFault::TooDeep, "too deep")?;
+    check_fault(alloc, JsonFault::NotUtf8, "not utf-8")?;
+    check_fault(alloc, JsonFault::missing(alloc, "a"), "missing a")?;
+    check_fault(alloc, JsonFault::wrong_kind(alloc, "a"), "wrong kind a")?;
+    check_fault(alloc, JsonFault::unknown(alloc, "a"), "unknown member a")?;
+    check_fault(alloc, JsonFault::from(Memory), "out of memory")
+}
+
+#[test]
+fn laws(_rt: HostRuntime) {
     law_taken_once();
-    Ok(())
 }
