@@ -12,7 +12,7 @@ const TRIES: u32 = 1_000;
 
 /// A source over a reader of std, such as standard input. Each error of the reader is counted, and
 /// a read that a signal interrupts is tried again, up to 1,000 times.
-#[derive(Debug, Drop)]
+#[derive(Drop)]
 pub struct ReaderSource<R> {
     reader: R,
     faults: u64,
@@ -66,7 +66,7 @@ impl<R: Read> Source for ReaderSource<R> {
 /// A sink over a writer of std, such as standard output. Each error of the writer is counted, and
 /// so is 0 of a piece that isn't empty. A write that a signal interrupts is tried again, up to 1,000
 /// times.
-#[derive(Debug, Drop)]
+#[derive(Drop)]
 pub struct WriterSink<W> {
     writer: W,
     faults: u64,

@@ -9,7 +9,7 @@ use crate::fault::Failed;
 use ps_time::items::Items;
 
 /// A call that changes a disk, or makes sure of what is on it.
-#[derive(Debug, Drop)]
+#[derive(Drop)]
 pub enum DiskCall {
     /// The place and the bytes.
     Write(u64, Items<u8>),

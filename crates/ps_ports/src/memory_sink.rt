@@ -12,7 +12,7 @@ use crate::written::Written;
 use std::marker::Model;
 
 /// Bytes that were written, and the writes that are to fail. A write that finds no memory fails.
-#[derive(Debug, Drop)]
+#[derive(Drop)]
 pub struct MemorySink {
     written: Written,
     calls: FailingCalls,

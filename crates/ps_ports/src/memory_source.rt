@@ -12,7 +12,7 @@ use crate::unread::Unread;
 use std::marker::Model;
 
 /// Bytes to read, and the reads that are to fail.
-#[derive(Debug, Drop)]
+#[derive(Drop)]
 pub struct MemorySource {
     left: Unread,
     calls: FailingCalls,

@@ -17,7 +17,7 @@ use std::marker::Model;
 
 /// Bytes to read, bytes that were written, and the calls that are to fail, reads and writes
 /// numbered together. A write that finds no memory fails.
-#[derive(Debug, Drop)]
+#[derive(Drop)]
 pub struct MemoryStream {
     left: Unread,
     written: Written,
