@@ -3,6 +3,7 @@
 ghost use Rattle.std.specs.Prelude.{◌≡◌};
 
 use crate::fault::Failed;
+use crate::faults::Faults;
 use crate::sink::Sink;
 use crate::source::Source;
 use std::io::{ErrorKind, Read, Write};
@@ -15,7 +16,7 @@ const TRIES: u32 = 1_000;
 #[derive(Drop)]
 pub struct ReaderSource<R> {
     reader: R,
-    faults: u64,
+    faults: Faults,
 }
 
 impl<R: Read> ReaderSource<R> {
@@ -23,14 +24,17 @@ impl<R: Read> ReaderSource<R> {
         ensures left { ⟦<ReaderSource<R> as Source>⟧.left result ≡ R.remaining reader }
         ensures faults { ⟦<ReaderSource<R> as Source>⟧.read_faults result ≡ 0 }
     {
-        ReaderSource { reader, faults: 0 }
+        ReaderSource {
+            reader,
+            faults: Faults::none(),
+        }
     }
 
     /// How many errors the reader gave.
     pub fn faults(&self) -> u64
         ensures { result ≡ ⟦<ReaderSource<R> as Source>⟧.read_faults self.now }
     {
-        self.faults
+        self.faults.count()
     }
 }
 
@@ -48,7 +52,7 @@ impl<R: Read> Source for ReaderSource<R> {
             match self.reader.read(buf) {
                 Ok(count) => return Ok(count),
                 Err(fault) => {
-                    self.faults = self.faults.saturating_add(1);
+                    self.faults.raise();
                     if fault.kind() != ErrorKind::Interrupted {
                         return Err(Failed);
                     }
@@ -69,7 +73,7 @@ impl<R: Read> Source for ReaderSource<R> {
 #[derive(Drop)]
 pub struct WriterSink<W> {
     writer: W,
-    faults: u64,
+    faults: Faults,
 }
 
 impl<W: Write> WriterSink<W> {
@@ -77,14 +81,17 @@ impl<W: Write> WriterSink<W> {
         ensures written { ⟦<WriterSink<W> as Sink>⟧.written result ≡ W.contents writer }
         ensures faults { ⟦<WriterSink<W> as Sink>⟧.write_faults result ≡ 0 }
     {
-        WriterSink { writer, faults: 0 }
+        WriterSink {
+            writer,
+            faults: Faults::none(),
+        }
     }
 
     /// How many errors the writer gave.
     pub fn faults(&self) -> u64
         ensures { result ≡ ⟦<WriterSink<W> as Sink>⟧.write_faults self.now }
     {
-        self.faults
+        self.faults.count()
     }
 }
 
@@ -101,12 +108,12 @@ impl<W: Write> Sink for WriterSink<W> {
         for _ in 0..TRIES {
             match self.writer.write(bytes) {
                 Ok(0) if !bytes.is_empty() => {
-                    self.faults = self.faults.saturating_add(1);
+                    self.faults.raise();
                     return Ok(0);
                 }
                 Ok(count) => return Ok(count),
                 Err(fault) => {
-                    self.faults = self.faults.saturating_add(1);
+                    self.faults.raise();
                     if fault.kind() != ErrorKind::Interrupted {
                         return Err(Failed);
                     }

@@ -3,6 +3,7 @@ ghost use Rattle.std.specs.Prelude.{◌≡◌, None};
 
 use crate::disk::Disk;
 use crate::fault::Failed;
+use crate::faults::Faults;
 use std::fs::{File, OpenFile};
 use std::os::unix::fs::FileExt;
 
@@ -13,7 +14,7 @@ pub struct FileDisk {
     file: File,
     // Of a pair one disk holds its lock, which goes when the disk is dropped.
     _lock: Option<File>,
-    faults: u64,
+    faults: Faults,
 }
 
 impl FileDisk {
@@ -23,7 +24,7 @@ impl FileDisk {
         FileDisk {
             file,
             _lock: lock,
-            faults: 0,
+            faults: Faults::none(),
         }
     }
 
@@ -31,7 +32,7 @@ impl FileDisk {
     pub fn faults(&self) -> u64
         ensures { result ≡ ⟦<FileDisk as Disk>⟧.disk_faults self.now }
     {
-        self.faults
+        self.faults.count()
     }
 
     fn cut_file(&self, len: u64) -> std::io::Result<()> {
@@ -63,7 +64,7 @@ impl Disk for FileDisk {
         if let Ok(count) = self.file.read_at(buf, at) {
             return Ok(count);
         }
-        self.faults = self.faults.saturating_add(1);
+        self.faults.raise();
         Err(Failed)
     }
 
@@ -72,7 +73,7 @@ impl Disk for FileDisk {
         if end.is_some() && self.file.write_all_at(bytes, at).is_ok() {
             return Ok(());
         }
-        self.faults = self.faults.saturating_add(1);
+        self.faults.raise();
         Err(Failed)
     }
 
@@ -80,7 +81,7 @@ impl Disk for FileDisk {
         if self.cut_file(len).is_ok() {
             return Ok(());
         }
-        self.faults = self.faults.saturating_add(1);
+        self.faults.raise();
         Err(Failed)
     }
 
@@ -88,7 +89,7 @@ impl Disk for FileDisk {
         if self.file.sync_all().is_ok() {
             return Ok(());
         }
-        self.faults = self.faults.saturating_add(1);
+        self.faults.raise();
         Err(Failed)
     }
 

@@ -11,6 +11,7 @@ ghost use Rattle.ps_ports.specs.declared.disk.DiskCall.TheVariants.{Write, Cut, 
 use crate::disk::{Disk, DiskCall};
 use crate::failing_calls::FailingCalls;
 use crate::fault::Failed;
+use crate::faults::Faults;
 use crate::history::History;
 use crate::image::Image;
 use ps_time::items::Items;
@@ -25,7 +26,7 @@ pub struct MemoryDisk {
     calls: FailingCalls,
     // How many writes, cuts and syncs come up to the one that is to fail, that one too; 0 for none.
     until_fault: u64,
-    faults: u64,
+    faults: Faults,
     starved: bool,
 }
 
@@ -59,7 +60,7 @@ impl MemoryDisk {
             history: History::new(alloc, bytes),
             calls: FailingCalls::new(failing),
             until_fault: 0,
-            faults: 0,
+            faults: Faults::none(),
             starved: false,
         }
     }
@@ -82,7 +83,7 @@ impl MemoryDisk {
     pub fn faults(&self) -> u64
         ensures { result ≡ self.now.faults }
     {
-        self.faults
+        self.faults.count()
     }
 
     /// Whether a call ever found no memory. From then on the disk doesn't tell its calls.
@@ -133,7 +134,7 @@ impl MemoryDisk {
             history,
             calls,
             until_fault,
-            faults: 0,
+            faults: Faults::none(),
             starved,
         }
     }
@@ -160,7 +161,7 @@ impl MemoryDisk {
     {
         self.history.known();
         self.next_fails();
-        self.faults = self.faults.saturating_add(1);
+        self.faults.raise();
         self.starved = true;
         Failed
     }
@@ -177,7 +178,7 @@ impl MemoryDisk {
             self.starved = true;
         }
         if fails || added.is_err() {
-            self.faults = self.faults.saturating_add(1);
+            self.faults.raise();
             return Err(Failed);
         }
         Ok(())
@@ -221,7 +222,7 @@ impl Disk for MemoryDisk {
     {
         self.history.known();
         if self.calls.next_fails() {
-            self.faults = self.faults.saturating_add(1);
+            self.faults.raise();
             return Err(Failed);
         }
         Ok(read_at(self.history.bytes(), at, buf))

@@ -10,6 +10,7 @@ ghost use Rattle.ps_ports.specs.declared.rack.RackFault.TheVariants.{Failed as r
 
 use crate::disk::Disk;
 use crate::failing_calls::FailingCalls;
+use crate::faults::Faults;
 use crate::memory_disk::MemoryDisk;
 use crate::rack::{Rack, RackFault};
 use crate::shelf::Shelf;
@@ -22,7 +23,7 @@ use std::marker::Model;
 pub struct MemoryRack {
     shelf: Shelf,
     calls: FailingCalls,
-    faults: u64,
+    faults: Faults,
 }
 
 impl Model for MemoryRack {
@@ -46,7 +47,7 @@ impl MemoryRack {
         MemoryRack {
             shelf: Shelf::new(alloc, pairs),
             calls: FailingCalls::new(failing),
-            faults: 0,
+            faults: Faults::none(),
         }
     }
 
@@ -61,7 +62,7 @@ impl MemoryRack {
     pub fn faults(&self) -> u64
         ensures { result ≡ self.now.faults }
     {
-        self.faults
+        self.faults.count()
     }
 }
 
@@ -95,7 +96,7 @@ impl Rack for MemoryRack {
         ensures opens { Opens folder.now self.old self.new result }
     {
         if self.calls.next_fails() || self.shelf.is_out(folder) {
-            self.faults = self.faults.saturating_add(1);
+            self.faults.raise();
             return Err(RackFault::Failed);
         }
         match self.shelf.take(alloc, folder) {
@@ -112,7 +113,7 @@ impl Rack for MemoryRack {
         ensures after { self.new ≡ after_close folder.now first second self.old }
     {
         if first.faults() != 0 || second.faults() != 0 {
-            self.faults = self.faults.saturating_add(1);
+            self.faults.raise();
         }
         self.shelf.give_back(folder, first, second);
     }

@@ -7,6 +7,7 @@ ghost use Rattle.ps_ports.specs.Memory.{no_calls, fails_next, after_write};
 
 use crate::failing_calls::FailingCalls;
 use crate::fault::Failed;
+use crate::faults::Faults;
 use crate::sink::Sink;
 use crate::written::Written;
 use std::marker::Model;
@@ -16,7 +17,7 @@ use std::marker::Model;
 pub struct MemorySink {
     written: Written,
     calls: FailingCalls,
-    faults: u64,
+    faults: Faults,
 }
 
 impl Model for MemorySink {
@@ -36,7 +37,7 @@ impl MemorySink {
         MemorySink {
             written: Written::new(bytes),
             calls: FailingCalls::new(failing),
-            faults: 0,
+            faults: Faults::none(),
         }
     }
 
@@ -58,7 +59,7 @@ impl MemorySink {
     pub fn faults(&self) -> u64
         ensures { result ≡ self.now.faults }
     {
-        self.faults
+        self.faults.count()
     }
 
     /// Whether a write ever found no memory.
@@ -92,7 +93,7 @@ impl Sink for MemorySink {
         ensures after { self.new ≡ after_write self.old bytes.now result }
     {
         if self.calls.next_fails() || self.written.append(bytes).is_err() {
-            self.faults = self.faults.saturating_add(1);
+            self.faults.raise();
             return Err(Failed);
         }
         Ok(bytes.len())

@@ -7,6 +7,7 @@ ghost use Rattle.ps_ports.specs.Memory.{no_calls, fails_next, after_read};
 
 use crate::failing_calls::FailingCalls;
 use crate::fault::Failed;
+use crate::faults::Faults;
 use crate::source::Source;
 use crate::unread::Unread;
 use std::marker::Model;
@@ -16,7 +17,7 @@ use std::marker::Model;
 pub struct MemorySource {
     left: Unread,
     calls: FailingCalls,
-    faults: u64,
+    faults: Faults,
 }
 
 impl Model for MemorySource {
@@ -35,7 +36,7 @@ impl MemorySource {
         MemorySource {
             left: Unread::new(bytes),
             calls: FailingCalls::new(failing),
-            faults: 0,
+            faults: Faults::none(),
         }
     }
 
@@ -57,7 +58,7 @@ impl MemorySource {
     pub fn faults(&self) -> u64
         ensures { result ≡ self.now.faults }
     {
-        self.faults
+        self.faults.count()
     }
 }
 
@@ -83,7 +84,7 @@ impl Source for MemorySource {
         ensures after { self.new ≡ after_read self.old result }
     {
         if self.calls.next_fails() {
-            self.faults = self.faults.saturating_add(1);
+            self.faults.raise();
             return Err(Failed);
         }
         Ok(self.left.read(buf))

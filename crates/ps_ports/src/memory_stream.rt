@@ -7,6 +7,7 @@ ghost use Rattle.ps_ports.specs.Memory.{no_calls, fails_next, after_read, after_
 
 use crate::failing_calls::FailingCalls;
 use crate::fault::Failed;
+use crate::faults::Faults;
 use crate::sink::Sink;
 use crate::source::Source;
 use crate::stream::Stream;
@@ -22,8 +23,8 @@ pub struct MemoryStream {
     left: Unread,
     written: Written,
     calls: FailingCalls,
-    read_faults: u64,
-    write_faults: u64,
+    read_faults: Faults,
+    write_faults: Faults,
 }
 
 impl Model for MemoryStream {
@@ -58,8 +59,8 @@ impl MemoryStream {
             left: Unread::new(bytes),
             written: Written::empty(alloc),
             calls: FailingCalls::new(failing),
-            read_faults: 0,
-            write_faults: 0,
+            read_faults: Faults::none(),
+            write_faults: Faults::none(),
         }
     }
 
@@ -88,14 +89,14 @@ impl MemoryStream {
     pub fn read_faults(&self) -> u64
         ensures { result ≡ self.now.read_faults }
     {
-        self.read_faults
+        self.read_faults.count()
     }
 
     /// How many writes failed.
     pub fn write_faults(&self) -> u64
         ensures { result ≡ self.now.write_faults }
     {
-        self.write_faults
+        self.write_faults.count()
     }
 
     /// Whether a write ever found no memory.
@@ -128,7 +129,7 @@ impl Source for MemoryStream {
         ensures after { self.new ≡ with_source self.old (after_read (source_of self.old) result) }
     {
         if self.calls.next_fails() {
-            self.read_faults = self.read_faults.saturating_add(1);
+            self.read_faults.raise();
             return Err(Failed);
         }
         Ok(self.left.read(buf))
@@ -162,7 +163,7 @@ impl Sink for MemoryStream {
         ensures after { self.new ≡ with_sink self.old (after_write (sink_of self.old) bytes.now result) }
     {
         if self.calls.next_fails() || self.written.append(bytes).is_err() {
-            self.write_faults = self.write_faults.saturating_add(1);
+            self.write_faults.raise();
             return Err(Failed);
         }
         Ok(bytes.len())
