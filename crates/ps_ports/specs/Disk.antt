@@ -1,6 +1,6 @@
 -- What the calls of a disk do to its bytes, and what a crash may leave of them between two syncs.
 use Rattle.std.specs.Prelude.{◌≡◌, ◌⊎◌, ℕ, ◌+◌, ◌-◌, ◌^◌, ◌<◌, ◌≤◌, min, List, [], ◌∷◌, ◌++◌, length, take, drop, replicate, Option, IfSome, Some, Result, OnErr, OnOk}
-use Rattle.ps_ports.specs.Causes.{Rose}
+use Rattle.ps_ports.specs.Causes.{Rose, raised}
 use Rattle.ps_ports.specs.declared.disk.DiskCall.{DiskCall}
 use Rattle.ps_ports.specs.declared.disk.DiskCall.TheVariants.{Write, Cut, Sync}
 
@@ -15,11 +15,12 @@ abbrev pub written : ℕ → List ℕ → List ℕ → List ℕ
 written at [] old = old
 written at (b ∷ bytes) old = take at old ++ replicate (at - length old) 0 ++ (b ∷ bytes) ++ drop (at + length (b ∷ bytes)) old
 
--- after any part of a write of n bytes: any bytes in its range and past the old end, the same elsewhere
+-- after any part of a write of n bytes: any bytes in its range and past the old end, the same elsewhere; none change nothing
 pub record Torn (at n : ℕ) (old new : List ℕ) : Type 0 where
   pub before : take (min at (length old)) new ≡ take at old
   pub after : drop (at + n) new ≡ drop (at + n) old
   pub no_shorter : length old ≤ length new
+  pub nothing : n ≡ 0 → new ≡ old
 
 -- after any part of a cut to n bytes: some length between
 pub record Shortened (n : ℕ) (old new : List ℕ) : Type 0 where
@@ -67,11 +68,12 @@ pub record LeavesOnly {D : Type 0} (moment : D → ℕ) (left_since : D → ℕ 
   -- for a run that began earlier
   pub before : (t : ℕ) (c : List ℕ) → t ≤ moment old → left_since new t c → left_since old t c ⊎ P c
 
--- the count of faults rises exactly where the call fails
+-- the count of faults rises exactly where the call fails, and by one
 pub record CountsFault {T E : Type 0} (before now : ℕ) (result : Result T E) : Type 0 where
   pub later : before ≤ now
   pub ok : OnOk result (now ≡ before)
   pub failed : OnErr result (Rose before now)
+  pub one : OnErr result (now ≡ raised before)
 
 -- where the disk tells its calls it told those before, and this is the one call more
 abbrev pub Tells : Option (List DiskCall) → Option (List DiskCall) → DiskCall → Type 0

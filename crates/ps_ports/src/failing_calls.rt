@@ -4,7 +4,7 @@ ghost use Rattle.ps_ports.specs.Memory.{no_calls, fails_next, called};
 
 use std::marker::Model;
 
-#[derive(Debug, Drop)]
+#[derive(Drop)]
 pub struct FailingCalls {
     failing: Vec<u64>,
     made: u64,

@@ -3,6 +3,7 @@ ghost use Rattle.std.specs.Prelude.{◌≡◌, None};
 
 use crate::disk::Disk;
 use crate::fault::Failed;
+use crate::faults::Faults;
 use std::fs::{File, OpenFile};
 use std::os::unix::fs::FileExt;
 
@@ -13,7 +14,7 @@ pub struct FileDisk {
     file: File,
     // Of a pair one disk holds its lock, which goes when the disk is dropped.
     _lock: Option<File>,
-    faults: u64,
+    faults: Faults,
 }
 
 impl FileDisk {
@@ -23,7 +24,7 @@ impl FileDisk {
         FileDisk {
             file,
             _lock: lock,
-            faults: 0,
+            faults: Faults::none(),
         }
     }
 
@@ -31,7 +32,7 @@ impl FileDisk {
     pub fn faults(&self) -> u64
         ensures { result ≡ ⟦<FileDisk as Disk>⟧.disk_faults self.now }
     {
-        self.faults
+        self.faults.count()
     }
 
     fn cut_file(&self, len: u64) -> std::io::Result<()> {
@@ -44,6 +45,7 @@ impl FileDisk {
 
 impl Disk for FileDisk {
     ghost use Rattle.std.specs.Prelude.{[], None};
+    ghost use Rattle.ps_ports.specs.Causes.{counted, counted_fits};
 
     ghost premise = { ⊥ };
 
@@ -57,13 +59,13 @@ impl Disk for FileDisk {
 
     ghost told = { λ _. None };
 
-    ghost disk_faults = { λ d. d.faults };
+    ghost disk_faults = { λ d. counted d.faults };
 
     fn read(&mut self, at: u64, buf: &mut [u8]) -> Result<usize, Failed> {
         if let Ok(count) = self.file.read_at(buf, at) {
             return Ok(count);
         }
-        self.faults = self.faults.saturating_add(1);
+        self.faults.raise();
         Err(Failed)
     }
 
@@ -72,7 +74,7 @@ impl Disk for FileDisk {
         if end.is_some() && self.file.write_all_at(bytes, at).is_ok() {
             return Ok(());
         }
-        self.faults = self.faults.saturating_add(1);
+        self.faults.raise();
         Err(Failed)
     }
 
@@ -80,7 +82,7 @@ impl Disk for FileDisk {
         if self.cut_file(len).is_ok() {
             return Ok(());
         }
-        self.faults = self.faults.saturating_add(1);
+        self.faults.raise();
         Err(Failed)
     }
 
@@ -88,13 +90,15 @@ impl Disk for FileDisk {
         if self.file.sync_all().is_ok() {
             return Ok(());
         }
-        self.faults = self.faults.saturating_add(1);
+        self.faults.raise();
         Err(Failed)
     }
 
     ghost reads_now = { λ _ no. absurd no };
 
     ghost counts_now = { λ _ _ _ no. absurd no };
+
+    ghost disk_faults_fit = { λ d. counted_fits d.faults };
 
     ghost only_now = { λ _ _ no. absurd no };
 }

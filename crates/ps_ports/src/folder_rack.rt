@@ -3,6 +3,7 @@ ghost use Rattle.std.specs.Prelude.{◌≡◌, IsErrOf, IfErr};
 ghost use Rattle.ps_ports.specs.declared.rack.RackFault.TheVariants.{Failed as rack_failed, Memory as rack_memory};
 
 use crate::disk::Disk;
+use crate::faults::Faults;
 use crate::file_disk::FileDisk;
 use crate::rack::{FRESH_FIRST, FRESH_SECOND, Rack, RackFault};
 use std::alloc::{AllocError, Global};
@@ -21,28 +22,33 @@ use std::{fs, io};
 #[derive(Drop)]
 pub struct FolderRack<R> {
     rt: R,
-    faults: u64,
+    faults: Faults,
 }
 
 impl<R: Files<File = File>> FolderRack<R> {
     pub fn new(rt: R) -> FolderRack<R>
         ensures { ⟦<FolderRack<R> as Rack>⟧.rack_faults result ≡ 0 }
     {
-        FolderRack { rt, faults: 0 }
+        FolderRack {
+            rt,
+            faults: Faults::none(),
+        }
     }
 
     /// How many openings failed, and how often a disk that had failed was given back.
     pub fn faults(&self) -> u64
         ensures { result ≡ ⟦<FolderRack<R> as Rack>⟧.rack_faults self.now }
     {
-        self.faults
+        self.faults.count()
     }
 }
 
 impl<R: Files<File = File>> Rack for FolderRack<R> {
     type Disk = FileDisk;
 
-    ghost rack_faults = { λ r. r.faults };
+    ghost use Rattle.ps_ports.specs.Causes.{counted, counted_fits};
+
+    ghost rack_faults = { λ r. counted r.faults };
 
     ghost keeps_pair = { λ _ _ _ _. Unit {0} };
 
@@ -60,7 +66,7 @@ impl<R: Files<File = File>> Rack for FolderRack<R> {
             )),
             Err(RackFault::Memory) => Err(RackFault::Memory),
             Err(RackFault::Failed) => {
-                self.faults = self.faults.saturating_add(1);
+                self.faults.raise();
                 Err(RackFault::Failed)
             }
         }
@@ -68,9 +74,11 @@ impl<R: Files<File = File>> Rack for FolderRack<R> {
 
     fn close_pair(&mut self, _folder: &str, first: FileDisk, second: FileDisk) {
         if first.faults() != 0 || second.faults() != 0 {
-            self.faults = self.faults.saturating_add(1);
+            self.faults.raise();
         }
     }
+
+    ghost rack_faults_fit = { λ r. counted_fits r.faults };
 }
 
 impl From<io::Error> for RackFault {

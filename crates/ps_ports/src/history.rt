@@ -10,7 +10,7 @@ use std::alloc::Global;
 use std::marker::Model;
 
 /// A call, and whether it was done. One that failed did nothing.
-#[derive(Debug, Drop)]
+#[derive(Drop)]
 pub struct LoggedCall {
     pub call: DiskCall,
     pub done: bool,

@@ -1,7 +1,7 @@
 //! What a crash leaves of a disk in memory.
 
 /// What a crash leaves of a disk in memory.
-#[derive(Clone, Copy, Debug, PartialEq, Eq)]
+#[derive(Clone, Copy)]
 pub enum Image {
     /// Writes and cuts since the last sync are dropped.
     Old,

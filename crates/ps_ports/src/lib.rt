@@ -1,5 +1,6 @@
-//! What psched reads and writes: sources and sinks of bytes, streams that are both, the same in
-//! memory, and adapters over readers and writers of std.
+//! What psched reads and writes, as traits: sources and sinks of bytes, streams that are both, disks
+//! that a crash may leave in part, and racks that keep disks in pairs. Each stands in memory, too, for
+//! tests and rehearsals, and over what the system gives: readers, writers, files and folders.
 #![tactic(auto)]
 
 pub mod adapters;
@@ -7,6 +8,7 @@ pub mod all;
 pub mod disk;
 mod failing_calls;
 pub mod fault;
+mod faults;
 pub mod file_disk;
 pub mod folder_rack;
 mod history;

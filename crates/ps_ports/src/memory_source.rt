@@ -2,21 +2,22 @@
 ghost use Rattle.std.specs.Prelude.{◌≡◌, IfOk, Some, is_err, length, min};
 ghost use Rattle.std.specs.Io.{ReadsAtMost};
 ghost use Rattle.std.specs.Io.KnownBytes.{ReadConsumes};
-ghost use Rattle.ps_ports.specs.Causes.{HasCause};
+ghost use Rattle.ps_ports.specs.Causes.{HasCause, counted};
 ghost use Rattle.ps_ports.specs.Memory.{no_calls, fails_next, after_read};
 
 use crate::failing_calls::FailingCalls;
 use crate::fault::Failed;
+use crate::faults::Faults;
 use crate::source::Source;
 use crate::unread::Unread;
 use std::marker::Model;
 
 /// Bytes to read, and the reads that are to fail.
-#[derive(Debug, Drop)]
+#[derive(Drop)]
 pub struct MemorySource {
     left: Unread,
     calls: FailingCalls,
-    faults: u64,
+    faults: Faults,
 }
 
 impl Model for MemorySource {
@@ -35,7 +36,7 @@ impl MemorySource {
         MemorySource {
             left: Unread::new(bytes),
             calls: FailingCalls::new(failing),
-            faults: 0,
+            faults: Faults::none(),
         }
     }
 
@@ -57,24 +58,25 @@ impl MemorySource {
     pub fn faults(&self) -> u64
         ensures { result ≡ self.now.faults }
     {
-        self.faults
+        self.faults.count()
     }
 }
 
 impl Source for MemorySource {
     ghost use Rattle.std.specs.Prelude.{◌≡◌, Some, refl};
     ghost use Rattle.std.proofs.Common.{◌∙◌};
+    ghost use Rattle.ps_ports.specs.Causes.{counted, counted_fits};
 
     ghost left = { λ s. Some s.left };
 
-    ghost read_faults = { λ s. s.faults };
+    ghost read_faults = { λ s. counted s.faults };
 
     ghost kept = { λ a b. b.calls.failing ≡ a.calls.failing };
 
     fn read(&mut self, buf: &mut [u8]) -> Result<usize, Failed>
         ensures bound { ReadsAtMost result buf.new }
         ensures bytes { ReadConsumes (Some self.old.left) (Some self.new.left) result buf.new }
-        ensures cause { HasCause self.old.faults self.new.faults result }
+        ensures cause { HasCause (counted self.old.faults) (counted self.new.faults) result }
         ensures kept { self.new.calls.failing ≡ self.old.calls.failing }
 
         // A read that isn't to fail gives as many bytes as fit.
@@ -83,7 +85,7 @@ impl Source for MemorySource {
         ensures after { self.new ≡ after_read self.old result }
     {
         if self.calls.next_fails() {
-            self.faults = self.faults.saturating_add(1);
+            self.faults.raise();
             return Err(Failed);
         }
         Ok(self.left.read(buf))
@@ -92,4 +94,6 @@ impl Source for MemorySource {
     ghost kept_refl = { λ _. refl };
 
     ghost kept_trans = { λ _ _ _ p q. q ∙ p };
+
+    ghost read_faults_fit = { λ s. counted_fits s.faults };
 }

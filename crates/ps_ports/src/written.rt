@@ -5,7 +5,7 @@ use ps_time::memory::Memory;
 use std::alloc::Global;
 use std::marker::Model;
 
-#[derive(Debug, Drop)]
+#[derive(Drop)]
 pub struct Written {
     bytes: Vec<u8>,
     starved: bool,

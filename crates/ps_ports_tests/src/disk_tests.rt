@@ -33,7 +33,7 @@ fn make_ten_calls(disk: &mut MemoryDisk) -> Result<(), Failed> {
 }
 
 // After so many of the ten calls: the old image, the new one and the torn one.
-const IMAGES: [(u64, &[u8], &[u8], &[u8]); 11] = [
+static IMAGES: [(u64, &[u8], &[u8], &[u8]); 11] = [
     (0, b"abcdefgh", b"abcdefgh", b"abcdefgh"),
     (1, b"abcdefgh", b"abXYZfgh", b"abXdefgh"),
     (2, b"abcdefgh", b"abXYZf", b"abXdef"),
