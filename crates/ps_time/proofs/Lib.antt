@@ -1,5 +1,6 @@
 pub mod CalendarLemmas
 pub mod DigitLemmas
+pub mod IdOrderLemmas
 pub mod KeyLemmas
 pub mod KnownTimes
 pub mod LengthTextLemmas

@@ -1,9 +1,13 @@
 -- Identifiers: the UUID of a task or run, and what a UUID names.
-use Rattle.std.specs.Prelude.{ℕ, ◌+◌, ◌*◌, ◌/◌, ◌%◌, ◌^◌, ◌<◌, ◌==◌, ◌&&◌, List, Option, Some, None, if◌then◌else◌, option_map, option_and_then}
+use Rattle.std.specs.Prelude.{◌≡◌, ℕ, ◌+◌, ◌*◌, ◌/◌, ◌%◌, ◌^◌, ◌<◌, ◌==◌, ◌&&◌, List, Option, Some, None, if◌then◌else◌, option_map, option_and_then}
+use Rattle.std.specs.Cmp.Lexicographic.{slice_cmp}
 use Rattle.std.specs.Int.{w128, to_be_bytes, from_be_bytes}
+use Rattle.std.specs.Ordering.{nat_cmp}
 use Rattle.uuid.specs.Text.{parsed, hyphenated_text, lower}
 use Rattle.ps_time.specs.declared.id.Id.{Id}
 use Rattle.ps_time.specs.declared.id.Id.TheVariants.{Task, Run}
+use Rattle.ps_time.specs.declared.key.RunKey.{RunKey}
+use Rattle.ps_time.specs.Key.{key_cmp}
 
 -- from the highest bit: lead 16, task 32, version 4 (8), kind 12, variant 2 (binary 10), zero 14, number 32, attempt 16
 abbrev pub uuid_with : ℕ → ℕ → ℕ → ℕ → ℕ → ℕ
@@ -45,3 +49,8 @@ id_of_text text = option_and_then id_of (option_map (from_be_bytes w128) (parsed
 abbrev pub InRange : Id → Type 0
 InRange (Task lead task) = (lead < 2 ^ 16) × (task < 2 ^ 32)
 InRange (Run k) = (k.lead < 2 ^ 16) × (k.task < 2 ^ 32) × (k.number < 2 ^ 32) × (k.attempt < 2 ^ 16)
+
+-- identifiers of runs are ordered as their keys: as numbers, and as texts byte by byte
+pub record OrderedAsKeys : Type 0 where
+  pub numbers : (a b : RunKey) → InRange (Run a) → InRange (Run b) → nat_cmp (uuid_of (Run a)) (uuid_of (Run b)) ≡ key_cmp a b
+  pub texts : (a b : RunKey) → InRange (Run a) → InRange (Run b) → slice_cmp nat_cmp (id_text (Run a)) (id_text (Run b)) ≡ key_cmp a b

@@ -3,12 +3,12 @@
 use Rattle.std.specs.Prelude.{ℕ, ◌+◌, ◌*◌, ◌/◌, ◌%◌, Bool, ◌&&◌, ◌||◌, ◌==◌, nat_le, nat_lt, List, [], ◌∷◌, ◌++◌, length, drop, slice_index, Option, Some, None, is_some, Result, Ok, Err, if◌then◌else◌, codes}
 use Rattle.std.specs.Fmt.{decimal}
 use Rattle.std.specs.Option.{unwrap_or}
-use Rattle.ps_time.specs.declared.moment.TheConstants.{MAX_LENGTH}
 use Rattle.ps_time.specs.declared.moment.Round.TheVariants.{Up}
 use Rattle.ps_time.specs.declared.moment.TimeFault.{TimeFault}
 use Rattle.ps_time.specs.declared.moment.TimeFault.TheVariants.{Syntax, CalendarUnit, Range}
 use Rattle.ps_time.specs.declared.read_length.Amount.{Amount}
 use Rattle.ps_time.specs.Moment.{carried}
+use Rattle.ps_time.specs.Numbers.{greatest_length}
 use Rattle.ps_time.specs.Picture.{begins_as, leading_number, fraction_at}
 
 -- a number, where its designator follows, and what follows that; else no number, and the text
@@ -60,7 +60,7 @@ amount_of bs =
 
 -- a number of seconds as a length, where it is one
 abbrev pub length_at : ℕ → Result ℕ TimeFault
-length_at n = if nat_le n MAX_LENGTH then Ok n else Err Range
+length_at n = if nat_le n greatest_length then Ok n else Err Range
 
 abbrev pub length_shown : Option Amount → Result ℕ TimeFault
 length_shown None = Err Syntax

@@ -2,10 +2,13 @@ pub mod Calendar
 pub mod Class
 pub mod Id
 pub mod Key
+pub mod Lending
 pub mod Length
 pub mod Moment
 pub mod Name
 pub mod Number
+pub mod Numbers
+pub mod NumbersInCode
 pub mod Picture
 pub mod Sorted
 pub mod Span

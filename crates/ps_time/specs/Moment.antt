@@ -3,7 +3,6 @@
 use Rattle.std.specs.Prelude.{ℕ, ◌+◌, ◌*◌, ◌/◌, ◌%◌, Bool, false, ◌&&◌, ◌||◌, ◌==◌, nat_le, List, [], ◌∷◌, ◌++◌, drop, slice_index, Option, Some, None, Result, Ok, Err, ℤ, pos, negsuc, neg_ℤ, ◌+ℤ◌, ◌-ℤ◌, ◌*ℤ◌, if◌then◌else◌, codes}
 use Rattle.std.specs.Option.{option_map}
 use Rattle.jiff_core.specs.Calendar.{days_from_civil}
-use Rattle.ps_time.specs.declared.moment.TheConstants.{MAX_MOMENT}
 use Rattle.ps_time.specs.declared.moment.Round.{Round}
 use Rattle.ps_time.specs.declared.moment.Round.TheVariants.{Up, Down}
 use Rattle.ps_time.specs.declared.moment.TimeFault.{TimeFault}
@@ -11,6 +10,7 @@ use Rattle.ps_time.specs.declared.moment.TimeFault.TheVariants.{Syntax, Range}
 use Rattle.ps_time.specs.declared.read_moment.Offset.{Offset}
 use Rattle.ps_time.specs.declared.read_moment.Stamp.{Stamp}
 use Rattle.ps_time.specs.Calendar.{is_date, date_of_day}
+use Rattle.ps_time.specs.Numbers.{greatest_moment}
 use Rattle.ps_time.specs.Picture.{begins_as, is_as, number_at, fraction_at}
 
 -- the seconds and their fraction that the text begins with, and what follows them; 0 without them
@@ -71,7 +71,7 @@ utc_of day round s =
 
 -- a number of seconds as a moment, where it is one
 abbrev pub moment_at : ℤ → Result ℕ TimeFault
-moment_at (pos n) = if nat_le n MAX_MOMENT then Ok n else Err Range
+moment_at (pos n) = if nat_le n greatest_moment then Ok n else Err Range
 moment_at (negsuc n) = Err Range
 
 abbrev pub moment_shown : Round → Option Stamp → Result ℕ TimeFault
@@ -98,6 +98,10 @@ date_text date = four_digits date.0 ++ codes "-" ++ two_digits date.1 ++ codes "
 abbrev pub clock_text : ℕ → List ℕ
 clock_text second =
     two_digits (second / 3_600) ++ codes ":" ++ two_digits (second % 3_600 / 60) ++ codes ":" ++ two_digits (second % 60)
+
+-- the day of a moment in UTC as it is written
+unfoldable pub day_text_of : ℕ → List ℕ
+day_text_of m = date_text (date_of_day (m / 86_400))
 
 -- a moment as it is written
 unfoldable pub moment_text_of : ℕ → List ℕ

@@ -17,6 +17,7 @@ pub struct Asker {
 }
 
 impl Asker {
+    /// An equal asker, with texts of its own.
     pub fn copy(&self, alloc: Global) -> Result<Asker, Memory>
         ensures { IfOk result (λ made. made ≡ self.now) }
     {

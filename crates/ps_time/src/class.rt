@@ -10,9 +10,13 @@ use std::fmt;
 /// What a test tolerates beside itself on a host.
 #[derive(Clone, Copy, Debug, PartialEq, Eq)]
 pub enum Class {
+    /// Conflicts with no class.
     BackgroundMulti,
+    /// Conflicts with no class.
     Background,
+    /// Conflicts with exclusive runs.
     Normal,
+    /// Conflicts with normal and exclusive runs.
     Exclusive,
 }
 

@@ -1,6 +1,6 @@
 //! Identifiers of tasks and runs: UUIDs of version 8 (RFC 9562) that hold their fields.
 ghost use Rattle.std.specs.Prelude.{◌≡◌, ◌≢◌, ◌≤◌, ◌+◌, ◌*◌, ◌^◌, ℕ, IfOk, IfSome, IfNone, Some};
-ghost use Rattle.ps_time.specs.Id.{uuid_of, id_of, id_text, id_of_text, InRange};
+ghost use Rattle.ps_time.specs.Id.{uuid_of, id_of, id_text, id_of_text, InRange, OrderedAsKeys};
 
 use crate::key::RunKey;
 use crate::memory::Memory;
@@ -11,12 +11,14 @@ use uuid::Uuid;
 /// What an identifier names.
 #[derive(Clone, Copy, Debug, PartialEq, Eq)]
 pub enum Id {
+    /// A task on its lead.
     Task {
         /// The number of the lead host, 1 to 65535.
         lead: u16,
         /// The serial of the task on its lead.
         task: u32,
     },
+    /// A run.
     Run(RunKey),
 }
 
@@ -98,3 +100,9 @@ pub fn read_id(text: &str) -> Option<Id>
         Err(_) => None,
     }
 }
+
+/// A law: identifiers of runs are ordered as their keys, as numbers and as texts. So the bytes of a text, as a key of
+/// rows that are kept by text, give the order of keys.
+pub fn law_id_order()
+    ensures { OrderedAsKeys }
+{}

@@ -32,6 +32,7 @@ impl Model for Interval {
 impl Interval {
     ghost use Rattle.ps_time.specs.Span.{overlap};
 
+    /// Whether some second lies in both. Intervals that touch don't overlap.
     pub fn overlaps(&self, other: &Interval) -> bool
         ensures { result ≡ overlap self.now other.now }
     {

@@ -23,6 +23,7 @@ pub struct RunKey {
 impl RunKey {
     ghost use Rattle.ps_time.specs.Key.{key_cmp};
 
+    /// The order of keys, as contracts of other crates cite it.
     pub fn order(&self, other: &RunKey) -> Ordering
         ensures { result ≡ key_cmp self.now other.now }
     {

@@ -1,7 +1,7 @@
 //! The text of a moment.
-ghost use Rattle.std.specs.Prelude.{◌≡◌, ◌≤◌, ◌<◌, ℕ, Ok, IfOk};
+ghost use Rattle.std.specs.Prelude.{◌≡◌, ◌≤◌, ◌<◌, ℕ, Ok, IfOk, length, take};
 ghost use Rattle.ps_time.specs.declared.moment.Round.{Round};
-ghost use Rattle.ps_time.specs.Moment.{moment_of, moment_text_of};
+ghost use Rattle.ps_time.specs.Moment.{moment_of, moment_text_of, day_text_of};
 
 use crate::calendar::date_of;
 use crate::memory::Memory;
@@ -68,7 +68,24 @@ pub fn moment_text(alloc: Global, moment: Moment) -> Result<Text, Memory>
     Ok(Text::from_string(format!(in alloc; "{date}T{clock}Z")?))
 }
 
+/// The day of a moment in UTC: `YYYY-MM-DD`.
+#[tactic(auto, unfolding(crate::specs::Moment::day_text_of))]
+pub fn day_text(alloc: Global, moment: Moment) -> Result<Text, Memory>
+    requires { moment ≤ MAX_MOMENT }
+    ensures { IfOk result (λ text. text ≡ day_text_of moment) }
+{
+    let (year, month, day) = date_of(moment / 86_400);
+    let date = ShownDate { year, month, day };
+    Ok(Text::from_string(format!(in alloc; "{date}")?))
+}
+
 /// A law: the text of every moment is read again with its value, whichever way fractions are rounded.
 pub fn law_moment_text()
     ensures { (round : Round) (moment : ℕ) → moment ≤ MAX_MOMENT → moment_of round (moment_text_of moment) ≡ Ok moment }
+{}
+
+/// A law: the text of a moment begins with the text of its day, which has ten bytes.
+pub fn law_day_text()
+    ensures length { (moment : ℕ) → length (day_text_of moment) ≡ 10 }
+    ensures front { (moment : ℕ) → take 10 (moment_text_of moment) ≡ day_text_of moment }
 {}

@@ -12,21 +12,30 @@ use crate::picture::{matches, number, split_fraction, starts_as};
 pub struct Offset {
     /// Whether the clock is behind UTC.
     pub behind: bool,
+    /// As they are written, 0 to 99.
     pub hours: u64,
+    /// As they are written, 0 to 99.
     pub minutes: u64,
 }
 
 /// The numbers that a text of a moment shows.
 #[derive(Clone, Copy)]
 pub struct Stamp {
+    /// 0 to 9999.
     pub year: u64,
+    /// As it is written, 0 to 99, like each number from here to `second`.
     pub month: u64,
+    /// Of the month.
     pub day: u64,
+    /// Of the day.
     pub hour: u64,
+    /// Of the hour.
     pub minute: u64,
+    /// Of the minute; 0 where the text shows none.
     pub second: u64,
     /// The digits of the second's fraction, as a number.
     pub fraction: u64,
+    /// UTC where the text shows none.
     pub offset: Offset,
 }
 

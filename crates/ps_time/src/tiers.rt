@@ -18,6 +18,7 @@ pub struct Tiers {
 }
 
 impl Tiers {
+    /// Equal tiers, with lists of their own.
     pub fn copy(&self, alloc: Global) -> Result<Tiers, Memory>
         ensures { IfOk result (λ made. made ≡ self.now) }
     {

@@ -1,3 +1,6 @@
+//! Texts, lists, intervals, classes, names, keys and identifiers.
+ghost use Rattle.std.specs.Prelude.{◌≡◌, ◌<◌, length, slice_set};
+
 use ps_time::asker::{Asker, Verdict};
 use ps_time::class::{Class, class_name, classes_conflict, read_class};
 use ps_time::duplicate::Duplicate;
@@ -13,6 +16,7 @@ use ps_time::text::Text;
 use ps_time::tiers::Tiers;
 use std::alloc::Global;
 use std::cmp::Ordering;
+use std::test::Fail;
 
 fn key(lead: u16, task: u32, number: u32, attempt: u16) -> RunKey {
     RunKey {
@@ -66,6 +70,67 @@ fn texts_and_lists_are_made_with_ample_memory(rt: HostRuntime) -> Result<(), Mem
     Ok(())
 }
 
+// Lists that are changed in place, as rows change what they hold.
+fn put(items: &mut Items<u64>, at: usize, item: u64)
+    requires { at < length items.old }
+    ensures { items.new ≡ slice_set items.old at item }
+{
+    items[at] = item;
+}
+
+fn three(alloc: Global) -> Result<Items<u64>, Memory> {
+    let mut items = Items::new(alloc);
+    items.push(5)?;
+    items.push(6)?;
+    items.push(7)?;
+    Ok(items)
+}
+
+fn is_one_replaced(alloc: Global) -> Result<bool, Memory> {
+    let mut items = three(alloc)?;
+    if items.len() != 3 {
+        return Ok(false);
+    }
+    let old = items.replace(1, 60);
+    Ok(old == 6 && items.as_slice() == &[5, 60, 7][..])
+}
+
+fn is_one_written(alloc: Global) -> Result<bool, Memory> {
+    let mut items = three(alloc)?;
+    if items.len() != 3 {
+        return Ok(false);
+    }
+    put(&mut items, 2, 70);
+    Ok(items.as_slice() == &[5, 6, 70][..])
+}
+
+fn are_all_written(alloc: Global) -> Result<bool, Memory> {
+    let mut items = three(alloc)?;
+    for item in items.as_mut_slice() {
+        *item /= 2;
+    }
+    Ok(items.as_slice() == &[2, 3, 3][..])
+}
+
+fn is_text_replaced(alloc: Global) -> Result<bool, Memory> {
+    let mut items = two_texts(alloc)?;
+    if items.len() != 2 {
+        return Ok(false);
+    }
+    let old = items.replace(0, Text::new(alloc, "third")?);
+    Ok(old.is("a-host") && items[0].is("third") && items[1].is("another"))
+}
+
+#[test]
+fn items_change_in_their_places(rt: HostRuntime) -> Result<(), Memory> {
+    let alloc = rt.alloc();
+    assert!(rt; is_one_replaced(alloc)?);
+    assert!(rt; is_one_written(alloc)?);
+    assert!(rt; are_all_written(alloc)?);
+    assert!(rt; is_text_replaced(alloc)?);
+    Ok(())
+}
+
 fn is_asker_copied(alloc: Global) -> Result<bool, Memory> {
     let requester = Text::new(alloc, "10.0.0.9")?;
     let asker = Asker {
@@ -95,76 +160,125 @@ fn askers_and_tiers_are_copied(rt: HostRuntime) -> Result<(), Memory> {
     Ok(())
 }
 
-#[test]
-fn intervals_that_touch_do_not_overlap(rt: HostRuntime) -> Result<(), Memory> {
+static OTHERS: [(u64, u64, bool); 6] = [
+    (150, 200, false),
+    (149, 150, true),
+    (50, 100, false),
+    (50, 101, true),
+    (120, 130, true),
+    (0, 1000, true),
+];
+
+// Intervals beside one from 100 to 150, asked both ways round.
+fn check_overlaps(cases: &[(u64, u64, bool)]) -> Result<(), Fail> {
     let run = Interval {
         start: 100,
         end: 150,
     };
-    for (start, end, want) in [
-        (150, 200, false),
-        (149, 150, true),
-        (50, 100, false),
-        (50, 101, true),
-        (120, 130, true),
-        (0, 1000, true),
-    ] {
-        let other = Interval { start, end };
-        assert_eq!(rt; run.overlaps(&other), want, "at {start}");
-        assert_eq!(rt; other.overlaps(&run), want, "at {start}");
+    for (start, end, want) in cases {
+        if *end <= *start {
+            return Err(Fail::new(format_args!("no interval at {start}")));
+        }
+        let other = Interval {
+            start: *start,
+            end: *end,
+        };
+        if run.overlaps(&other) != *want || other.overlaps(&run) != *want {
+            return Err(Fail::new(format_args!("at {start}")));
+        }
     }
-    assert!(rt; run.same(&run.duplicate(rt.alloc())?));
     Ok(())
 }
 
 #[test]
-fn classes_are_those_of_the_reference(rt: HostRuntime) {
-    let all = [
+fn intervals_that_touch_do_not_overlap(rt: HostRuntime) -> Result<(), Fail> {
+    check_overlaps(&OTHERS)?;
+    let run = Interval {
+        start: 100,
+        end: 150,
+    };
+    assert!(rt; run.same(&run.duplicate(rt.alloc())?));
+    Ok(())
+}
+
+static CLASSES: [(Class, &str, [bool; 4]); 4] = [
+    (
         Class::BackgroundMulti,
+        "background-multi",
+        [false, false, false, false],
+    ),
+    (
         Class::Background,
-        Class::Normal,
-        Class::Exclusive,
-    ];
-    let names = ["background-multi", "background", "normal", "exclusive"];
-    let conflicts = [
+        "background",
         [false, false, false, false],
-        [false, false, false, false],
-        [false, false, false, true],
-        [false, false, true, true],
-    ];
-    for i in 0..4_usize {
-        assert_eq!(rt; class_name(all[i]), names[i]);
-        assert_eq!(rt; read_class(names[i]), Some(all[i]));
-        for j in 0..4_usize {
-            assert_eq!(rt; classes_conflict(all[i], all[j]), conflicts[i][j]);
+    ),
+    (Class::Normal, "normal", [false, false, false, true]),
+    (Class::Exclusive, "exclusive", [false, false, true, true]),
+];
+
+static NO_CLASSES: [&str; 4] = ["", "Normal", "normal ", "loud"];
+
+fn check_classes(classes: &[(Class, &str, [bool; 4])]) -> Result<(), Fail> {
+    for (class, name, conflicts) in classes {
+        if class_name(*class) != *name || read_class(name) != Some(*class) {
+            return Err(Fail::new(format_args!("{name}")));
+        }
+        for ((other, _, _), want) in classes.iter().zip(conflicts.iter()) {
+            if classes_conflict(*class, *other) != *want {
+                return Err(Fail::new(format_args!("{name} and {other}")));
+            }
         }
     }
-    for other in ["", "Normal", "normal ", "loud"] {
-        assert_eq!(rt; read_class(other), None);
+    Ok(())
+}
+
+fn check_no_classes(names: &[&str]) -> Result<(), Fail> {
+    for name in names {
+        if read_class(name).is_some() {
+            return Err(Fail::new(format_args!("{name}")));
+        }
     }
+    Ok(())
 }
 
 #[test]
-fn names_of_hosts(rt: HostRuntime) {
-    let long = "a23456789.123456789.123456789.123456789.123456789.123456789.123";
-    for (name, want) in [
-        ("a", true),
-        ("7.example-net.org", true),
-        (long, true),
-        ("", false),
-        (".a", false),
-        ("-a", false),
-        ("A", false),
-        ("a_b", false),
-        ("a b", false),
-        ("\u{e9}", false),
-        (
-            "a23456789.123456789.123456789.123456789.123456789.123456789.1234",
-            false,
-        ),
-    ] {
-        assert_eq!(rt; is_host_name(name), want, "at {name}");
+fn classes_are_those_of_the_reference(_rt: HostRuntime) -> Result<(), Fail> {
+    check_classes(&CLASSES)?;
+    check_no_classes(&NO_CLASSES)
+}
+
+static NAMES: [(&str, bool); 11] = [
+    ("a", true),
+    ("7.example-net.org", true),
+    (
+        "a23456789.123456789.123456789.123456789.123456789.123456789.123",
+        true,
+    ),
+    ("", false),
+    (".a", false),
+    ("-a", false),
+    ("A", false),
+    ("a_b", false),
+    ("a b", false),
+    ("\u{e9}", false),
+    (
+        "a23456789.123456789.123456789.123456789.123456789.123456789.1234",
+        false,
+    ),
+];
+
+fn check_names(cases: &[(&str, bool)]) -> Result<(), Fail> {
+    for (name, want) in cases {
+        if is_host_name(name) != *want {
+            return Err(Fail::new(format_args!("{name}")));
+        }
     }
+    Ok(())
+}
+
+#[test]
+fn names_of_hosts(_rt: HostRuntime) -> Result<(), Fail> {
+    check_names(&NAMES)
 }
 
 static DIGITS: [(&str, Option<u64>); 10] = [
@@ -180,17 +294,22 @@ static DIGITS: [(&str, Option<u64>); 10] = [
     ("\u{663}", None),
 ];
 
-#[test]
-fn decimal_digits(rt: HostRuntime) {
-    for (text, want) in &DIGITS {
-        assert_eq!(rt; read_decimal(text, 1, 10), *want, "at {text}");
+fn check_decimals(cases: &[(&str, Option<u64>)]) -> Result<(), Fail> {
+    for (text, want) in cases {
+        if read_decimal(text, 1, 10) != *want {
+            return Err(Fail::new(format_args!("{text}")));
+        }
     }
-    assert_eq!(rt; read_decimal("19", 2, 2), Some(19));
-    assert_eq!(rt; read_decimal("9", 2, 2), None);
-    assert_eq!(rt;
-        read_decimal("9999999999999999999", 1, 19),
-        Some(9_999_999_999_999_999_999)
-    );
+    Ok(())
+}
+
+#[test]
+fn decimal_digits(rt: HostRuntime) -> Result<(), Fail> {
+    check_decimals(&DIGITS)?;
+    assert!(rt; read_decimal("19", 2, 2) == Some(19));
+    assert!(rt; read_decimal("9", 2, 2).is_none());
+    assert!(rt; read_decimal("9999999999999999999", 1, 19) == Some(9_999_999_999_999_999_999));
+    Ok(())
 }
 
 #[test]

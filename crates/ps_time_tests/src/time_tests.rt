@@ -4,7 +4,7 @@ use ps_time::length_text::length_text;
 use ps_time::moment::Round::{Down, Up};
 use ps_time::moment::TimeFault::{CalendarUnit, Range, Syntax};
 use ps_time::moment::{MAX_LENGTH, MAX_MOMENT, Round, TimeFault};
-use ps_time::moment_text::moment_text;
+use ps_time::moment_text::{day_text, moment_text};
 use ps_time::read_length::read_length;
 use ps_time::read_moment::read_moment;
 use ps_time::read_start::read_start;
@@ -255,6 +255,39 @@ fn check_moment_texts(alloc: Global, cases: &[(u64, &str)]) -> Result<(), Fail> 
     Ok(())
 }
 
+static DAY_TEXTS: [(u64, &str); 21] = [
+    (0, "1970-01-01"),
+    (86_399, "1970-01-01"),
+    (86_400, "1970-01-02"),
+    (5_097_599, "1970-02-28"),
+    (5_097_600, "1970-03-01"),
+    (68_169_599, "1972-02-28"),
+    (68_169_600, "1972-02-29"),
+    (68_255_999, "1972-02-29"),
+    (68_256_000, "1972-03-01"),
+    (946_684_799, "1999-12-31"),
+    (946_684_800, "2000-01-01"),
+    (951_782_400, "2000-02-29"),
+    (951_868_800, "2000-03-01"),
+    (1_709_164_800, "2024-02-29"),
+    (1_709_251_199, "2024-02-29"),
+    (1_735_689_599, "2024-12-31"),
+    (2_147_483_648, "2038-01-19"),
+    (3_981_398_399, "2096-02-29"),
+    (3_981_398_400, "2096-03-01"),
+    (4_102_444_799, "2099-12-31"),
+    (4_102_444_800, "2100-01-01"),
+];
+
+fn check_day_texts(alloc: Global, cases: &[(u64, &str)]) -> Result<(), Fail> {
+    for (moment, want) in cases {
+        if MAX_MOMENT < *moment || !day_text(alloc, *moment)?.is(want) {
+            return Err(Fail::new(format_args!("{want} at {moment}")));
+        }
+    }
+    Ok(())
+}
+
 static LENGTH_TEXTS: [(u64, &str); 12] = [
     (0, "PT0S"),
     (1, "PT1S"),
@@ -282,5 +315,6 @@ fn check_length_texts(alloc: Global, cases: &[(u64, &str)]) -> Result<(), Fail> 
 #[test]
 fn texts(rt: HostRuntime) -> Result<(), Fail> {
     check_moment_texts(rt.alloc(), &MOMENT_TEXTS)?;
+    check_day_texts(rt.alloc(), &DAY_TEXTS)?;
     check_length_texts(rt.alloc(), &LENGTH_TEXTS)
 }

@@ -1,13 +1,14 @@
 -- Why a jump by division finds the next number.
-use Rattle.std.proofs.Common.{◌≡◌, ℕ, ◌+◌, ◌*◌, ◌/◌, ◌%◌, ◌^◌, ◌≤◌, ◌<◌, ◌&&◌, ◌↔◌, Bool, true, false, min, max, Option, Some, None, unwrap_or, nat_le, IsSome, IsNone, IfSome, sym, refl, inl, inr, arith}
+use Rattle.std.proofs.Common.{◌≡◌, ℕ, ◌+◌, ◌*◌, ◌/◌, ◌%◌, ◌^◌, ◌≤◌, ◌<◌, ◌&&◌, ◌||◌, ◌==◌, ◌↔◌, Bool, true, false, min, max, Option, Some, None, unwrap_or, is_some, nat_le, IsSome, IsNone, IfSome, sym, refl, inl, inr, arith}
 use Rattle.std.specs.Bool.{then_some}
+use Rattle.std.specs.Option.{ForSome}
 use Rattle.std.proofs.lemmas.Bool.{cases_lt, and_parts, leb-true}
 use Rattle.std.proofs.lemmas.Bool.Decides.{nat_tests}
 use Rattle.std.proofs.lemmas.Grind.{div_ceil_times}
 use Rattle.std.proofs.lemmas.Nat.{mul-le}
 use Rattle.schedule_rule.proofs.FirstLemmas.{found}
-use Rattle.ps_time.specs.declared.moment.TheConstants.{MAX_MOMENT}
-use Rattle.schedule_rule.specs.Rule.{Schedule, nominal_start, latest_start, window_of, window_reaches, reaches_from, next_of, IsLeast, HoldsNowhere}
+use Rattle.ps_time.specs.Numbers.{greatest_moment, greatest_length}
+use Rattle.schedule_rule.specs.Rule.{Schedule, IsRule, has_number, nominal_start, latest_start, last_start, window_of, window_reaches, reaches_from, next_of, IsLeast, HoldsNowhere}
 
 -- a number below a quotient that is rounded up
 pub short : (a r j : ℕ) → 0 < r → j < a / r + min 1 (a % r) → j * r < a
@@ -24,7 +25,7 @@ both_fail true y off = off
 both_fail false y off = refl
 
 -- a number whose nominal start is out of bounds
-too_late : (rule : Schedule) (j reach : ℕ) → MAX_MOMENT < nominal_start rule j → window_reaches (window_of rule j) reach ≡ false
+too_late : (rule : Schedule) (j reach : ℕ) → greatest_moment < nominal_start rule j → window_reaches (window_of rule j) reach ≡ false
 too_late rule j reach late = grind (arith, nat_tests)
 
 -- a number whose slip ends too early
@@ -32,8 +33,8 @@ not_before : (rule : Schedule) (j reach : ℕ) → latest_start rule j < reach �
 not_before rule j reach early = grind (arith, nat_tests)
 
 -- where each number that starts in time ends too early
-pub none_in_time : (rule : Schedule) (from reach : ℕ) → ((j : ℕ) → nominal_start rule j ≤ MAX_MOMENT → latest_start rule j < reach) → HoldsNowhere (reaches_from rule from reach)
-none_in_time rule from reach early m = both_fail (nat_le from m) _ (elim (cases_lt MAX_MOMENT (nominal_start rule m)) [
+pub none_in_time : (rule : Schedule) (from reach : ℕ) → ((j : ℕ) → nominal_start rule j ≤ greatest_moment → latest_start rule j < reach) → HoldsNowhere (reaches_from rule from reach)
+none_in_time rule from reach early m = both_fail (nat_le from m) _ (elim (cases_lt greatest_moment (nominal_start rule m)) [
   | inl late ↦ too_late rule m reach late
   | inr in_time ↦ not_before rule m reach (early m in_time)
 ])
@@ -94,3 +95,16 @@ jumped rule from first reach false early lasts small is =
 pub next_is : (rule : Schedule) (from first reach n : ℕ) (b : Bool) (r : Option ℕ) → ((j : ℕ) → j < first → latest_start rule j < reach) → (IsSome rule.repeat → reach ≤ latest_start rule first) → n < 2 ^ 32 → n ≡ max from first → b ≡ window_reaches (window_of rule n) reach → r ≡ then_some b n → IsNext rule from reach r
 next_is rule from first reach n b r early lasts small greater answer is =
     rw (is, greater) (jumped rule from first reach b early lasts (rw (← greater) small) (rw (← greater) (sym answer)))
+
+-- a repeat is at least a second, so no number that starts in time is above the greatest moment
+repeated : (anchor k : ℕ) (repeat : Option ℕ) → ForSome repeat (λ r. (1 ≤ r) × (r ≤ greatest_length)) → (k == 0 || is_some repeat) ≡ true → anchor + k * unwrap_or repeat 0 ≤ greatest_moment → k ≤ greatest_moment
+repeated anchor k None seconds exists in_time = grind (arith, nat_tests)
+repeated anchor k (Some r) seconds exists in_time = let step : k * 1 ≤ k * r = mul-le k 1 k r (omega arith) (seconds r refl).0 in omega (arith, step)
+
+pub number_below : (rule : Schedule) (k : ℕ) → IsRule rule → has_number rule k ≡ true → nominal_start rule k ≤ last_start rule → k ≤ greatest_moment
+number_below rule k bounds exists in_time = repeated rule.anchor k rule.repeat bounds.repeat (and_parts _ _ exists).0 (omega arith)
+
+-- what is said of a number holds of an answer that gives it
+pub if_given : (b : Bool) (n most : ℕ) (r : Option ℕ) → r ≡ then_some b n → (b ≡ true → n ≤ most) → IfSome r (λ k. k ≤ most)
+if_given true n most r is small = rw is (small refl)
+if_given false n most r is small = rw is tt

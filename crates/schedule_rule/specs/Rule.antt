@@ -2,7 +2,7 @@
 use Rattle.std.specs.Prelude.{ℕ, zero, suc, Bool, true, false, ◌≡◌, ◌+◌, ◌*◌, ◌^◌, ◌≤◌, ◌&&◌, ◌||◌, ◌==◌, min, nat_le, nat_lt, Option, Some, None, is_some, unwrap_or, if◌then◌else◌, IsTrue}
 use Rattle.std.specs.Option.{ForSome}
 use Rattle.ps_time.specs.Span.{Range}
-use Rattle.ps_time.specs.declared.moment.TheConstants.{MAX_MOMENT, MAX_LENGTH}
+use Rattle.ps_time.specs.Numbers.{greatest_moment, greatest_length}
 
 -- when the runs of a task may start
 pub record Schedule : Type 0 where
@@ -14,10 +14,10 @@ pub record Schedule : Type 0 where
 
 -- the bounds that every rule keeps
 pub record IsRule (rule : Schedule) : Type 0 where
-  pub anchor : rule.anchor ≤ MAX_MOMENT
-  pub slip : rule.slip ≤ MAX_LENGTH
-  pub repeat : ForSome rule.repeat (λ r. (1 ≤ r) × (r ≤ MAX_LENGTH))
-  pub until : ForSome rule.until (λ u. u ≤ MAX_MOMENT)
+  pub anchor : rule.anchor ≤ greatest_moment
+  pub slip : rule.slip ≤ greatest_length
+  pub repeat : ForSome rule.repeat (λ r. (1 ≤ r) × (r ≤ greatest_length))
+  pub until : ForSome rule.until (λ u. u ≤ greatest_moment)
   pub max_runs : ForSome rule.max_runs (λ n. 1 ≤ n)
 
 -- an absent bound holds
@@ -46,11 +46,11 @@ abbrev pub is_allowed : Schedule → ℕ → ℕ → Bool
 is_allowed rule k s =
     has_number rule k
     && (nat_le (nominal_start rule k) s && nat_le s (latest_start rule k))
-    && (is_at_most s rule.until && nat_le s MAX_MOMENT)
+    && (is_at_most s rule.until && nat_le s greatest_moment)
 
 -- the last moment at which a run of any number may start
 abbrev pub last_start : Schedule → ℕ
-last_start rule = min (unwrap_or rule.until MAX_MOMENT) MAX_MOMENT
+last_start rule = min (unwrap_or rule.until greatest_moment) greatest_moment
 
 abbrev pub range_of : Bool → ℕ → ℕ → Option Range
 range_of exists first last = if exists && nat_le first last then Some (record { first = first; last = last }) else None

@@ -1,5 +1,5 @@
 //! A rule, the windows of its numbers, and the jump to the next number.
-ghost use Rattle.std.specs.Prelude.{◌≡◌, ◌+◌, ◌*◌, ◌≤◌, ◌<◌, ◌↔◌, ℕ, IsNone, IsSome, IfSome, IfNone};
+ghost use Rattle.std.specs.Prelude.{◌≡◌, ◌+◌, ◌*◌, ◌≤◌, ◌<◌, ◌↔◌, ℕ, IsNone, IsSome, IfSome, IfNone, IsTrue};
 ghost use Rattle.schedule_rule.specs.Rule.{has_number, nominal_start, latest_start, last_start, is_allowed, is_within, window_of, window_reaches, reaches_from, next_of, IsLeast, IsGreatest, HoldsNowhere};
 
 use ps_time::duplicate::Duplicate;
@@ -75,7 +75,8 @@ impl Rule {
 
     /// Whether the window of the number has its last start at or after the moment.
     fn reaches(&self, number: u32, moment: u64) -> bool
-        ensures { result ≡ window_reaches (window_of self.now number) moment }
+        ensures value { result ≡ window_reaches (window_of self.now number) moment }
+        ensures bound { IsTrue result → number ≤ MAX_MOMENT }
     {
         window(self, number).is_some_and(|window| moment <= window.last)
     }
@@ -105,6 +106,7 @@ pub fn window(rule: &Rule, number: u32) -> Option<Window>
     ensures least { IfSome result (λ w. IsLeast (is_allowed rule.now number) w.first) }
     ensures greatest { IfSome result (λ w. IsGreatest (is_allowed rule.now number) w.last) }
     ensures each { IfSome result (λ w. (s : ℕ) → is_allowed rule.now number s ≡ is_within w s) }
+    ensures bound { IfSome result (λ _. number ≤ MAX_MOMENT) }
 {
     let first = rule.nominal_start(number);
     let last = (first + rule.slip).min(rule.last_start());
@@ -123,11 +125,13 @@ pub fn allowed(rule: &Rule, number: u32, start: Moment) -> bool
 }
 
 /// The least number at or after `from` whose window reaches `reach`: whose last start is at or after
-/// it. `None` where there is none; `reach` may be any number of 64 bits.
+/// it. `None` where there is none; `reach` may be any number of 64 bits. The number is far enough below 2^32 that the
+/// next one is a `u32` too.
 pub fn next_number(rule: &Rule, from: u32, reach: Moment) -> Option<u32>
     ensures value { result ≡ next_of rule.now from reach }
     ensures least { IfSome result (IsLeast (reaches_from rule.now from reach)) }
     ensures none { IsNone result ↔ HoldsNowhere (reaches_from rule.now from reach) }
+    ensures bound { IfSome result (λ number. number ≤ MAX_MOMENT) }
 {
     let number = from.max(rule.first_reaching(reach)?);
     rule.reaches(number, reach).then_some(number)
