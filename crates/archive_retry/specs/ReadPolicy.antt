@@ -1,7 +1,8 @@
 -- Which policy a JSON tree is.
-use Rattle.std.specs.Prelude.{ℕ, ◌&&◌, nat_le, List, [], ◌∷◌, ◌++◌, length, Result, Ok, Err, if◌then◌else◌, codes}
+use Rattle.std.specs.Prelude.{ℕ, ◌&&◌, nat_le, length, Result, Ok, Err, if◌then◌else◌, codes}
 use Rattle.serde_json.specs.Data.{Data}
 use Rattle.ps_json.specs.Answer.{then_with, lifted}
+use Rattle.ps_json.specs.Each.{read_each}
 use Rattle.ps_json.specs.Fields.{without_member, need_of, end_of}
 use Rattle.ps_json.specs.Kinds.{count_of, text_of, list_of, members_of}
 use Rattle.ps_json.specs.declared.fault.JsonFault.TheVariants.{WrongKind}
@@ -28,13 +29,9 @@ entry_of d =
     let ms = without_member (codes "wait") ms in
     then_with (in_json (end_of ms)) (λ _. Ok (record { attempts = attempts; wait = wait })))))))
 
-abbrev pub entries_from : List Entry → List Data → Result (List Entry) PolicyFault
-entries_from done [] = Ok done
-entries_from done (d ∷ ds) = then_with (entry_of d) (λ e. entries_from (done ++ e ∷ []) ds)
-
 -- a list of 1 to 16 entries
 abbrev pub policy_of : Data → Result Policy PolicyFault
 policy_of d =
     then_with (in_json (list_of (codes "retry-policy") d)) (λ ds.
-    if nat_le 1 (length ds) && nat_le (length ds) 16 then then_with (entries_from [] ds) (λ es. Ok (record { entries = es }))
+    if nat_le 1 (length ds) && nat_le (length ds) 16 then then_with (read_each entry_of ds) (λ es. Ok (record { entries = es }))
     else Err (Json (WrongKind (codes "retry-policy"))))

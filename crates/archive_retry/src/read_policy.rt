@@ -1,10 +1,11 @@
 //! The reader of policies.
-ghost use Rattle.std.specs.Prelude.{◌≡◌, ◌≤◌, [], length, map, IfOk, All};
+ghost use Rattle.std.specs.Prelude.{◌≡◌, ◌≤◌, length, map, IfOk, All};
 ghost use Rattle.serde_json.specs.View.{view};
 ghost use Rattle.ps_json.specs.Answer.{GivesUnless};
+ghost use Rattle.ps_json.specs.Each.{read_each};
 ghost use Rattle.ps_time.specs.declared.moment.TheConstants.{MAX_LENGTH};
 ghost use Rattle.archive_retry.specs.Bounds.{IsEntry, IsPolicy};
-ghost use Rattle.archive_retry.specs.ReadPolicy.{wait_in, entry_of, entries_from, policy_of};
+ghost use Rattle.archive_retry.specs.ReadPolicy.{wait_in, entry_of, policy_of};
 
 use crate::fault::PolicyFault;
 use crate::policy::{Entry, Policy};
@@ -44,7 +45,7 @@ fn read_entry(alloc: Global, value: Value) -> Result<Entry, PolicyFault>
 }
 
 fn read_entries(alloc: Global, values: Vec<Value>) -> Result<Items<Entry>, PolicyFault>
-    ensures value { GivesUnless PolicyFault.Memory result (entries_from [] (map view values.items)) }
+    ensures value { GivesUnless PolicyFault.Memory result (read_each entry_of (map view values.items)) }
     ensures bounds { IfOk result (λ entries. All IsEntry entries) }
     ensures count { IfOk result (λ entries. length entries ≡ length values.items) }
 {

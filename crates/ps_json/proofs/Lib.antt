@@ -1,3 +1,4 @@
+pub mod EachLemmas
 pub mod MemberLemmas
 pub mod TreeLemmas
 pub mod TakenLemmas

@@ -1,5 +1,6 @@
 pub mod Answer
 pub mod Coding
+pub mod Each
 pub mod Fault
 pub mod Fields
 pub mod Kinds
