@@ -6,7 +6,7 @@ use ps_ports::fault::Failed;
 use ps_time::memory::Memory;
 
 /// A call of a disk failed.
-#[derive(Clone, Copy, Debug, PartialEq, Eq)]
+#[derive(Clone, Copy)]
 pub struct DiskFault;
 
 impl From<Failed> for DiskFault {
@@ -16,7 +16,7 @@ impl From<Failed> for DiskFault {
 }
 
 /// Why no journal was opened.
-#[derive(Clone, Copy, Debug, PartialEq, Eq)]
+#[derive(Clone, Copy, PartialEq, Eq)]
 pub enum OpenReason {
     /// The disks are no journal at that place.
     NotAJournal(Place),

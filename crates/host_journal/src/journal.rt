@@ -23,7 +23,6 @@ use std::marker::Model;
 
 /// Two disks, of which one counts: the one that stands, and of two that stand the one of the greater
 /// generation.
-#[derive(Drop)]
 pub struct Journal<D: Disk> {
     pub(crate) counting: D,
     pub(crate) other: D,
@@ -47,6 +46,22 @@ impl<D: Disk> Model for Journal<D> {
     ghost invariant = { λ j. (j.end + 1 < 2 ^ 64) × (j.start ≤ j.end)
         × (D.premise → IsSound D.seen D.may_leave (record { counting = j.counting; other = j.other; second = j.second; generation = j.generation; start = j.start; end = j.end; shut = j.shut; pending = j.pending; room = vec_capacity j.buffer }))
         × AreWithin j.start j.generation j.pending };
+}
+
+impl<D: Disk + Drop> Drop for Journal<D> {
+    fn drop(self) {
+        let Journal {
+            counting: _,
+            other: _,
+            second: _,
+            generation: _,
+            start: _,
+            end: _,
+            shut: _,
+            pending: _,
+            buffer: _,
+        } = self;
+    }
 }
 
 impl<D: Disk> Journal<D> {
@@ -118,7 +133,18 @@ impl<D: Disk> Journal<D> {
         ensures first { result.0 ≡ first_disk self }
         ensures second { result.1 ≡ second_disk self }
     {
-        in_order(self.second, self.counting, self.other)
+        let Journal {
+            counting,
+            other,
+            second,
+            generation: _,
+            start: _,
+            end: _,
+            shut: _,
+            pending: _,
+            buffer: _,
+        } = self;
+        in_order(second, counting, other)
     }
 
     /// What is known of a journal, and what more of one whose last call was `Ok`. Does nothing.

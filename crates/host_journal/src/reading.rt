@@ -29,7 +29,7 @@ pub struct Counted {
 }
 
 /// Where two disks are no journal.
-#[derive(Clone, Copy, Debug, PartialEq, Eq)]
+#[derive(Clone, Copy, PartialEq, Eq)]
 pub struct Place {
     /// 1 or 2.
     pub disk: u8,
@@ -65,7 +65,7 @@ fn agreeing_with(wanted: &[u8], bytes: &[u8]) -> usize
 }
 
 /// The magic and an open gate.
-pub fn is_standing(bytes: &[u8]) -> bool
+pub(crate) fn is_standing(bytes: &[u8]) -> bool
     ensures { result ≡ stands bytes.now }
 {
     agreeing_with(&OPEN_HEAD, bytes) == 9
@@ -230,7 +230,7 @@ fn read_both(alloc: Global, first: &[u8], second: &[u8]) -> Read<Counted>
 }
 
 /// What the bytes of two disks stand for.
-pub fn read_pair(alloc: Global, first: &[u8], second: &[u8]) -> Read<Counted>
+pub(crate) fn read_pair(alloc: Global, first: &[u8], second: &[u8]) -> Read<Counted>
     ensures pair { IfOk result (λ r. r ≡ pair_of first.now second.now) }
     ensures bound { IfOk result (λ r. IfOk r (λ k. (k.end + 1 < 2 ^ 64) × (k.start ≤ k.end))) }
 {

@@ -1,73 +1,16 @@
 //! Records: bytes worked out by hand, stops and faults at each disk call, and one more append after
 //! each of them.
+use crate::calls::{ONE_RECORD, Pair, add, found, gives_back, journal_on, stands_for};
 use host_journal::journal::Journal;
-use crate::tests::is_list;
 use ps_ports::image::Image;
 use ps_ports::memory_disk::MemoryDisk;
 use ps_ports::rack::{FRESH_FIRST, FRESH_SECOND};
-use ps_time::items::Items;
 use ps_time::memory::Memory;
-use std::alloc::{AllocError, Global};
+use std::alloc::Global;
 use std::process::Abort;
 use std::test::Fail;
 
-type Pair = (MemoryDisk, MemoryDisk);
-
-pub fn pair_of(alloc: Global, first: &[u8]) -> Result<Pair, AllocError> {
-    let first = first.to_vec(alloc)?;
-    let second = FRESH_SECOND.to_vec(alloc)?;
-    Ok((
-        MemoryDisk::new(alloc, first, Vec::new(alloc)),
-        MemoryDisk::new(alloc, second, Vec::new(alloc)),
-    ))
-}
-
-pub fn opened(alloc: Global, pair: Pair) -> Option<(Journal<MemoryDisk>, Items<Items<u8>>)> {
-    match Journal::open(alloc, pair.0, pair.1) {
-        Ok(found) => Some(found),
-        Err(_fault) => None,
-    }
-}
-
-// Whether it was `Ok`.
-pub fn add(journal: &mut Journal<MemoryDisk>, payload: &[u8]) -> Result<bool, Memory> {
-    journal.reserve(payload.len())?;
-    if !journal.is_ready() || payload.len() > 8_388_608 {
-        return Ok(false);
-    }
-    Ok(journal.append(payload).is_ok())
-}
-
-// The pair stands for this list, and after one more append of 03 for that record too.
-pub fn stands_for(
-    alloc: Global,
-    pair: Pair,
-    wanted: &[&[u8]],
-    more: &[&[u8]],
-) -> Result<bool, Fail> {
-    let Some((journal, list)) = opened(alloc, pair) else {
-        return Ok(false);
-    };
-    Ok(is_list(&list, wanted) && goes_on(alloc, journal, more)?)
-}
-
-// One more append of 03, and an opening, which gives this list.
-pub fn goes_on(
-    alloc: Global,
-    journal: Journal<MemoryDisk>,
-    wanted: &[&[u8]],
-) -> Result<bool, Fail> {
-    let mut journal = journal;
-    if !add(&mut journal, &[3])? {
-        return Ok(false);
-    }
-    match opened(alloc, journal.into_disks()) {
-        Some((_journal, list)) => Ok(is_list(&list, wanted)),
-        None => Ok(false),
-    }
-}
-
-fn has_record(alloc: Global, pair: Pair, stands: bool) -> Result<bool, Fail> {
+fn has_record(alloc: Global, pair: Pair, stands: bool) -> Result<bool, Memory> {
     if stands {
         stands_for(alloc, pair, &[&[], &[1, 2]], &[&[], &[1, 2], &[3]])
     } else {
@@ -75,17 +18,17 @@ fn has_record(alloc: Global, pair: Pair, stands: bool) -> Result<bool, Fail> {
     }
 }
 
-// The bytes 01 02, appended to a new pair.
-const ONE_RECORD: [u8; 29] = *b"PSCHJRN1\x01\0\0\0\0\0\0\0\x01\0\0\0\0\x01\0\0\0\x02\x01\x02\0";
-
 // A first gate that is torn to 7, and bytes behind it that are nobody's: two, and ten.
 const TORN_GATE: [u8; 24] = *b"PSCHJRN1\x01\0\0\0\0\0\0\0\x01\0\0\0\0\x07\x08\x09";
 
 const LONG_TAIL: [u8; 32] =
     *b"PSCHJRN1\x01\0\0\0\0\0\0\0\x01\0\0\0\0\x07\x01\x02\x03\x04\x05\x06\x07\x08\x09\x0a";
 
-// The first disk, and what it reads after an append of 01 02.
-const APPENDS: [(&[u8], &[u8]); 3] = [
+// The first disk, and what it reads after a call.
+type Bytes = (&'static [u8], &'static [u8]);
+
+// After an append of 01 02.
+static APPENDS: [Bytes; 3] = [
     (&FRESH_FIRST, &ONE_RECORD),
     (&TORN_GATE, &ONE_RECORD),
     (
@@ -94,28 +37,45 @@ const APPENDS: [(&[u8], &[u8]); 3] = [
     ),
 ];
 
-fn first_after_append(alloc: Global, first: &[u8], wanted: &[u8]) -> Result<bool, Fail> {
-    let Some((mut journal, _list)) = opened(alloc, pair_of(alloc, first)?) else {
-        return Ok(false);
+// A journal on this first disk and a new second one, after an append of 01 02.
+fn appended(alloc: Global, first: &[u8]) -> Result<Option<Journal<MemoryDisk>>, Memory> {
+    let Some(mut journal) = journal_on(alloc, first, &FRESH_SECOND)? else {
+        return Ok(None);
     };
-    if !add(&mut journal, &[1, 2])? || journal.record_bytes() != 7 || journal.calls() != (5, 1) {
-        return Ok(false);
+    if !add(&mut journal, &[1, 2])? {
+        return Ok(None);
     }
-    let (first, second) = journal.into_disks();
-    Ok(first.bytes() == wanted && second.bytes() == FRESH_SECOND.as_slice())
+    Ok(Some(journal))
 }
 
-#[test]
-fn the_bytes_of_an_append(rt: HostRuntime) -> Result<(), Fail> {
-    for (first, wanted) in &APPENDS {
-        assert!(rt; first_after_append(rt.alloc(), first, wanted)?);
+fn has_bytes(journal: Journal<MemoryDisk>, wanted: &[u8]) -> bool {
+    if journal.record_bytes() != 7 || journal.calls() != (5, 1) {
+        return false;
+    }
+    gives_back(journal, wanted, &FRESH_SECOND)
+}
+
+fn check_appends(alloc: Global, rows: &[Bytes]) -> Result<(), Fail> {
+    for (first, wanted) in rows {
+        let right = match appended(alloc, first)? {
+            Some(journal) => has_bytes(journal, wanted),
+            None => false,
+        };
+        if !right {
+            return Err(Fail::new(format_args!("{first:?}")));
+        }
     }
     Ok(())
 }
 
+#[test]
+fn the_bytes_of_an_append(rt: HostRuntime) -> Result<(), Fail> {
+    check_appends(rt.alloc(), &APPENDS)
+}
+
 // After so many calls on the first disk, of which the first is the sync of the opening and four are the
 // append's: whether the record stands in the old image, in the new one and in the torn one.
-const STOPS: [(u64, bool, bool, bool); 6] = [
+static STOPS: [(u64, bool, bool, bool); 6] = [
     (0, false, false, false),
     (1, false, false, false),
     (2, false, false, false),
@@ -124,68 +84,91 @@ const STOPS: [(u64, bool, bool, bool); 6] = [
     (5, true, true, true),
 ];
 
-fn is_left(alloc: Global, calls: u64, image: Image, stands: bool) -> Result<bool, Fail> {
-    let Some((mut journal, _list)) = opened(alloc, pair_of(alloc, &FRESH_FIRST)?) else {
-        return Ok(false);
+fn left(alloc: Global, calls: u64, image: Image) -> Result<Option<Pair>, Memory> {
+    let Some(journal) = appended(alloc, &FRESH_FIRST)? else {
+        return Ok(None);
     };
-    if !add(&mut journal, &[1, 2])? {
-        return Ok(false);
-    }
     let (first, second) = journal.into_disks();
     if first.calls() < calls {
-        return Ok(false);
+        return Ok(None);
     }
-    has_record(alloc, (first.crashed(calls, image)?, second), stands)
+    Ok(Some((first.crashed(calls, image)?, second)))
+}
+
+fn is_left(alloc: Global, calls: u64, image: Image, stands: bool) -> Result<bool, Memory> {
+    match left(alloc, calls, image)? {
+        Some(pair) => has_record(alloc, pair, stands),
+        None => Ok(false),
+    }
+}
+
+fn check_stops(alloc: Global, rows: &[(u64, bool, bool, bool)]) -> Result<(), Fail> {
+    for (calls, old, new, torn) in rows {
+        if !is_left(alloc, *calls, Image::Old, *old)? {
+            return Err(Fail::new(format_args!("old, {calls}")));
+        }
+        if !is_left(alloc, *calls, Image::New, *new)? {
+            return Err(Fail::new(format_args!("new, {calls}")));
+        }
+        if !is_left(alloc, *calls, Image::Torn, *torn)? {
+            return Err(Fail::new(format_args!("torn, {calls}")));
+        }
+    }
+    Ok(())
 }
 
 #[test]
 fn an_append_that_is_stopped(rt: HostRuntime) -> Result<(), Fail> {
-    let alloc = rt.alloc();
-    for (calls, old, new, torn) in &STOPS {
-        assert!(rt; is_left(alloc, *calls, Image::Old, *old)?, "old, {calls}");
-        assert!(rt; is_left(alloc, *calls, Image::New, *new)?, "new, {calls}");
-        assert!(rt;
-            is_left(alloc, *calls, Image::Torn, *torn)?,
-            "torn, {calls}"
-        );
-    }
-    Ok(())
+    check_stops(rt.alloc(), &STOPS)
 }
 
 // Which of the four calls fails, and whether the record stands then as the disks read.
-const FAULTS: [(u64, bool); 4] = [(1, false), (2, false), (3, false), (4, true)];
+static FAULTS: [(u64, bool); 4] = [(1, false), (2, false), (3, false), (4, true)];
 
-fn fails_at(alloc: Global, call: u64, stands: bool) -> Result<bool, Fail> {
-    let Some((mut journal, _list)) = opened(alloc, pair_of(alloc, &FRESH_FIRST)?) else {
-        return Ok(false);
+fn failed(alloc: Global, call: u64) -> Result<Option<Pair>, Memory> {
+    let Some(mut journal) = journal_on(alloc, &FRESH_FIRST, &FRESH_SECOND)? else {
+        return Ok(None);
     };
     journal.fail_at(Some(call));
     if add(&mut journal, &[1, 2])? || journal.is_ready() || journal.record_bytes() != 0 {
-        return Ok(false);
+        return Ok(None);
     }
-    let (first, second) = journal.into_disks();
-    if first.calls().checked_sub(1) != Some(call) || first.faults() != 1 || second.faults() != 0 {
-        return Ok(false);
-    }
-    has_record(alloc, (first, unarmed(second)), stands)
+    Ok(Some(journal.into_disks()))
 }
 
-fn unarmed(disk: MemoryDisk) -> MemoryDisk {
-    let mut disk = disk;
-    disk.fail_at(None);
-    disk
+fn has_fault(pair: &Pair, call: u64) -> bool {
+    pair.0.calls().checked_sub(1) == Some(call) && pair.0.faults() == 1 && pair.1.faults() == 0
+}
+
+fn unarmed(pair: Pair) -> Pair {
+    let (first, mut second) = pair;
+    second.fail_at(None);
+    (first, second)
+}
+
+fn fails_at(alloc: Global, call: u64, stands: bool) -> Result<bool, Memory> {
+    match failed(alloc, call)? {
+        Some(pair) => Ok(has_fault(&pair, call) && has_record(alloc, unarmed(pair), stands)?),
+        None => Ok(false),
+    }
+}
+
+fn check_faults(alloc: Global, rows: &[(u64, bool)]) -> Result<(), Fail> {
+    for (call, stands) in rows {
+        if !fails_at(alloc, *call, *stands)? {
+            return Err(Fail::new(format_args!("{call}")));
+        }
+    }
+    Ok(())
 }
 
 #[test]
 fn an_append_that_fails(rt: HostRuntime) -> Result<(), Fail> {
-    for (call, stands) in &FAULTS {
-        assert!(rt; fails_at(rt.alloc(), *call, *stands)?, "{call}");
-    }
-    Ok(())
+    check_faults(rt.alloc(), &FAULTS)
 }
 
-// The first disk, and what it reads after a cut of its tail.
-const CUTS: [(&[u8], &[u8]); 4] = [
+// After a cut of its tail.
+static CUTS: [Bytes; 4] = [
     (&FRESH_FIRST, &FRESH_FIRST),
     (&TORN_GATE, b"PSCHJRN1\x01\0\0\0\0\0\0\0\x01\0\0\0\0\x07"),
     (&LONG_TAIL, b"PSCHJRN1\x01\0\0\0\0\0\0\0\x01\0\0\0\0\x07"),
@@ -195,40 +178,63 @@ const CUTS: [(&[u8], &[u8]); 4] = [
     ),
 ];
 
-fn cut(alloc: Global, first: &[u8]) -> Result<Option<Pair>, Fail> {
-    let Some((mut journal, _list)) = opened(alloc, pair_of(alloc, first)?) else {
-        return Ok(None);
-    };
+fn is_cut(journal: Journal<MemoryDisk>, wanted: &[u8]) -> bool {
+    let mut journal = journal;
     if !journal.is_ready() || journal.cut_tail().is_err() || journal.calls() != (3, 1) {
-        return Ok(None);
+        return false;
     }
-    Ok(Some(journal.into_disks()))
+    gives_back(journal, wanted, &FRESH_SECOND)
 }
 
-#[test]
-fn tails_are_cut(rt: HostRuntime) -> Result<(), Fail> {
-    for (first, wanted) in &CUTS {
-        let left = match cut(rt.alloc(), first)? {
-            Some((left, _second)) => left.bytes() == *wanted,
+fn check_cuts(alloc: Global, rows: &[Bytes]) -> Result<(), Fail> {
+    for (first, wanted) in rows {
+        let right = match journal_on(alloc, first, &FRESH_SECOND)? {
+            Some(journal) => is_cut(journal, wanted),
             None => false,
         };
-        assert!(rt; left);
+        if !right {
+            return Err(Fail::new(format_args!("{first:?}")));
+        }
     }
     Ok(())
 }
 
 #[test]
+fn tails_are_cut(rt: HostRuntime) -> Result<(), Fail> {
+    check_cuts(rt.alloc(), &CUTS)
+}
+
+fn add_many(journal: &mut Journal<MemoryDisk>, count: u64) -> Result<bool, Memory> {
+    for _ in 0..count {
+        if !add(journal, b"record")? {
+            return Ok(false);
+        }
+    }
+    Ok(true)
+}
+
+fn listed(alloc: Global, pair: Pair) -> Option<usize> {
+    match found(alloc, pair) {
+        Some((_journal, list)) => Some(list.len()),
+        None => None,
+    }
+}
+
+fn has_many(alloc: Global, journal: Journal<MemoryDisk>) -> Result<bool, Memory> {
+    let mut journal = journal;
+    if !add_many(&mut journal, 10_000)? || journal.record_bytes() != 110_000 {
+        return Ok(false);
+    }
+    Ok(listed(alloc, journal.into_disks()) == Some(10_001))
+}
+
+#[test]
 fn many_appends_and_one_opening(rt: HostRuntime) -> Result<(), Fail> {
     let alloc = rt.alloc();
-    let found = opened(alloc, pair_of(alloc, &FRESH_FIRST)?);
-    assert!(rt; found.is_some());
-    if let Some((mut journal, _list)) = found {
-        for _ in 0..10_000 {
-            assert!(rt; add(&mut journal, b"record")?);
-        }
-        assert_eq!(rt; journal.record_bytes(), 110_000);
-        let again = opened(alloc, journal.into_disks());
-        assert!(rt; again.is_some_and(|(_journal, list)| list.len() == 10_001));
-    }
+    let has_all = match journal_on(alloc, &FRESH_FIRST, &FRESH_SECOND)? {
+        Some(journal) => has_many(alloc, journal)?,
+        None => false,
+    };
+    assert!(rt; has_all);
     Ok(())
 }

@@ -3,12 +3,12 @@ ghost use Rattle.std.specs.Prelude.{◌≡◌, ◌≤◌, IsTrue, IfOk, OnOk};
 ghost use Rattle.std.specs.Int.{w64, to_be_bytes};
 ghost use Rattle.host_journal.specs.State.{is_ready, stored, which, EachImage};
 
-use crate::append_tests::{opened, pair_of};
+use crate::calls::{Pair, found, journal_on};
 use host_journal::fault::DiskFault;
 use host_journal::journal::Journal;
 use ps_ports::disk::Disk;
 use ps_ports::memory_disk::MemoryDisk;
-use ps_ports::rack::FRESH_FIRST;
+use ps_ports::rack::{FRESH_FIRST, FRESH_SECOND};
 use ps_time::memory::Memory;
 use std::alloc::Global;
 use std::process::Abort;
@@ -43,27 +43,43 @@ fn kept(
 }
 
 // A number, the call that fails, and whether the number is kept.
-const KEPT: [(u64, Option<u64>, bool); 4] = [
+static KEPT: [(u64, Option<u64>, bool); 4] = [
     (7, None, true),
     (8, Some(2), false),
     (9, Some(4), true),
     (10, Some(3), false),
 ];
 
-fn all_kept(alloc: Global) -> Result<bool, Fail> {
-    let Some((mut journal, _list)) = opened(alloc, pair_of(alloc, &FRESH_FIRST)?) else {
-        return Ok(false);
-    };
-    for (number, call, wanted) in &KEPT {
-        if kept(&mut journal, *number, *call)? != Some(*wanted) {
+fn keeps_each(
+    journal: &mut Journal<MemoryDisk>,
+    rows: &[(u64, Option<u64>, bool)],
+) -> Result<bool, Memory> {
+    for (number, call, wanted) in rows {
+        if kept(journal, *number, *call)? != Some(*wanted) {
             return Ok(false);
         }
     }
-    let nine = 9u64.to_be_bytes();
-    match opened(alloc, journal.into_disks()) {
-        Some((_journal, list)) => Ok(list.len() == 3 && list[2].as_slice() == nine.as_slice()),
-        None => Ok(false),
+    Ok(true)
+}
+
+// The pair has two numbers behind its snapshot, and this is the last one.
+fn is_last(alloc: Global, pair: Pair, number: u64) -> bool {
+    match found(alloc, pair) {
+        Some((_journal, list)) => {
+            list.len() == 3 && list[2].as_slice() == number.to_be_bytes().as_slice()
+        }
+        None => false,
     }
+}
+
+fn all_kept(alloc: Global) -> Result<bool, Memory> {
+    let Some(mut journal) = journal_on(alloc, &FRESH_FIRST, &FRESH_SECOND)? else {
+        return Ok(false);
+    };
+    if !keeps_each(&mut journal, &KEPT)? {
+        return Ok(false);
+    }
+    Ok(is_last(alloc, journal.into_disks(), 9))
 }
 
 #[test]

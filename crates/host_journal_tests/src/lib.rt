@@ -4,8 +4,12 @@
 #[cfg(test)]
 mod append_tests;
 #[cfg(test)]
+mod calls;
+#[cfg(test)]
 mod keeper_tests;
 #[cfg(test)]
-mod snapshot_tests;
+mod open_tests;
 #[cfg(test)]
-mod tests;
+mod reload_tests;
+#[cfg(test)]
+mod snapshot_tests;

@@ -1,0 +1,167 @@
+//! What the bytes of two disks stand for: pairs worked out by hand from the format.
+use crate::calls::{ONE_RECORD, Pair, SNAPSHOT, add, gives_back, opened, pair_of};
+use host_journal::fault::OpenReason;
+use host_journal::journal::Journal;
+use host_journal::reading::Place;
+use ps_ports::memory_disk::MemoryDisk;
+use ps_ports::rack::{FRESH_FIRST, FRESH_SECOND};
+use ps_time::memory::Memory;
+use std::alloc::Global;
+use std::process::Abort;
+use std::test::Fail;
+
+// The bytes 01 02, appended to a new pair, its gate torn to 7, which is closed.
+const TORN_GATE: [u8; 29] = *b"PSCHJRN1\x01\0\0\0\0\0\0\0\x01\0\0\0\0\x07\0\0\0\x02\x01\x02\0";
+
+// The same with an open gate, but without the gate behind the record.
+const NO_GATE: [u8; 28] = *b"PSCHJRN1\x01\0\0\0\0\0\0\0\x01\0\0\0\0\x01\0\0\0\x02\x01\x02";
+
+// A snapshot of ab with generation 1, and two records: none, and 09.
+const TWO_RECORDS: [u8; 34] =
+    *b"PSCHJRN1\x01\0\0\0\0\0\0\0\x01\0\0\0\x01\xab\x01\0\0\0\0\x01\0\0\0\x01\x09\0";
+
+// Whether the second disk counts, its generation, the places of its first and of its last gate.
+type At = (bool, u64, u64, u64);
+
+// First disk, second disk, where the journal is, the list.
+type Row = (&'static [u8], &'static [u8], At, &'static [&'static [u8]]);
+
+static JOURNALS: [Row; 7] = [
+    (&FRESH_FIRST, &FRESH_SECOND, (false, 1, 21, 21), &[b""]),
+    (
+        &ONE_RECORD,
+        &FRESH_SECOND,
+        (false, 1, 21, 28),
+        &[b"", &[1, 2]],
+    ),
+    (&TORN_GATE, &FRESH_SECOND, (false, 1, 21, 21), &[b""]),
+    (&ONE_RECORD, &SNAPSHOT, (true, 2, 22, 22), &[&[0xab]]),
+    (&SNAPSHOT, &ONE_RECORD, (false, 2, 22, 22), &[&[0xab]]),
+    (
+        &ONE_RECORD,
+        &TWO_RECORDS,
+        (false, 1, 21, 28),
+        &[b"", &[1, 2]],
+    ),
+    (
+        &FRESH_SECOND,
+        &TWO_RECORDS,
+        (true, 1, 22, 33),
+        &[&[0xab], b"", &[9]],
+    ),
+];
+
+// One more append of 03 stands on the disk that counts, at the place of its last gate.
+fn is_at(journal: Journal<MemoryDisk>, at: At) -> Result<bool, Memory> {
+    let (is_second, generation, start, end) = at;
+    let mut journal = journal;
+    if journal.generation() != generation
+        || Some(journal.record_bytes()) != end.checked_sub(start)
+    {
+        return Ok(false);
+    }
+    let calls = if is_second { (1, 5) } else { (5, 1) };
+    if !add(&mut journal, &[3])? || journal.calls() != calls {
+        return Ok(false);
+    }
+    let (first, second) = journal.into_disks();
+    if is_second {
+        Ok(has_record_at(&second, end))
+    } else {
+        Ok(has_record_at(&first, end))
+    }
+}
+
+fn has_record_at(disk: &MemoryDisk, gate: u64) -> bool {
+    match disk.bytes().get(gate as usize..) {
+        Some(bytes) => bytes.starts_with(b"\x01\0\0\0\x01\x03\0"),
+        None => false,
+    }
+}
+
+fn check_journals(alloc: Global, rows: &[Row]) -> Result<(), Fail> {
+    for (first, second, at, list) in rows {
+        let found = match opened(alloc, pair_of(alloc, first, second)?, list) {
+            Some(journal) => is_at(journal, *at)?,
+            None => false,
+        };
+        if !found {
+            return Err(Fail::new(format_args!("{first:?} and {second:?}")));
+        }
+    }
+    Ok(())
+}
+
+#[test]
+fn pairs_stand_for_their_lists(rt: HostRuntime) -> Result<(), Fail> {
+    check_journals(rt.alloc(), &JOURNALS)
+}
+
+// First disk, second disk, the disk at fault, the place.
+static NO_JOURNALS: [(&[u8], &[u8], u8, u64); 9] = [
+    (b"PSCHK", b"", 1, 4),
+    (b"PSCHJRN1\0", b"PSCHJRN1\0", 1, 8),
+    (&FRESH_FIRST, b"", 2, 0),
+    (&FRESH_FIRST, b"PSCHJRN1", 2, 8),
+    (&FRESH_FIRST, b"PSCHJRN2\0", 2, 7),
+    (
+        b"PSCHJRN1\x01\0\0\0\0\0\0\0\x01\0\0\0\0",
+        &FRESH_SECOND,
+        1,
+        9,
+    ),
+    (&FRESH_FIRST, b"PSCHJRN1\x01\0", 2, 9),
+    (&NO_GATE, &FRESH_SECOND, 1, 21),
+    (b"PSCHJRN0", &FRESH_FIRST, 1, 7),
+];
+
+fn is_refused(alloc: Global, pair: Pair, wanted: OpenReason) -> bool {
+    match Journal::open(alloc, pair.0, pair.1) {
+        Ok(_found) => false,
+        Err(fault) => fault.reason == wanted,
+    }
+}
+
+fn check_refusals(alloc: Global, rows: &[(&[u8], &[u8], u8, u64)]) -> Result<(), Fail> {
+    for (first, second, disk, place) in rows {
+        let wanted = OpenReason::NotAJournal(Place {
+            disk: *disk,
+            place: *place,
+        });
+        if !is_refused(alloc, pair_of(alloc, first, second)?, wanted) {
+            return Err(Fail::new(format_args!("disk {disk}, place {place}")));
+        }
+    }
+    Ok(())
+}
+
+#[test]
+fn pairs_that_are_no_journal(rt: HostRuntime) -> Result<(), Fail> {
+    check_refusals(rt.alloc(), &NO_JOURNALS)
+}
+
+// What an opening does to its disks: one sync each, and no byte.
+#[test]
+fn a_pair_is_opened_and_given_back(rt: HostRuntime) -> Result<(), Fail> {
+    let alloc = rt.alloc();
+    let found = opened(alloc, pair_of(alloc, &ONE_RECORD, &SNAPSHOT)?, &[&[0xab]]);
+    assert!(rt; found.is_some());
+    if let Some(journal) = found {
+        assert!(rt; journal.is_ready());
+        assert_eq!(rt; journal.generation(), 2);
+        assert_eq!(rt; journal.record_bytes(), 0);
+        assert_eq!(rt; journal.calls(), (1, 1));
+        assert!(rt; gives_back(journal, &ONE_RECORD, &SNAPSHOT));
+    }
+    Ok(())
+}
+
+#[test]
+fn an_opening_meets_a_fault(rt: HostRuntime) -> Result<(), Fail> {
+    let alloc = rt.alloc();
+    let (first, second) = pair_of(alloc, &ONE_RECORD, &FRESH_SECOND)?;
+    let mut second = second;
+    second.fail_at(Some(1));
+    assert!(rt; is_refused(alloc, (first, second), OpenReason::DiskFault));
+    Ok(())
+}
