@@ -7,7 +7,7 @@ use ps_time::memory::Memory;
 use std::alloc::Global;
 
 /// From `lower` to `upper`, both among them.
-#[derive(Clone, Copy, Debug, PartialEq, Eq)]
+#[derive(Clone, Copy)]
 pub struct Bounds {
     pub lower: u64,
     pub upper: u64,

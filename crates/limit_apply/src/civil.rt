@@ -6,7 +6,7 @@ ghost use Rattle.limit_apply.specs.Civil.{month_day_of, weekday_of, civil_of};
 use jiff_core::civil::Date;
 
 /// What the calendar and the clock show at a second, in UTC.
-#[derive(Clone, Copy, Debug, PartialEq, Eq)]
+#[derive(Clone, Copy)]
 pub struct Civil {
     /// From 1 to 12.
     pub month: u64,

@@ -16,7 +16,7 @@ use ps_time::text::Text;
 use std::alloc::Global;
 
 /// Bounds of a test's lengths.
-#[derive(Clone, Copy, Debug, PartialEq, Eq)]
+#[derive(Clone, Copy)]
 pub struct Lengths {
     pub duration: Option<Bounds>,
     pub interval: Option<Bounds>,
@@ -25,7 +25,7 @@ pub struct Lengths {
 }
 
 /// Moments from `start` up to and without `end`.
-#[derive(Clone, Copy, Debug, PartialEq, Eq)]
+#[derive(Clone, Copy)]
 pub struct DateRange {
     pub start: Moment,
     pub end: Moment,
@@ -34,7 +34,6 @@ pub struct DateRange {
 }
 
 /// When a limit is true, before it is inverted.
-#[derive(Drop)]
 pub enum Rule {
     PassFail(bool),
     /// Names of tests.
@@ -43,6 +42,22 @@ pub enum Rule {
     Test { test: Text, lengths: Lengths },
     RunDateRange(DateRange),
     RunSchedule(Schedule),
+}
+
+// Written out, so that a drop elsewhere is one call, and not a case for each kind.
+impl Drop for Rule {
+    fn drop(self) {
+        match self {
+            Rule::PassFail(_) => {}
+            Rule::TestType(_) => {}
+            Rule::Test {
+                test: _,
+                lengths: _,
+            } => {}
+            Rule::RunDateRange(_) => {}
+            Rule::RunSchedule(_) => {}
+        }
+    }
 }
 
 #[derive(Drop)]

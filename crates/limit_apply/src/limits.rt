@@ -19,7 +19,7 @@ use std::alloc::Global;
 use std::marker::Model;
 
 /// The greatest priority of those of whom a classifier holds.
-#[derive(Clone, Copy, Debug, PartialEq, Eq)]
+#[derive(Clone, Copy)]
 pub struct Ceiling {
     /// The place of the classifier.
     pub classifier: usize,
@@ -49,7 +49,7 @@ impl Duplicate for Priorities {
 }
 
 /// How many entries a configuration has.
-#[derive(Clone, Copy, Debug, PartialEq, Eq)]
+#[derive(Clone, Copy)]
 pub struct Counts {
     pub identifiers: u32,
     pub classifiers: u32,
@@ -58,7 +58,6 @@ pub struct Counts {
 }
 
 /// A configuration, seen by contracts as the lists of its entries, each of fewer than 2^32.
-#[derive(Drop)]
 pub struct Limits {
     pub(crate) identifiers: Identifiers,
     pub(crate) classifiers: Classifiers,
@@ -77,6 +76,20 @@ impl Model for Limits {
     ghost view = { λ l. record { identifiers = l.identifiers; classifiers = l.classifiers; limits = l.limits; applications = l.applications; priorities = l.priorities; text = l.text } };
 
     ghost invariant = { λ l. IsKept (record { identifiers = l.identifiers; classifiers = l.classifiers; limits = l.limits; applications = l.applications; priorities = l.priorities; text = l.text }) };
+}
+
+// Written out, so that a drop elsewhere is one call.
+impl Drop for Limits {
+    fn drop(self) {
+        let Limits {
+            identifiers: _,
+            classifiers: _,
+            limits: _,
+            applications: _,
+            priorities: _,
+            text: _,
+        } = self;
+    }
 }
 
 impl Limits {

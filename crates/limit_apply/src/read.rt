@@ -28,12 +28,23 @@ use serde_json::Value;
 use std::alloc::Global;
 
 /// The lists of a configuration.
-#[derive(Drop)]
 pub struct Lists {
     identifiers: Identifiers,
     classifiers: Classifiers,
     limits: Items<Named<Limit>>,
     applications: Items<Application>,
+}
+
+// Written out, so that a drop elsewhere is one call.
+impl Drop for Lists {
+    fn drop(self) {
+        let Lists {
+            identifiers: _,
+            classifiers: _,
+            limits: _,
+            applications: _,
+        } = self;
+    }
 }
 
 fn read_schema(alloc: Global, value: Value) -> Result<(), LimitFault>
@@ -130,6 +141,30 @@ impl Lists {
             && fits(self.limits.len())
             && fits(self.applications.len())
     }
+
+    /// The configuration. A list of 2^32 entries or more is answered as want of memory.
+    fn counted(self, priorities: Priorities, text: Text) -> Result<Limits, LimitFault>
+        requires { config_in text ≡ Ok (config self priorities text) }
+        ensures { GivesUnless LimitFault.Memory result (Ok (config self priorities text)) }
+    {
+        if !self.fit() {
+            return Err(LimitFault::Memory);
+        }
+        let Lists {
+            identifiers,
+            classifiers,
+            limits,
+            applications,
+        } = self;
+        Ok(Limits {
+            identifiers,
+            classifiers,
+            limits,
+            applications,
+            priorities,
+            text,
+        })
+    }
 }
 
 /// The priorities, and the end of the configuration.
@@ -157,24 +192,6 @@ fn read_parts(alloc: Global, value: Value) -> Result<(Lists, Priorities), LimitF
     Ok((lists, priorities))
 }
 
-/// The configuration. A list of 2^32 entries or more is answered as want of memory.
-fn counted(lists: Lists, priorities: Priorities, text: Text) -> Result<Limits, LimitFault>
-    requires { config_in text ≡ Ok (config lists priorities text) }
-    ensures { GivesUnless LimitFault.Memory result (Ok (config lists priorities text)) }
-{
-    if !lists.fit() {
-        return Err(LimitFault::Memory);
-    }
-    Ok(Limits {
-        identifiers: lists.identifiers,
-        classifiers: lists.classifiers,
-        limits: lists.limits,
-        applications: lists.applications,
-        priorities,
-        text,
-    })
-}
-
 impl Limits {
     /// The configuration that a tree is. The first refusal comes, in the order in which
     /// `docs/specification/limits.md` names the members.
@@ -184,6 +201,6 @@ impl Limits {
     {
         let (lists, priorities) = read_parts(alloc, copy_bare(alloc, &value)?)?;
         let text = write_bare(alloc, &value)?;
-        counted(lists, priorities, text)
+        lists.counted(priorities, text)
     }
 }

@@ -25,7 +25,7 @@ use serde_json::Value;
 use std::alloc::Global;
 
 /// A type of limits.
-#[derive(Clone, Copy, Debug, PartialEq, Eq)]
+#[derive(Clone, Copy)]
 enum Kind {
     PassFail,
     TestType,

@@ -11,7 +11,6 @@ use ps_time::memory::Memory;
 use std::alloc::Global;
 
 /// Ranges of what the calendar and the clock show in UTC. Where a list is empty, any number will do.
-#[derive(Drop)]
 pub struct Schedule {
     /// From 1 to 12.
     pub month: Items<Bounds>,
@@ -25,6 +24,20 @@ pub struct Schedule {
     pub minute: Items<Bounds>,
     /// Whether one end of the run is enough.
     pub overlap: bool,
+}
+
+// Written out, so that a drop elsewhere is one call.
+impl Drop for Schedule {
+    fn drop(self) {
+        let Schedule {
+            month: _,
+            monthday: _,
+            weekday: _,
+            hour: _,
+            minute: _,
+            overlap: _,
+        } = self;
+    }
 }
 
 impl Duplicate for Schedule {

@@ -10,14 +10,14 @@ use std::alloc::Global;
 use std::net::{Ipv4Addr, Ipv6Addr};
 
 /// An address, as a number whose first bit is the highest.
-#[derive(Clone, Copy, Debug, PartialEq, Eq)]
+#[derive(Clone, Copy)]
 pub enum Address {
     V4(u32),
     V6(u128),
 }
 
 /// The addresses that begin with the same bits as `address` (CIDR, RFC 4632).
-#[derive(Clone, Copy, Debug, PartialEq, Eq)]
+#[derive(Clone, Copy)]
 pub struct Block {
     pub address: Address,
     /// How many bits at the end don't count.

@@ -11,7 +11,7 @@ use std::error::Error;
 use std::fmt;
 
 /// Why a tree is no limit configuration.
-#[derive(Debug, PartialEq, Eq, Drop)]
+#[derive(Debug, Drop)]
 pub enum LimitFault {
     /// The text is no JSON, or a member is missing, of a wrong kind or unknown. It is never
     /// `JsonFault::Memory`.

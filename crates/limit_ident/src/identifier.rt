@@ -14,7 +14,7 @@ use std::alloc::Global;
 use std::marker::Model;
 
 /// What is known of who asks.
-#[derive(Clone, Copy, Debug, PartialEq, Eq)]
+#[derive(Clone, Copy)]
 pub enum Hint {
     /// The address from which the task was posted.
     Requester,
@@ -23,7 +23,7 @@ pub enum Hint {
 }
 
 /// How a hint is compared with a text.
-#[derive(Clone, Copy, Debug, PartialEq, Eq)]
+#[derive(Clone, Copy)]
 pub enum Style {
     /// It is the text.
     Exact,
@@ -32,7 +32,6 @@ pub enum Style {
 }
 
 /// When an identifier is true, before it is inverted.
-#[derive(Drop)]
 pub enum Condition {
     Always,
     Hint {
@@ -42,6 +41,21 @@ pub enum Condition {
     },
     /// The requester reads as an address in one of the blocks.
     CidrList(Items<Block>),
+}
+
+// Written out, so that a drop elsewhere is one call, and not a case for each kind.
+impl Drop for Condition {
+    fn drop(self) {
+        match self {
+            Condition::Always => {}
+            Condition::Hint {
+                hint: _,
+                style: _,
+                text: _,
+            } => {}
+            Condition::CidrList(_) => {}
+        }
+    }
 }
 
 #[derive(Drop)]

@@ -21,7 +21,7 @@ use serde_json::Value;
 use std::alloc::Global;
 
 /// A type of identifiers.
-#[derive(Clone, Copy, Debug, PartialEq, Eq)]
+#[derive(Clone, Copy)]
 enum Kind {
     Always,
     Hint,

@@ -7,7 +7,7 @@ use ps_time::memory::Memory;
 use std::alloc::Global;
 
 /// How many of a list have to be true.
-#[derive(Clone, Copy, Debug, PartialEq, Eq)]
+#[derive(Clone, Copy)]
 pub enum Require {
     All,
     /// At least one.

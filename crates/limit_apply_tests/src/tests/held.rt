@@ -1,6 +1,6 @@
 //! Of which tests and runs a limit is true.
-use limit_apply::limits::Limits;
 use crate::tests::{asker, idle, letter, permits, read};
+use limit_apply::limits::Limits;
 use plugin_core::test_spec::TestSpec;
 use ps_time::interval::Interval;
 use ps_time::items::Items;

@@ -1,6 +1,6 @@
 //! Texts of configurations.
-use limit_apply::limits::Limits;
 use crate::tests::read;
+use limit_apply::limits::Limits;
 use limit_ident::fault::LimitFault;
 use ps_time::memory::Memory;
 use ps_time::text::Text;

@@ -1,7 +1,7 @@
 //! Schedules of runs.
+use crate::tests::{asker, idle, letter, permits, read};
 use limit_apply::civil::civil_at;
 use limit_apply::limits::Limits;
-use crate::tests::{asker, idle, letter, permits, read};
 use ps_time::interval::Interval;
 use ps_time::moment::Round;
 use ps_time::read_moment::read_moment;

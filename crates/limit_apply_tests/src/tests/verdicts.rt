@@ -1,6 +1,6 @@
 //! What configurations answer to those who ask.
-use limit_apply::limits::{Counts, Limits};
 use crate::tests::{admits, asker, idle, permits, read, told};
+use limit_apply::limits::{Counts, Limits};
 use limit_ident::fault::LimitFault;
 use ps_time::interval::Interval;
 use ps_time::memory::Memory;
