@@ -10,7 +10,7 @@ use ps_time::text::Text;
 use std::alloc::Global;
 
 /// Why a tree is no test.
-#[derive(Debug, PartialEq, Eq, Drop)]
+#[derive(Drop)]
 pub enum SpecFault {
     /// A member is missing, of a wrong kind or unknown. It is never `JsonFault::Memory`.
     Json(JsonFault),

@@ -5,7 +5,7 @@ ghost use Rattle.plugin_core.specs.Kind.{kind_text, kind_of_text, test_kind};
 use crate::test_spec::TestSpec;
 
 /// A kind of test, as the pScheduler reference names it; `Idlemany` is psched's own.
-#[derive(Clone, Copy, Debug, PartialEq, Eq)]
+#[derive(Clone, Copy)]
 pub enum TestKind {
     Idle,
     Idleex,

@@ -210,7 +210,7 @@ fn read_names(alloc: Global, values: Vec<Value>, name: &str) -> Result<Items<Tex
 }
 
 /// Whether no name stands there twice.
-pub fn all_differ(names: &[Text]) -> bool
+fn all_differ(names: &[Text]) -> bool
     ensures { result ≡ all_differ names.now }
 {
     for index in 0..names.len() {

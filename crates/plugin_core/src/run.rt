@@ -8,7 +8,7 @@ use crate::test_spec::TestSpec;
 use ps_time::moment::{Length, Moment};
 
 /// The part of a host in a run.
-#[derive(Clone, Copy, Debug, PartialEq, Eq)]
+#[derive(Clone, Copy, Debug)]
 pub enum Role {
     /// It is the only participant, or one of several that sleep.
     Only,
@@ -19,7 +19,7 @@ pub enum Role {
 }
 
 /// How a run went on a host.
-#[derive(Clone, Copy, Debug, PartialEq, Eq)]
+#[derive(Clone, Copy, PartialEq, Eq)]
 pub enum Outcome {
     Good,
     /// The material didn't come.
@@ -31,7 +31,7 @@ pub enum Outcome {
 }
 
 /// What a tool knows of its run.
-#[derive(Clone, Copy, Debug, PartialEq, Eq)]
+#[derive(Clone, Copy)]
 pub struct ToolView {
     pub started: Moment,
     /// The end of the run's interval: up to `MAX_MOMENT + MAX_LENGTH`.

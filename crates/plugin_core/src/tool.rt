@@ -9,7 +9,7 @@ use std::alloc::Global;
 use std::fmt;
 
 /// A tool, as the pScheduler reference names it.
-#[derive(Clone, Copy, Debug, PartialEq, Eq)]
+#[derive(Clone, Copy, PartialEq, Eq)]
 pub enum Tool {
     /// Runs `idle`, `idleex` and `idlemany`.
     Sleep,

@@ -10,7 +10,7 @@ use ps_time::tiers::Tiers;
 use std::alloc::Global;
 
 /// The answer to a question for free starts.
-#[derive(Debug, Drop)]
+#[derive(Drop)]
 pub struct FreeAnswer {
     /// The names of the host's tools that run the test.
     pub tools: Items<Text>,
@@ -41,7 +41,7 @@ impl Same for FreeAnswer {
 }
 
 /// What a lead knows of one other participant.
-#[derive(Debug, Drop)]
+#[derive(Drop)]
 pub struct Other {
     pub free: Option<FreeAnswer>,
     /// Whether it accepted.

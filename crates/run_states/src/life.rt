@@ -32,7 +32,7 @@ pub enum LifeStep {
 }
 
 /// The row's life has no such step.
-#[derive(Clone, Copy, Debug, PartialEq, Eq)]
+#[derive(Clone, Copy)]
 pub struct Wrong;
 
 impl RunRow {
@@ -71,7 +71,9 @@ impl RunRow {
         ensures { self.new ≡ end_row ending self.old }
     {
         if self.ended.is_none() {
-            self.ended = Some(ending);
+            drop(self.ended.replace(ending));
+        } else {
+            drop(ending);
         }
     }
 
@@ -119,6 +121,7 @@ impl RunRow {
         ensures unchanged { OnErr result (self.new ≡ self.old) }
     {
         if !self.may_take(&step) {
+            drop(step);
             return Err(Wrong);
         }
         self.mark(step, moment);

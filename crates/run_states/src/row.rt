@@ -17,7 +17,7 @@ use ps_time::text::Text;
 use std::alloc::Global;
 
 /// How a run ended on this host.
-#[derive(Debug, Drop)]
+#[derive(Drop)]
 pub struct Ending {
     /// In seconds since 1970 UTC.
     pub moment: Moment,

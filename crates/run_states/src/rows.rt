@@ -101,7 +101,7 @@ impl Rows {
                 let row = &mut self.rows[at];
                 row.mark(step, moment);
             }
-            Err(_) => {}
+            Err(_) => drop(step),
         }
     }
 

@@ -13,7 +13,7 @@ use ps_time::text::Text;
 use std::alloc::Global;
 
 /// What a host has no more room for.
-#[derive(Clone, Copy, Debug, PartialEq, Eq)]
+#[derive(Clone, Copy, PartialEq, Eq)]
 pub enum What {
     /// Run rows.
     Runs,

@@ -12,7 +12,7 @@ use ps_time::text::Text;
 use std::alloc::Global;
 
 /// Why a tree is no task.
-#[derive(Debug, PartialEq, Eq, Drop)]
+#[derive(Drop)]
 pub enum TaskFault {
     /// A member is missing, of a wrong kind or unknown. It is never `JsonFault::Memory`.
     Json(JsonFault),

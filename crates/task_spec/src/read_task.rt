@@ -181,17 +181,17 @@ fn take_archives(alloc: Global, fields: &mut Fields) -> Result<Items<Archive>, T
 
 /// A tree that is kept as its compact text: of at most 63 levels, with whole numbers alone, and at most
 /// 65,536 bytes long; null is none.
-fn read_reference(alloc: Global, value: Value) -> Result<Option<Text>, TaskFault>
-    ensures value { GivesUnless TaskFault.Memory result (reference_in (codes "reference") (view value)) }
+fn read_reference(alloc: Global, value: &Value) -> Result<Option<Text>, TaskFault>
+    ensures value { GivesUnless TaskFault.Memory result (reference_in (codes "reference") (view value.now)) }
     ensures bounds { IfOk result (λ reference. IfSome reference IsReference) }
 {
     if value.is_null() {
         return Ok(None);
     }
-    if !is_whole(&value) || is_deeper(&value, 63) {
+    if !is_whole(value) || is_deeper(value, 63) {
         return Err(TaskFault::bad_spec(alloc, "reference"));
     }
-    let text = write_text(alloc, &value)?;
+    let text = write_text(alloc, value)?;
     if text.len() > 65_536 {
         return Err(TaskFault::bad_spec(alloc, "reference"));
     }
@@ -206,7 +206,7 @@ fn take_reference(alloc: Global, fields: &mut Fields) -> Result<Option<Text>, Ta
 {
     match fields.take("reference") {
         None => Ok(None),
-        Some(value) => read_reference(alloc, value),
+        Some(value) => read_reference(alloc, &value),
     }
 }
 

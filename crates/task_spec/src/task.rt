@@ -60,15 +60,15 @@ impl Task {
     pub fn copy(&self, alloc: Global) -> Result<Task, Memory>
         ensures { IfOk result (λ made. made ≡ self.now) }
     {
+        let test = self.test.copy(alloc)?;
         let tools = self.tools.copy(alloc)?;
         let archives = self.archives.copy(alloc)?;
-        let reference = self.reference.duplicate(alloc)?;
         Ok(Task {
-            test: self.test.copy(alloc)?,
+            test,
             tools,
             rule: self.rule,
             archives,
-            reference,
+            reference: self.reference.duplicate(alloc)?,
             priority: self.priority,
         })
     }

@@ -145,7 +145,10 @@ fn members_of(alloc: Global, text: &Text) -> Result<Map<String, Value>, Memory>
 {
     match read_kept(alloc, text)? {
         Value::Object(members) => Ok(members),
-        _ => Ok(Map::new(alloc)),
+        other => {
+            drop(other);
+            Ok(Map::new(alloc))
+        }
     }
 }
 
