@@ -8,7 +8,7 @@ use ps_time::moment::{Length, Moment};
 use run_states::why::Denial;
 
 /// What a step of a host is asked to do.
-#[derive(Clone, Copy, Debug, PartialEq, Eq)]
+#[derive(Clone, Copy)]
 pub enum Input {
     /// A run of this host for itself.
     Book {

@@ -16,7 +16,7 @@ use std::snapshot::Snapshot;
 use std::sync::Wait;
 
 /// The count of calls that changed the state, since its gate was made.
-#[derive(Clone, Copy, Debug, PartialEq, Eq, PartialOrd, Ord)]
+#[derive(Clone, Copy, Debug, PartialEq, Eq)]
 pub struct Front(pub u64);
 
 /// The gate has no more tickets.
@@ -27,7 +27,7 @@ pub struct Spent {
 }
 
 /// There was no memory.
-#[derive(Clone, Copy, Debug, PartialEq, Eq)]
+#[derive(Clone, Copy)]
 pub struct Memory;
 
 /// A gate over one state, at which passes take turns. Threads may share it where the state may be

@@ -4,9 +4,10 @@
 mod gate;
 mod kept;
 mod plays;
+#[cfg(test)]
+mod tests;
 mod turn;
 mod view;
 
 pub use gate::{Front, Gate, Memory, Pass, Spent};
 pub use kept::Kept;
-

@@ -8,7 +8,7 @@ use ps_time::key::RunKey;
 use ps_time::moment::{Moment, ON_DECK};
 
 /// What a run reserves on a host.
-#[derive(Clone, Copy, Debug, PartialEq, Eq)]
+#[derive(Clone, Copy)]
 pub struct Booking {
     pub key: RunKey,
     pub class: Class,

@@ -18,7 +18,7 @@ use std::alloc::Global;
 use std::marker::Model;
 
 /// The bookings of a host, at most one of a key, and places that are reserved for more.
-#[derive(Debug, Drop)]
+#[derive(Drop)]
 pub struct Timeline {
     bookings: Vec<Booking>,
 }

@@ -1,12 +1,13 @@
 //! Cases of the rules for reservations: what stands beside a run, gives way to it, or keeps it out.
-use host_timeline::booking::{Booking, firm_from};
 use crate::tests::Fate::{Beside, GivesWay, KeepsOut};
+use host_timeline::booking::{Booking, firm_from};
 use host_timeline::timeline::Timeline;
 use ps_time::class::Class::{self, Background, BackgroundMulti, Exclusive, Normal};
 use ps_time::interval::Interval;
 use ps_time::key::RunKey;
 use ps_time::memory::Memory;
 use std::alloc::Global;
+use std::process::Abort;
 use std::test::Fail;
 
 const FIRST: RunKey = RunKey {
@@ -42,7 +43,9 @@ enum Fate {
 type Wish = (Class, i16, u64, u64);
 
 /// What stands, what asks, at which moment, and what becomes of what stands.
-const CASES: [(&str, Wish, Wish, u64, Fate); 16] = [
+type Case = (&'static str, Wish, Wish, u64, Fate);
+
+static CASES: [Case; 16] = [
     (
         "next after",
         (Exclusive, 0, 100, 150),
@@ -191,15 +194,19 @@ fn becomes(
     })
 }
 
-#[test]
-fn what_keeps_a_run_out(rt: HostRuntime) -> Result<(), Fail> {
-    for (name, standing, asking, moment, wanted) in CASES {
-        let standing = booked(FIRST, standing).ok_or("an empty interval")?;
-        let asking = booked(SECOND, asking).ok_or("an empty interval")?;
-        let fate = becomes(rt.alloc(), standing, &asking, moment)?;
-        assert_eq!(rt; fate, Some(wanted), "{name}");
+fn check_cases(rt: &impl Abort, alloc: Global, cases: &[Case]) -> Result<(), Fail> {
+    for (name, standing, asking, moment, wanted) in cases {
+        let standing = booked(FIRST, *standing).ok_or("an empty interval")?;
+        let asking = booked(SECOND, *asking).ok_or("an empty interval")?;
+        let fate = becomes(alloc, standing, &asking, *moment)?;
+        assert_eq!(rt; fate, Some(*wanted), "{name}");
     }
     Ok(())
+}
+
+#[test]
+fn what_keeps_a_run_out(rt: HostRuntime) -> Result<(), Fail> {
+    check_cases(&rt, rt.alloc(), &CASES)
 }
 
 // Two bookings of normal runs, the one with the greater key first.
@@ -229,35 +236,45 @@ fn two_normal(alloc: Global) -> Result<Timeline, Memory> {
     Ok(timeline)
 }
 
+const ASKING: Interval = Interval {
+    start: 110,
+    end: 130,
+};
+
+/// The priority and the moment of an exclusive run, and the first booking that it may not preempt.
+static PREEMPTED: [(i16, u64, Option<RunKey>); 4] = [
+    (5, 10, None),
+    (1, 10, Some(SECOND)),
+    (0, 10, Some(FIRST)),
+    (5, 95, Some(FIRST)),
+];
+
+fn check_preempted(rt: &impl Abort, timeline: &Timeline, cases: &[(i16, u64, Option<RunKey>)]) {
+    for (priority, moment, firm) in cases {
+        let found = timeline.firm_conflict(Exclusive, &ASKING, *priority, *moment);
+        assert_eq!(rt; found, *firm, "{priority} {moment}");
+    }
+}
+
 #[test]
 fn two_runs_give_way(rt: HostRuntime) -> Result<(), Fail> {
     let alloc = rt.alloc();
-    let mut timeline = two_normal(alloc)?;
-    let asking = Interval {
-        start: 110,
-        end: 130,
-    };
-    for (priority, moment, firm) in [
-        (5, 10, None),
-        (1, 10, Some(SECOND)),
-        (0, 10, Some(FIRST)),
-        (5, 95, Some(FIRST)),
-    ] {
-        let found = timeline.firm_conflict(Exclusive, &asking, priority, moment);
-        assert_eq!(rt; found, firm, "{priority} {moment}");
-    }
-    let conflicts = timeline.conflicts(alloc, Exclusive, &asking)?;
+    let timeline = two_normal(alloc)?;
+    check_preempted(&rt, &timeline, &PREEMPTED);
+    let conflicts = timeline.conflicts(alloc, Exclusive, &ASKING)?;
     assert_eq!(rt; conflicts.as_slice(), [FIRST, SECOND].as_slice());
+    Ok(())
+}
+
+#[test]
+fn a_started_run_does_not_give_way(rt: HostRuntime) -> Result<(), Fail> {
+    let mut timeline = two_normal(rt.alloc())?;
     timeline.mark_started(FIRST);
-    assert_eq!(rt;
-        timeline.firm_conflict(Exclusive, &asking, 5, 10),
-        Some(FIRST)
-    );
+    let firm = timeline.firm_conflict(Exclusive, &ASKING, 5, 10);
+    assert_eq!(rt; firm, Some(FIRST));
     assert!(rt; timeline.release(FIRST));
-    assert_eq!(rt;
-        timeline.firm_conflict(Exclusive, &asking, 0, 10),
-        Some(SECOND)
-    );
+    let firm = timeline.firm_conflict(Exclusive, &ASKING, 0, 10);
+    assert_eq!(rt; firm, Some(SECOND));
     assert_eq!(rt; timeline.bookings().len(), 1);
     Ok(())
 }
@@ -267,11 +284,7 @@ fn an_unknown_key_changes_nothing(rt: HostRuntime) -> Result<(), Fail> {
     let mut timeline = two_normal(rt.alloc())?;
     assert!(rt; !timeline.release(THIRD));
     timeline.mark_started(THIRD);
-    let asking = Interval {
-        start: 110,
-        end: 130,
-    };
-    assert_eq!(rt; timeline.firm_conflict(Exclusive, &asking, 5, 10), None);
+    assert_eq!(rt; timeline.firm_conflict(Exclusive, &ASKING, 5, 10), None);
     assert_eq!(rt; timeline.bookings().len(), 2);
     Ok(())
 }

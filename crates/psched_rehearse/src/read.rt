@@ -21,7 +21,7 @@ use std::str;
 type Read<T> = Result<Result<T, Reason>, Memory>;
 
 /// What a line says.
-#[derive(Debug, Drop)]
+#[derive(Drop)]
 enum Content {
     /// The line is skipped.
     Nothing,

@@ -23,7 +23,7 @@ use std::alloc::Global;
 use world_law::laws::law_booked;
 
 /// What a rehearsal gives.
-#[derive(Debug, Drop)]
+#[derive(Drop)]
 pub struct Rehearsed {
     /// A line for each line of the script, then the runs of each host.
     pub report: Text,

@@ -12,7 +12,7 @@ use std::fmt;
 pub const MAX_HOSTS: usize = 16;
 
 /// A host that a script declares.
-#[derive(Debug, Drop)]
+#[derive(Drop)]
 pub struct ScriptHost {
     pub name: Text,
     /// From 1 to 65535.
@@ -20,7 +20,7 @@ pub struct ScriptHost {
 }
 
 /// What happens at one line of a script. A host is told by its place among the script's hosts.
-#[derive(Clone, Copy, Debug, PartialEq, Eq)]
+#[derive(Clone, Copy, Debug)]
 pub enum ScriptLine {
     /// `host NAME NUMBER`: a host is declared.
     Host {
@@ -40,21 +40,21 @@ pub enum ScriptLine {
 }
 
 /// A line with its number. Numbers begin at 1 and count every line, the skipped ones too.
-#[derive(Clone, Copy, Debug, PartialEq, Eq)]
+#[derive(Clone, Copy)]
 pub struct Numbered {
     pub number: u64,
     pub line: ScriptLine,
 }
 
 /// A script: the hosts in the order of their declaration, and the lines that aren't skipped.
-#[derive(Debug, Drop)]
+#[derive(Drop)]
 pub struct Script {
     pub hosts: Items<ScriptHost>,
     pub lines: Items<Numbered>,
 }
 
 /// Why a line is refused. Where several reasons apply, the first of this list is told.
-#[derive(Clone, Copy, Debug, PartialEq, Eq)]
+#[derive(Clone, Copy, Debug)]
 pub enum Reason {
     NotUtf8,
     UnknownWord,
@@ -88,7 +88,7 @@ impl fmt::Display for Reason {
 }
 
 /// Why a script isn't read.
-#[derive(Clone, Copy, Debug, PartialEq, Eq)]
+#[derive(Clone, Copy, Debug)]
 pub enum ScriptFault {
     /// The number of the first line that is refused, and why.
     Refused { line: u64, reason: Reason },

@@ -20,7 +20,7 @@ use std::cmp::Ordering;
 use std::fmt;
 
 /// What a table shows of a run.
-#[derive(Clone, Copy, Debug, PartialEq, Eq)]
+#[derive(Clone, Copy)]
 struct Entry {
     interval: Option<Interval>,
     key: RunKey,

@@ -1,31 +1,40 @@
+//! What is read of scripts, and where and why they are refused.
 use ps_time::memory::Memory;
 use psched_rehearse::read::read_script;
-use psched_rehearse::script::ScriptFault;
+use psched_rehearse::script::{Script, ScriptFault};
 use std::alloc::Global;
+use std::process::Abort;
 use std::test::Fail;
 
-// What is told of a script: the hosts and the lines, or its refusal.
-fn told(alloc: Global, bytes: &[u8]) -> Result<String, Fail> {
+// The hosts and the lines of a script.
+fn listed(alloc: Global, script: &Script) -> Result<String, Fail> {
     let mut said = String::new(alloc);
-    match read_script(alloc, bytes) {
-        Ok(script) => {
-            for host in script.hosts.as_slice() {
-                let (name, number) = (host.name.as_str(), host.number);
-                writeln!(said, "{name} {number}")?;
-            }
-            for numbered in script.lines.as_slice() {
-                let (number, line) = (numbered.number, numbered.line);
-                writeln!(said, "{number} {line:?}")?;
-            }
-        }
-        Err(ScriptFault::Memory) => return Err(Fail::from(Memory)),
-        Err(refused) => write!(said, "{refused}")?,
+    for host in script.hosts.as_slice() {
+        let (name, number) = (host.name.as_str(), host.number);
+        writeln!(said, "{name} {number}")?;
+    }
+    for numbered in script.lines.as_slice() {
+        let (number, line) = (numbered.number, numbered.line);
+        writeln!(said, "{number} {line:?}")?;
     }
     Ok(said)
 }
 
+// What is told of a script: the hosts and the lines, or its refusal.
+fn told(alloc: Global, bytes: &[u8]) -> Result<String, Fail> {
+    match read_script(alloc, bytes) {
+        Ok(script) => listed(alloc, &script),
+        Err(ScriptFault::Memory) => Err(Fail::from(Memory)),
+        Err(refused) => Ok(format!(in alloc; "{refused}")?),
+    }
+}
+
+fn is_told(alloc: Global, bytes: &[u8], wanted: &str) -> Result<bool, Fail> {
+    Ok(told(alloc, bytes)?.as_str() == wanted)
+}
+
 // Each line is a refusal and a script, in which `/` stands for a line feed.
-const REFUSALS: &str = "\
+static REFUSALS: &str = "\
 line 1: no such host <- 0 a book exclusive 0 100 10
 line 1: no such host <- 0 a book exclusive 0 100 10/host a 1/
 line 2: bad class <- host a 1/0 a book loud 0 100 10/
@@ -69,63 +78,89 @@ line 2: bad number <- host a 1/0 a book normal +1 100 10
 line 2: bad number <- host a 1/0 a book normal --1 100 10
 line 2: bad number <- host a 1/-0 a book normal 0 100 10";
 
+// Whether the script of this text, in which `/` stands for a line feed, is refused so.
+fn is_refused(alloc: Global, text: &str, refusal: &str) -> Result<bool, Fail> {
+    let mut bytes = Vec::new(alloc);
+    for byte in text.bytes() {
+        bytes.push(if byte == b'/' { b'\n' } else { byte })?;
+    }
+    is_told(alloc, bytes.as_slice(), refusal)
+}
+
+fn check_refusals(rt: &impl Abort, alloc: Global, cases: &str) -> Result<(), Fail> {
+    for case in cases.split('\n') {
+        let (refusal, script) = case.split_once(" <- ").ok_or("no script")?;
+        assert!(rt;
+            is_refused(alloc, script, refusal)?,
+            "{refusal} at {script}"
+        );
+    }
+    Ok(())
+}
+
+/// A script, and what is told of it.
+type Case = (&'static [u8], &'static str);
+
+static REFUSED_BYTES: [Case; 2] = [
+    (b"host a 1\n# caf\xe9\nhost\n", "line 2: not utf-8"),
+    (
+        b"host a 1\n\n# four\nhost\nhost \xff 2\n",
+        "line 4: wrong number of fields",
+    ),
+];
+
+fn check_cases(rt: &impl Abort, alloc: Global, cases: &[Case]) -> Result<(), Fail> {
+    for (script, wanted) in cases {
+        assert!(rt; is_told(alloc, script, wanted)?, "{wanted}");
+    }
+    Ok(())
+}
+
 #[test]
 fn first_refusals(rt: HostRuntime) -> Result<(), Fail> {
-    for case in REFUSALS.split('\n') {
-        let (refusal, script) = case.split_once(" <- ").ok_or("no script")?;
-        let mut bytes = Vec::new(rt.alloc());
-        for byte in script.bytes() {
-            bytes.push(if byte == b'/' { b'\n' } else { byte })?;
-        }
-        let said = told(rt.alloc(), bytes.as_slice())?;
-        assert_eq!(rt; said.as_str(), refusal, "at {script}");
+    check_refusals(&rt, rt.alloc(), REFUSALS)?;
+    check_cases(&rt, rt.alloc(), &REFUSED_BYTES)
+}
+
+// Sixteen hosts, and then this line.
+fn sixteen_and(alloc: Global, line: &str) -> Result<String, Fail> {
+    let mut script = String::new(alloc);
+    for number in 1..=16 {
+        writeln!(script, "host h{number} {number}")?;
     }
-    let said = told(rt.alloc(), b"host a 1\n# caf\xe9\nhost\n")?;
-    assert_eq!(rt; said.as_str(), "line 2: not utf-8");
-    let said = told(rt.alloc(), b"host a 1\n\n# four\nhost\nhost \xff 2\n")?;
-    assert_eq!(rt; said.as_str(), "line 4: wrong number of fields");
-    Ok(())
+    write!(script, "{line}")?;
+    Ok(script)
+}
+
+fn hosts_of(alloc: Global, bytes: &[u8]) -> Result<usize, Fail> {
+    Ok(read_script(alloc, bytes)?.hosts.len())
 }
 
 #[test]
 fn sixteen_hosts_and_no_more(rt: HostRuntime) -> Result<(), Fail> {
-    let mut script = String::new(rt.alloc());
-    for number in 1..=16 {
-        writeln!(script, "host h{number} {number}")?;
-    }
-    let taken = read_script(rt.alloc(), script.as_bytes())?;
-    assert_eq!(rt; taken.hosts.len(), 16);
-    let repeated = format!(in rt.alloc(); "{script}host h17 16")?;
-    let said = told(rt.alloc(), repeated.as_bytes())?;
-    assert_eq!(rt; said.as_str(), "line 17: repeated host");
-    let another = format!(in rt.alloc(); "{script}host h17 17")?;
-    let said = told(rt.alloc(), another.as_bytes())?;
-    assert_eq!(rt; said.as_str(), "line 17: too many hosts");
+    let alloc = rt.alloc();
+    let script = sixteen_and(alloc, "")?;
+    assert_eq!(rt; hosts_of(alloc, script.as_bytes())?, 16);
+    let repeated = sixteen_and(alloc, "host h17 16")?;
+    assert!(rt; is_told(alloc, repeated.as_bytes(), "line 17: repeated host")?);
+    let another = sixteen_and(alloc, "host h17 17")?;
+    assert!(rt; is_told(alloc, another.as_bytes(), "line 17: too many hosts")?);
     Ok(())
 }
 
-#[test]
-fn worked_scripts(rt: HostRuntime) -> Result<(), Fail> {
-    assert_eq!(rt; told(rt.alloc(), b"")?.as_str(), "");
-    let said = told(
-        rt.alloc(),
+static WORKED: [Case; 3] = [
+    (b"", ""),
+    (
         b"host a 1\n50 a book exclusive 0 100 50\n50 a book exclusive 0 150 50\n",
-    )?;
-    assert_eq!(rt;
-        said.as_str(),
         "\
 a 1
 1 Host { place: 0 }
 2 Book { at: 50, host: 0, class: Exclusive, priority: 0, start: 100, length: 50 }
 3 Book { at: 50, host: 0, class: Exclusive, priority: 0, start: 150, length: 50 }
-"
-    );
-    let said = told(
-        rt.alloc(),
+",
+    ),
+    (
         b"# bounds\nhost a 1\n\n10 a book normal -0 100 50\nhost b.c-2 65535\n0000000010 b.c-2 book background-multi -1000 4102444800 315360000\n0 a book background 1000 0 1",
-    )?;
-    assert_eq!(rt;
-        said.as_str(),
         "\
 a 1
 b.c-2 65535
@@ -134,7 +169,11 @@ b.c-2 65535
 5 Host { place: 1 }
 6 Book { at: 10, host: 1, class: BackgroundMulti, priority: -1000, start: 4102444800, length: 315360000 }
 7 Book { at: 0, host: 0, class: Background, priority: 1000, start: 0, length: 1 }
-"
-    );
-    Ok(())
+",
+    ),
+];
+
+#[test]
+fn worked_scripts(rt: HostRuntime) -> Result<(), Fail> {
+    check_cases(&rt, rt.alloc(), &WORKED)
 }

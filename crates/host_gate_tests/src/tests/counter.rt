@@ -1,12 +1,12 @@
 //! A counter to keep behind a gate.
-use host_gate::kept::Kept;
+use host_gate::Kept;
 
-#[derive(Clone, Copy, Debug, PartialEq, Eq)]
+#[derive(Clone, Copy)]
 pub struct Counter {
     pub count: u64,
 }
 
-#[derive(Clone, Copy, Debug)]
+#[derive(Clone, Copy)]
 pub enum Ask {
     Add,
     Read,
@@ -15,7 +15,7 @@ pub enum Ask {
 // Adds one, and stands still at the type's end. Answers the count that is left.
 impl Kept for Counter {
     ghost use Rattle.std.specs.Prelude.{◌≡◌, ◌≤◌, ◌+◌, ◌-◌, ◌^◌, min, false};
-    ghost use Rattle.host_gate.specs.declared.tests.counter.Ask.TheVariants.{Add, Read};
+    ghost use Rattle.host_gate_tests.specs.declared.tests.counter.Ask.TheVariants.{Add, Read};
     ghost use Rattle.std.proofs.Common.{le_refl};
     ghost use Rattle.std.proofs.Math.Nat.{le_trans};
 

@@ -1,8 +1,8 @@
 //! A log to keep behind a gate.
-use host_gate::kept::Kept;
+use host_gate::Kept;
 use std::marker::Model;
 
-#[derive(Clone, Copy, Debug, PartialEq, Eq)]
+#[derive(Clone, Copy)]
 pub struct Entry {
     pub by: u64,
     pub number: u64,
@@ -15,7 +15,7 @@ pub struct Log {
 
 impl Model for Log {
     ghost use Rattle.std.specs.Prelude.{List};
-    ghost use Rattle.host_gate.specs.declared.tests.log.Entry.{Entry};
+    ghost use Rattle.host_gate_tests.specs.declared.tests.log.Entry.{Entry};
 
     ghost Value = { List Entry };
 
@@ -26,7 +26,7 @@ impl Model for Log {
 impl Kept for Log {
     ghost use Rattle.std.specs.Prelude.{◌≡◌, List, [], ◌∷◌, ◌++◌, length, Some, None, true, false};
     ghost use Rattle.std.proofs.Common.{sym, ap, ◌∙◌, append-nil, append_assoc};
-    ghost use Rattle.host_gate.specs.declared.tests.log.Entry.{Entry};
+    ghost use Rattle.host_gate_tests.specs.declared.tests.log.Entry.{Entry};
 
     type Call = Entry;
 
