@@ -1,32 +1,23 @@
 //! The results of a run's participants, made one.
-ghost use Rattle.std.specs.Prelude.{◌≡◌, ◌≤◌, Ok, Some, length, map, All, IfOk};
+ghost use Rattle.std.specs.Prelude.{◌≡◌, ◌≤◌, Ok, length, map, All, IfOk};
 ghost use Rattle.serde_json.specs.Data.{depth};
 ghost use Rattle.serde_json.specs.View.{view};
 ghost use Rattle.serde_json.specs.Written.{compact_text};
 ghost use Rattle.ps_json.specs.Tree.{IsWhole, tree_of};
-ghost use Rattle.archive_retry.specs.Merge.{IsTreeText, IsResult, result_tree, is_good, participant, participants, all_good, merged};
+ghost use Rattle.ps_json.specs.TreeText.{kept_tree};
+ghost use Rattle.archive_retry.specs.Merge.{IsResult, is_good, participant, participants, all_good, merged};
 
-use ps_json::tree::{read_tree, write_text};
+pub use ps_json::kept::read_kept;
+use ps_json::tree::write_text;
 use ps_time::memory::Memory;
 use ps_time::text::Text;
 use serde_json::{Value, json};
 use std::alloc::Global;
 
-/// The tree of a text that was kept. The text is one, so only memory may be wanting.
-pub fn read_kept(alloc: Global, text: &Text) -> Result<Value, Memory>
-    requires { IsTreeText text.now }
-    ensures { IfOk result (λ value. view value ≡ result_tree (Some text.now)) }
-{
-    match read_tree(alloc, text.as_str().as_bytes()) {
-        Ok(value) => Ok(value),
-        Err(_) => Err(Memory),
-    }
-}
-
 /// The tree of a result, null where there is none.
 fn read_result(alloc: Global, heard: &Option<Text>) -> Result<Value, Memory>
     requires { IsResult heard.now }
-    ensures { IfOk result (λ value. view value ≡ result_tree heard.now) }
+    ensures { IfOk result (λ value. view value ≡ kept_tree heard.now) }
 {
     match heard {
         None => Ok(Value::Null),
@@ -84,7 +75,7 @@ pub fn merge(alloc: Global, hosts: &[Text], results: &[Option<Text>]) -> Result<
     requires alike { length hosts.now ≡ length results.now }
     requires results { All IsResult results.now }
     ensures text { IfOk result (λ text. text ≡ compact_text (merged hosts.now results.now)) }
-    ensures reads { IfOk result (λ text. All (λ r. depth (result_tree r) ≤ 60) results.now
+    ensures reads { IfOk result (λ text. All (λ r. depth (kept_tree r) ≤ 60) results.now
         → tree_of text ≡ Ok (merged hosts.now results.now)) }
     ensures whole { IfOk result (λ _. IsWhole (merged hosts.now results.now)) }
 {

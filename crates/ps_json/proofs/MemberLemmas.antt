@@ -1,5 +1,6 @@
 -- The members of an object beside the entries of its map.
-use Rattle.std.proofs.Common.{◌≡◌, ℕ, List, [], ◌∷◌, Bool, true, false, cond, Option, Some, None, Err, String, Global, Ordering, Less, Equal, Greater, string_bytes, string_cmp, nat_cmp, refl, sym, ap}
+use Rattle.std.proofs.Common.{◌≡◌, ℕ, ◌+◌, ◌<◌, List, [], ◌∷◌, Bool, true, false, cond, Option, Some, None, Err, All, String, Global, Ordering, Less, Equal, Greater, string_bytes, string_cmp, nat_cmp, refl, sym, ap, subst, arith}
+use Rattle.std.proofs.lemmas.List.Elements.{recursion_from_All}
 use Rattle.std.proofs.lemmas.Map.Text.{is_eq-slice_cmp}
 use Rattle.std.specs.BTreeMap.{is_at}
 use Rattle.std.specs.Cmp.Lexicographic.{slice_cmp}
@@ -7,10 +8,10 @@ use Rattle.std.specs.List.{AllByRecursion}
 use Rattle.std.specs.List.Sorted.{IsStrictlySortedBy}
 use Rattle.std.specs.Map.{keys_of, lookup, remove_entry}
 use Rattle.std.specs.Ordering.{match_ordering}
-use Rattle.serde_json.specs.Data.{Members, member}
+use Rattle.serde_json.specs.Data.{Data, Members, no_members, member}
 use Rattle.serde_json.specs.View.{view, members_view}
 use Rattle.serde_json.specs.declared.value.Value.{Value}
-use Rattle.ps_json.specs.Fields.{without_member, is_comment, least_name, least_unknown, end_of}
+use Rattle.ps_json.specs.Fields.{without_member, is_comment, least_name, least_unknown, end_of, next_of, behind_next, members_count}
 use Rattle.ps_json.specs.declared.fault.JsonFault.TheVariants.{Unknown}
 
 abbrev Entry : Type 0
@@ -70,10 +71,14 @@ least_below : (k : List ℕ) (o : Option (List ℕ)) → Below k o → least_nam
 least_below k None below = refl
 least_below k (Some name) below = rw below refl
 
--- of entries in order the first that is no comment has the least name
+-- an entry below all others that is no comment has the least name
+least_unknown-above : (e : Entry) (es : List Entry) → AllByRecursion (λ y. string_cmp e.0 y ≡ Less) (keys_of es) → is_comment (string_bytes e.0) ≡ false → least_unknown (members_view (e ∷ es)) ≡ Some (string_bytes e.0)
+least_unknown-above e es above unknown = rw (unknown, least_below _ _ (below_unknown e.0 es above)) refl
+
+-- so has the first of entries in order
 least_unknown-first : (e : Entry) (es : List Entry) → IsStrictlySortedBy string_cmp (keys_of (e ∷ es)) → is_comment (string_bytes e.0) ≡ false → least_unknown (members_view (e ∷ es)) ≡ Some (string_bytes e.0)
 unfolding IsStrictlySortedBy
-least_unknown-first e es sorted unknown = rw (unknown, least_below _ _ (below_unknown e.0 es sorted.0)) refl
+least_unknown-first e es sorted unknown = least_unknown-above e es sorted.0 unknown
 
 least_unknown-comment : (e : Entry) (es : List Entry) → is_comment (string_bytes e.0) ≡ true → least_unknown (members_view (e ∷ es)) ≡ least_unknown (members_view es)
 least_unknown-comment e es comment = rw comment refl
@@ -97,3 +102,28 @@ module _ (left : Members) (entries : List Entry) (e : Entry) (es : List Entry) (
   sorted-passed =
       let in_order : IsStrictlySortedBy string_cmp (keys_of (e ∷ es)) = rw steps at sorted in
       sorted_rest e es in_order
+
+-- where there is a next member, fewer stand behind it
+fewer_behind : (ms : Members) (m : List ℕ × Data) → next_of ms ≡ Some m → members_count (behind_next ms) < members_count ms
+fewer_behind no_members m is = absurd cc
+fewer_behind (member k d ms) m is =
+    let cases = elim (is_comment k) as (λ b. cond b (next_of ms) (Some (k, d)) ≡ Some m → members_count (cond b (behind_next ms) ms) < members_count ms + 1) [
+      | true ↦ λ later. let fewer = fewer_behind ms m later in omega arith
+      | false ↦ λ here. omega arith
+    ] in
+    cases is
+
+-- an entry that leaves the front of a map and is no comment is the next member, and has the least name
+module _ (left : Members) (entries : List Entry) (e : Entry) (es : List Entry) (steps : entries ≡ e ∷ es) (unknown : is_comment (string_bytes e.0) ≡ false) where
+  next_of-first : next_of left ≡ next_of (members_view entries) → next_of left ≡ Some (string_bytes e.0, view e.1)
+  next_of-first is = rw (is, steps, unknown) refl
+
+  behind_next-first : behind_next left ≡ behind_next (members_view entries) → behind_next left ≡ members_view es
+  behind_next-first is = rw (is, steps, unknown) refl
+
+  pub least_unknown-next : All (λ y. string_cmp e.0 y ≡ Less) (keys_of es) → least_unknown left ≡ least_unknown (members_view entries) → least_unknown left ≡ Some (string_bytes e.0)
+  least_unknown-next above is = rw (is, steps) (least_unknown-above e es (recursion_from_All _ _ above) unknown)
+
+  pub fewer_next : next_of left ≡ next_of (members_view entries) → behind_next left ≡ behind_next (members_view entries) → members_count (members_view es) < members_count left
+  fewer_next found rest =
+      subst (λ ms. members_count ms < members_count left) (behind_next-first rest) (fewer_behind left _ (next_of-first found))

@@ -1,5 +1,5 @@
 -- The members of an object, each taken once.
-use Rattle.std.specs.Prelude.{ℕ, List, [], ◌∷◌, Bool, false, ◌==◌, if◌then◌else◌, bytes_eq, Option, Some, None, Result, Ok, Err, ⊤}
+use Rattle.std.specs.Prelude.{ℕ, ◌+◌, List, [], ◌∷◌, Bool, false, ◌==◌, if◌then◌else◌, bytes_eq, Option, Some, None, Result, Ok, Err, ⊤}
 use Rattle.std.specs.Ordering.{nat_cmp, match_ordering}
 use Rattle.std.specs.Cmp.Lexicographic.{slice_cmp}
 use Rattle.serde_json.specs.Data.{Data, Members, no_members, member}
@@ -42,3 +42,18 @@ end_of ms = refused (least_unknown ms)
     refused : Option (List ℕ) → Result ⊤ JsonFault
     refused None = Ok tt
     refused (Some name) = Err (Unknown name)
+
+-- the first member that is no comment, in the members' order
+abbrev pub next_of : Members → Option (List ℕ × Data)
+next_of no_members = None
+next_of (member k d ms) = if is_comment k then next_of ms else Some (k, d)
+
+-- the members behind it
+abbrev pub behind_next : Members → Members
+behind_next no_members = no_members
+behind_next (member k d ms) = if is_comment k then behind_next ms else ms
+
+-- how many members there are
+abbrev pub members_count : Members → ℕ
+members_count no_members = 0
+members_count (member k d ms) = members_count ms + 1

@@ -6,3 +6,4 @@ pub mod Fields
 pub mod Kinds
 pub mod Member
 pub mod Tree
+pub mod TreeText

@@ -1,12 +1,13 @@
 //! The members of an object, each taken once.
-ghost use Rattle.std.specs.Prelude.{◌≡◌, option_map};
+ghost use Rattle.std.specs.Prelude.{◌≡◌, ◌<◌, option_map, IfSome};
 ghost use Rattle.serde_json.specs.Find.{get_member};
 ghost use Rattle.serde_json.specs.View.{view};
 ghost use Rattle.ps_json.specs.Answer.{GivesUnless, seen_as};
-ghost use Rattle.ps_json.specs.Fields.{without_member, need_of, end_of, is_comment};
+ghost use Rattle.ps_json.specs.Fields.{without_member, need_of, end_of, is_comment, least_unknown, next_of, behind_next, members_count};
 ghost use Rattle.ps_json.specs.Kinds.{members_of};
 
 use crate::fault::JsonFault;
+use ps_time::text::Text;
 use serde_json::{Map, Value};
 use std::alloc::Global;
 use std::marker::Model;
@@ -59,6 +60,22 @@ impl Fields {
         }
     }
 
+    /// Takes the member of the least name that is no comment, as where the names of an object are data. The
+    /// comments before it go with it; where comments alone are left, all of them go.
+    pub fn next(&mut self) -> Option<(Text, Value)>
+        ensures member { option_map (λ m. (m.0, view m.1)) result ≡ next_of self.old }
+        ensures least { option_map (λ m. m.0) result ≡ least_unknown self.old }
+        ensures rest { self.new ≡ behind_next self.old }
+        ensures fewer { IfSome result (λ _. members_count self.new < members_count self.old) }
+    {
+        while let Some((name, value)) = self.members.pop_first() {
+            if !is_comment(name.as_str()) {
+                return Some((Text::from_string(name), value));
+            }
+        }
+        None
+    }
+
     /// Nothing may be left but comments, whose names begin with `#`.
     pub fn end(self, alloc: Global) -> Result<(), JsonFault>
         ensures { GivesUnless JsonFault.Memory result (end_of self) }
@@ -73,7 +90,8 @@ impl Fields {
     }
 }
 
-fn is_comment(name: &str) -> bool
+/// Whether a member of this name is a comment, which begins with `#`.
+pub fn is_comment(name: &str) -> bool
     ensures { result ≡ is_comment name.now }
 {
     matches!(name.as_bytes(), [b'#', ..])

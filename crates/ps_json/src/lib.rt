@@ -1,8 +1,9 @@
-//! JSON trees whole: read, written, copied, measured, and taken apart member by member.
+//! JSON trees whole: read, written, kept as texts, measured, and taken apart member by member.
 #![tactic(auto)]
 
 pub mod fault;
 pub mod fields;
+pub mod kept;
 pub mod kinds;
 pub mod law;
 pub mod shape;
