@@ -36,7 +36,7 @@ pub fn read_between<S: Source>(
     source.read(&mut bytes[from..to])
 }
 
-#[derive(Debug, Drop)]
+#[derive(Drop)]
 pub struct Held {
     bytes: Vec<u8>,
     count: usize,

@@ -3,7 +3,7 @@ ghost use Rattle.std.specs.Prelude.{◌≡◌};
 ghost use Rattle.ps_http.specs.Scan.{is_ended, place_after, places_after};
 
 /// Where in a head's lines the bytes so far end.
-#[derive(Clone, Copy, Debug, PartialEq, Eq)]
+#[derive(Clone, Copy)]
 pub enum Place {
     /// Before the first line, at the start of a line.
     Before,

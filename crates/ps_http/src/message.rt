@@ -10,14 +10,14 @@ pub const MAX_HEAD: u32 = 16_384;
 pub const MAX_FIELDS: usize = 64;
 
 /// The most bytes of a head, and of a body. A head's limit is from 1 to `MAX_HEAD`.
-#[derive(Clone, Copy, Debug, PartialEq, Eq)]
+#[derive(Clone, Copy)]
 pub struct HttpLimits {
     pub head: u32,
     pub body: u32,
 }
 
 /// Which peer sends a request, and its key.
-#[derive(Debug, Drop)]
+#[derive(Drop)]
 pub struct PeerMark {
     pub number: u16,
     /// 1 to 64 letters and digits.
@@ -25,7 +25,7 @@ pub struct PeerMark {
 }
 
 /// A request, whose target is cut at its first `?`.
-#[derive(Debug, Drop)]
+#[derive(Drop)]
 pub struct Request {
     pub method: Text,
     pub path: Text,
@@ -37,7 +37,7 @@ pub struct Request {
 }
 
 /// A response. `allow` names the methods that a path has.
-#[derive(Debug, Drop)]
+#[derive(Drop)]
 pub struct Response {
     pub status: u16,
     pub allow: Option<Text>,
