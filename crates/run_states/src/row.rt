@@ -119,10 +119,10 @@ impl RunRow {
     ) -> Result<(TestSpec, Option<Text>, Items<Text>, Asker), Memory>
         ensures { IfOk result (λ p. p ≡ (self.now.test, self.now.tool, self.now.participants, self.now.asker)) }
     {
-        let asker = self.asker.copy(alloc)?;
+        let test = self.test.copy(alloc)?;
         let participants = self.participants.copy(alloc)?;
-        let tool = self.tool.duplicate(alloc)?;
-        Ok((self.test.copy(alloc)?, tool, participants, asker))
+        let asker = self.asker.copy(alloc)?;
+        Ok((test, self.tool.duplicate(alloc)?, participants, asker))
     }
 
     fn copy_ends(&self, alloc: Global) -> Result<(Option<Ending>, Option<Closing>), Memory>
@@ -139,8 +139,8 @@ impl RunRow {
         ensures { IfOk result (λ p. p ≡ (self.now.others, self.now.merged, self.now.archives)) }
     {
         let others = self.others.copy(alloc)?;
-        let merged = self.merged.duplicate(alloc)?;
-        Ok((others, merged, self.archives.copy(alloc)?))
+        let archives = self.archives.copy(alloc)?;
+        Ok((others, self.merged.duplicate(alloc)?, archives))
     }
 
     fn has_same_work(&self, other: &RunRow) -> bool

@@ -1,12 +1,12 @@
 //! Names of states, against the table of docs/specification/run-rows.md, and copies.
-use run_states::answer::{FreeAnswer, Other};
-use run_states::row::Ending;
-use run_states::state::State;
 use ps_time::items::Items;
 use ps_time::memory::Memory;
 use ps_time::same::Same;
 use ps_time::text::Text;
 use ps_time::tiers::Tiers;
+use run_states::answer::{FreeAnswer, Other};
+use run_states::row::Ending;
+use run_states::state::State;
 use std::alloc::Global;
 
 fn is_ending_copied(alloc: Global) -> Result<bool, Memory> {
@@ -50,31 +50,32 @@ fn copies(rt: HostRuntime) -> Result<(), Memory> {
     Ok(())
 }
 
+static NAMES: [(State, &str); 11] = [
+    (State::Missed, "missed"),
+    (State::Preempted, "preempted"),
+    (State::Nonstart, "nonstart"),
+    (State::Canceled, "canceled"),
+    (State::Finished, "finished"),
+    (State::Failed, "failed"),
+    (State::Running, "running"),
+    (State::Cleanup, "cleanup"),
+    (State::Overdue, "overdue"),
+    (State::OnDeck, "on-deck"),
+    (State::Pending, "pending"),
+];
+
+fn are_named(alloc: Global, table: &[(State, &str)]) -> Result<bool, Memory> {
+    for (state, name) in table {
+        let shown = Text::from_string(format!(in alloc; "{state}")?);
+        if state.name() != *name || !shown.is(name) {
+            return Ok(false);
+        }
+    }
+    Ok(true)
+}
+
 #[test]
 fn names(rt: HostRuntime) -> Result<(), Memory> {
-    let ended = [
-        (State::Missed, "missed"),
-        (State::Preempted, "preempted"),
-        (State::Nonstart, "nonstart"),
-        (State::Canceled, "canceled"),
-        (State::Finished, "finished"),
-        (State::Failed, "failed"),
-    ];
-    for (state, name) in ended {
-        assert!(rt; state.name() == name);
-    }
-    let open = [
-        (State::Running, "running"),
-        (State::Cleanup, "cleanup"),
-        (State::Overdue, "overdue"),
-        (State::OnDeck, "on-deck"),
-        (State::Pending, "pending"),
-    ];
-    for (state, name) in open {
-        assert!(rt; state.name() == name);
-    }
-    let state = State::OnDeck;
-    let text = format!(in rt.alloc(); "{state}")?;
-    assert!(rt; text.as_str() == "on-deck");
+    assert!(rt; are_named(rt.alloc(), &NAMES)?);
     Ok(())
 }

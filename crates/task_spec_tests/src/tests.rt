@@ -2,12 +2,13 @@
 ghost use Rattle.std.specs.Prelude.{codes};
 ghost use Rattle.task_spec.specs.Bounds.{IsTask};
 
+use ps_json::tree::{read_tree, write_text};
+use ps_time::text::Text;
+use std::alloc::Global;
+use std::test::Fail;
 use task_spec::fault::TaskFault;
 use task_spec::task::Task;
 use task_spec::write_task::law_task;
-use ps_json::tree::{read_tree, write_tree};
-use std::alloc::Global;
-use std::test::Fail;
 
 // What stands before the members of a table, and between the columns of what is written.
 const TEST: &str = r#"{"test":{"type":"idle","spec":{"duration":"PT10S"}}"#;
@@ -276,30 +277,28 @@ static BODIES: [(&str, &str); 10] = [
     ),
 ];
 
-fn fault_text(alloc: Global, fault: TaskFault) -> Result<String, Fail> {
-    match fault {
-        TaskFault::Json(inner) => Ok(format!(in alloc; "{inner}")?),
-        TaskFault::BadTime(member, inner) => Ok(format!(in alloc; "bad time {member} {inner:?}")?),
-        TaskFault::UnknownTest(name) => Ok(format!(in alloc; "unknown test {name}")?),
-        TaskFault::BadPriority => Ok(String::from_str(alloc, "bad priority")?),
-        TaskFault::UnknownTool(name) => Ok(format!(in alloc; "unknown tool {name}")?),
-        TaskFault::UnknownArchiver(name) => Ok(format!(in alloc; "unknown archiver {name}")?),
-        TaskFault::BadSpec(member) => Ok(format!(in alloc; "bad spec {member}")?),
-        TaskFault::Memory => Err(Fail::new("out of memory")),
-    }
+fn fault_text(alloc: Global, fault: &TaskFault) -> Result<Text, Fail> {
+    let text = match fault {
+        TaskFault::Json(inner) => format!(in alloc; "{inner}")?,
+        TaskFault::BadTime(member, inner) => format!(in alloc; "bad time {member} {inner:?}")?,
+        TaskFault::UnknownTest(name) => format!(in alloc; "unknown test {name}")?,
+        TaskFault::BadPriority => String::from_str(alloc, "bad priority")?,
+        TaskFault::UnknownTool(name) => format!(in alloc; "unknown tool {name}")?,
+        TaskFault::UnknownArchiver(name) => format!(in alloc; "unknown archiver {name}")?,
+        TaskFault::BadSpec(member) => format!(in alloc; "bad spec {member}")?,
+        TaskFault::Memory => return Err(Fail::new("out of memory")),
+    };
+    Ok(Text::from_string(text))
 }
 
-fn written(alloc: Global, task: &Task) -> Result<String, Fail>
+fn written(alloc: Global, task: &Task) -> Result<Text, Fail>
     requires { IsTask (codes "a") task.now }
 {
     let value = task.write(alloc)?;
-    match String::from_utf8(write_tree(alloc, &value)?) {
-        Ok(text) => Ok(text),
-        Err(_) => Err(Fail::new("no UTF-8")),
-    }
+    Ok(write_text(alloc, &value)?)
 }
 
-fn written_copy(alloc: Global, task: &Task) -> Result<String, Fail>
+fn written_copy(alloc: Global, task: &Task) -> Result<Text, Fail>
     requires { IsTask (codes "a") task.now }
 {
     let copy = task.copy(alloc)?;
@@ -307,9 +306,13 @@ fn written_copy(alloc: Global, task: &Task) -> Result<String, Fail>
 }
 
 // The copy of the task that is read at the lead `a`, as it is written.
-fn told(alloc: Global, text: &str) -> Result<String, Fail> {
+fn told(alloc: Global, text: &str) -> Result<Text, Fail> {
     match Task::read(alloc, read_tree(alloc, text.as_bytes())?, 1_000, "a") {
-        Err(fault) => fault_text(alloc, fault),
+        Err(fault) => {
+            let text = fault_text(alloc, &fault);
+            drop(fault);
+            text
+        }
         Ok(task) => written_copy(alloc, &task),
     }
 }
@@ -338,7 +341,7 @@ fn body(alloc: Global, members: &str) -> Result<String, Fail> {
 fn check(alloc: Global, table: &[(&str, &str)]) -> Result<(), Fail> {
     for (members, columns) in table {
         let told = told(alloc, body(alloc, members)?.as_str())?;
-        if told.as_str() != framed(alloc, columns)?.as_str() {
+        if !told.is(framed(alloc, columns)?.as_str()) {
             return Err(Fail::new(format_args!("{members} is told {told}")));
         }
     }
@@ -348,7 +351,7 @@ fn check(alloc: Global, table: &[(&str, &str)]) -> Result<(), Fail> {
 fn check_bodies(alloc: Global, table: &[(&str, &str)]) -> Result<(), Fail> {
     for (text, expected) in table {
         let told = told(alloc, text)?;
-        if told.as_str() != *expected {
+        if !told.is(expected) {
             return Err(Fail::new(format_args!("{text} is told {told}")));
         }
     }
