@@ -1,6 +1,6 @@
 -- A host's book: its latest moment and its rows. What settling and a list of changes make of it.
 use Rattle.std.specs.Prelude.{◌≡◌, ◌≤◌, ℕ, ◌+◌, max, List, [], ◌∷◌, MatchOption, IsTrue, None}
-use Rattle.ps_time.specs.declared.moment.TheConstants.{MAX_MOMENT, MAX_LENGTH}
+use Rattle.ps_time.specs.Numbers.{greatest_moment, greatest_length}
 use Rattle.plugin_core.specs.TestSpec.{test_length}
 use Rattle.run_states.specs.declared.row.RunRow.{RunRow}
 use Rattle.run_states.specs.Life.{settled_rows, is_booked}
@@ -41,7 +41,7 @@ book_after b changes = after changes.list
 -- a change may come next, over these rows
 abbrev pub CanApply : ℕ → List RunRow → Change → Type 0
 CanApply m rows (Accepted p participants) =
-    (find_row rows p.key ≡ None) × (1 ≤ test_length p.test) × (test_length p.test ≤ MAX_LENGTH) × (p.start ≤ MAX_MOMENT)
+    (find_row rows p.key ≡ None) × (1 ≤ test_length p.test) × (test_length p.test ≤ greatest_length) × (p.start ≤ greatest_moment)
 CanApply m rows (Confirmed k) = MatchOption (find_row rows k) ⊥ (λ r. IsTrue (is_booked r))
 
 abbrev pub CanApplyAll : ℕ → List RunRow → List Change → Type 0
@@ -51,7 +51,7 @@ CanApplyAll m rows (c ∷ cs) = CanApply m rows c × CanApplyAll m (apply m c ro
 -- the changes may follow the book
 pub record MayFollow (b : Book) (changes : Changes) : Type 0 where
   pub later : b.moment ≤ changes.moment
-  pub moment : changes.moment ≤ MAX_MOMENT
+  pub moment : changes.moment ≤ greatest_moment
   pub each : CanApplyAll changes.moment (settled_rows changes.moment b.rows) changes.list
 
 -- how many rows the changes add
@@ -62,4 +62,4 @@ added (Confirmed k ∷ cs) = added cs
 
 -- what is asked has its moments and lengths in bounds
 abbrev pub IsInBounds : Input → Type 0
-IsInBounds (BookInput class priority start len) = (start ≤ MAX_MOMENT) × (1 ≤ len) × (len ≤ MAX_LENGTH)
+IsInBounds (BookInput class priority start len) = (start ≤ greatest_moment) × (1 ≤ len) × (len ≤ greatest_length)

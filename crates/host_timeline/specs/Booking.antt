@@ -5,12 +5,13 @@ use Rattle.ps_time.specs.declared.class.Class.{Class}
 use Rattle.ps_time.specs.declared.key.RunKey.{RunKey}
 use Rattle.ps_time.specs.Class.{clash}
 use Rattle.ps_time.specs.Key.{key_cmp}
+use Rattle.ps_time.specs.Numbers.{on_deck}
 use Rattle.ps_time.specs.Span.{Span}
 use Rattle.host_timeline.specs.declared.booking.Booking.{Booking}
 
 -- the moment from which a run can't be preempted: 10 s before its start, or 0 once it was started
 abbrev pub firm_from_of : ℕ → Bool → ℕ
-firm_from_of start started = if started then 0 else start - 10
+firm_from_of start started = if started then 0 else start - on_deck
 
 -- a run of this class and interval conflicts with the booking
 abbrev pub conflicts_with : Class → Span → Booking → Bool

@@ -2,7 +2,7 @@
 use Rattle.std.specs.Prelude.{ℕ, ◌≡◌, ◌≤◌, ◌+◌, ◌/◌, true, List, length, Option, IfSome}
 use Rattle.std.specs.List.{list_all}
 use Rattle.ps_time.specs.Name.{is_name}
-use Rattle.ps_time.specs.declared.moment.TheConstants.{MAX_LENGTH}
+use Rattle.ps_time.specs.Numbers.{greatest_length}
 use Rattle.plugin_core.specs.declared.test_spec.TestSpec.{TestSpec}
 use Rattle.plugin_core.specs.declared.test_spec.TestSpec.TheVariants.{Idle, Idleex, Idlebgm, Idlemany, Simplestream}
 use Rattle.plugin_core.specs.ReadTest.{are_hosts}
@@ -13,7 +13,7 @@ IsComment comment = IfSome comment (λ bs. length bs ≤ 1_024)
 -- what the tests that sleep have in common
 pub record IsSleep (duration : ℕ) (at_start at_end : Option (List ℕ)) : Type 0 where
   pub lasts : 1 ≤ duration
-  pub short : duration ≤ MAX_LENGTH
+  pub short : duration ≤ greatest_length
   pub starting : IsComment at_start
   pub parting : IsComment at_end
 
@@ -30,7 +30,7 @@ pub record IsStream (to text : List ℕ) (dawdle timeout : ℕ) : Type 0 where
   pub dest : is_name to ≡ true
   pub material : length text ≤ 8_192
   pub lasts : 1 ≤ timeout
-  pub short : dawdle + timeout ≤ MAX_LENGTH
+  pub short : dawdle + timeout ≤ greatest_length
 
 abbrev pub IsTest : TestSpec → Type 0
 IsTest (Idle duration starting parting) = IsSleep duration starting parting

@@ -7,7 +7,7 @@ use Rattle.ps_json.specs.Kinds.{count_of, text_of, list_of, members_of}
 use Rattle.ps_json.specs.declared.fault.JsonFault.TheVariants.{WrongKind}
 use Rattle.ps_time.specs.Length.{length_of}
 use Rattle.ps_time.specs.Name.{is_name}
-use Rattle.ps_time.specs.declared.moment.TheConstants.{MAX_LENGTH}
+use Rattle.ps_time.specs.Numbers.{greatest_length, most_participants}
 use Rattle.plugin_core.specs.declared.fault.SpecFault.{SpecFault}
 use Rattle.plugin_core.specs.declared.fault.SpecFault.TheVariants.{Json, BadTime, UnknownTest, BadSpec}
 use Rattle.plugin_core.specs.declared.kind.TestKind.{TestKind}
@@ -57,7 +57,7 @@ all_differ (name ∷ names) = not (is_named name names) && all_differ names
 
 -- 2 to 8 different names
 abbrev pub are_hosts : List (List ℕ) → Bool
-are_hosts names = nat_le 2 (length names) && (nat_le (length names) 8 && all_differ names)
+are_hosts names = nat_le 2 (length names) && (nat_le (length names) most_participants && all_differ names)
 
 abbrev pub hosts_in : List ℕ → Data → Result (List (List ℕ)) SpecFault
 hosts_in name d =
@@ -110,7 +110,7 @@ idlemany_of ms =
 
 -- the length of the whole is a length
 abbrev pub whole : ℕ → ℕ → Result ℕ SpecFault
-whole dawdle timeout = if nat_lt MAX_LENGTH (dawdle + timeout) then Err (BadSpec (codes "timeout")) else Ok timeout
+whole dawdle timeout = if nat_lt greatest_length (dawdle + timeout) then Err (BadSpec (codes "timeout")) else Ok timeout
 
 abbrev pub simplestream_of : Members → Result TestSpec SpecFault
 simplestream_of ms =

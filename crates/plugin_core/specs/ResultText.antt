@@ -4,7 +4,7 @@ use Rattle.std.specs.List.{range_with_len}
 use Rattle.serde_json.specs.Data.{Data, unsigned, boolean, number, string, array, object, Members, no_members, member}
 use Rattle.serde_json.specs.View.{items_of}
 use Rattle.ps_time.specs.Moment.{moment_text_of}
-use Rattle.ps_time.specs.declared.moment.TheConstants.{MAX_MOMENT}
+use Rattle.ps_time.specs.Numbers.{greatest_moment}
 use Rattle.plugin_core.specs.declared.run.ToolView.{ToolView}
 use Rattle.plugin_core.specs.declared.run.Role.{Role}
 use Rattle.plugin_core.specs.declared.run.Role.TheVariants.{Dest}
@@ -63,5 +63,5 @@ result_data test view Restarted = failed (codes "host restarted")
 
 -- every tick is a moment
 abbrev pub TicksFit : TestSpec → ToolView → Outcome → Type 0
-TicksFit (Idlebgm duration starting parting interval) view Good = view.started + duration ≤ MAX_MOMENT
+TicksFit (Idlebgm duration starting parting interval) view Good = view.started + duration ≤ greatest_moment
 TicksFit _ view outcome = Unit {0}

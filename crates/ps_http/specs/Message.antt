@@ -5,6 +5,7 @@ use Rattle.std.specs.List.{before_first, slice_get}
 use Rattle.std.specs.Option.{unwrap_or}
 use Rattle.httparse.specs.Grammar.{RequestHead, ResponseHead, status_code}
 use Rattle.httparse.specs.Spans.{name_and_value}
+use Rattle.ps_time.specs.Numbers.{most_head_fields}
 use Rattle.ps_http.specs.Fields.{values_of, asks_close, cuts_at, behind, are_peers, first_peer, length_of}
 use Rattle.ps_http.specs.declared.fault.HttpFault.{HttpFault}
 use Rattle.ps_http.specs.declared.fault.HttpFault.TheVariants.{BadHead, NoLength, TooLarge}
@@ -19,7 +20,7 @@ is_empty (x ∷ xs) = false
 -- of a head whose Content-Length is well formed: the body's length, or the refusal
 abbrev pub bounded_length : HttpLimits → Bool → List (List ℕ × List ℕ) → Option ℕ → Result ℕ HttpFault
 bounded_length limits wanted fields said =
-    if nat_lt 64 (length fields) || nat_lt limits.body (unwrap_or said 0) then Err TooLarge
+    if nat_lt most_head_fields (length fields) || nat_lt limits.body (unwrap_or said 0) then Err TooLarge
     else (if not (is_empty (values_of (codes "transfer-encoding") fields)) || (wanted && is_none said) then Err NoLength
     else Ok (unwrap_or said 0))
 

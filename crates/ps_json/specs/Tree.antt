@@ -4,6 +4,7 @@ use Rattle.std.specs.Str.{is_utf8}
 use Rattle.serde_json.specs.Data.{Data, depth}
 use Rattle.serde_json.specs.Read.{read}
 use Rattle.serde_json.specs.Written.{has_float}
+use Rattle.ps_time.specs.Numbers.{most_json_depth}
 use Rattle.ps_json.specs.Answer.{then_with}
 use Rattle.ps_json.specs.declared.fault.JsonFault.{JsonFault}
 use Rattle.ps_json.specs.declared.fault.JsonFault.TheVariants.{Syntax, TooDeep, NotUtf8}
@@ -16,9 +17,9 @@ parsed bytes = if is_utf8 bytes then by_grammar (read bytes) else Err NotUtf8
     by_grammar None = Err Syntax
     by_grammar (Some d) = Ok d
 
--- the tree of a JSON text, up to 64 levels deep
+-- the tree of a JSON text, as deep as one may be
 abbrev pub tree_of : List ℕ → Result Data JsonFault
-tree_of bytes = then_with (parsed bytes) (λ d. if nat_lt 64 (depth d) then Err TooDeep else Ok d)
+tree_of bytes = then_with (parsed bytes) (λ d. if nat_lt most_json_depth (depth d) then Err TooDeep else Ok d)
 
 -- every number of the tree is whole
 abbrev pub IsWhole : Data → Type 0

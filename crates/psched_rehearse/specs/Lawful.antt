@@ -1,8 +1,7 @@
 -- What holds of every script that is read.
 use Rattle.std.specs.Prelude.{◌≡◌, ◌≢◌, ℕ, ◌+◌, ◌<◌, ◌≤◌, pos, negsuc, ◌≤ℤ◌, true, List, [], ◌∷◌, length, All, AllPairs}
 use Rattle.ps_time.specs.Name.{is_name}
-use Rattle.ps_time.specs.declared.moment.TheConstants.{MAX_MOMENT, MAX_LENGTH}
-use Rattle.psched_rehearse.specs.declared.script.TheConstants.{MAX_HOSTS}
+use Rattle.ps_time.specs.Numbers.{greatest_moment, greatest_length, most_script_hosts}
 use Rattle.psched_rehearse.specs.declared.script.ScriptHost.{ScriptHost}
 use Rattle.psched_rehearse.specs.declared.script.ScriptLine.{ScriptLine}
 use Rattle.psched_rehearse.specs.declared.script.ScriptLine.TheVariants.{Host, Book}
@@ -19,7 +18,7 @@ pub record IsLawfulHost (host : ScriptHost) : Type 0 where
 abbrev pub IsLawfulLine : ℕ → ScriptLine → Type 0
 IsLawfulLine hosts (Host place) = place < hosts
 IsLawfulLine hosts (Book at host class priority start len) =
-    (at ≤ MAX_MOMENT) × (host < hosts) × (negsuc 999 ≤ℤ priority) × (priority ≤ℤ pos 1000) × (start ≤ MAX_MOMENT) × (1 ≤ len) × (len ≤ MAX_LENGTH)
+    (at ≤ greatest_moment) × (host < hosts) × (negsuc 999 ≤ℤ priority) × (priority ≤ℤ pos 1000) × (start ≤ greatest_moment) × (1 ≤ len) × (len ≤ greatest_length)
 
 -- a line where `count` hosts are declared above it declares the next, or speaks of one of these
 abbrev pub FollowsHosts : ℕ → ScriptLine → Type 0
@@ -38,7 +37,7 @@ DeclareInOrder count (l ∷ ls) all = FollowsHosts count l.line × DeclareInOrde
 
 -- few hosts, all different, and lines that are lawful over them, in the order of their declaration
 pub record IsLawful (script : Script) : Type 0 where
-  pub few : length script.hosts ≤ MAX_HOSTS
+  pub few : length script.hosts ≤ most_script_hosts
   pub hosts : All IsLawfulHost script.hosts
   pub names : AllPairs (λ a b. a.name ≢ b.name) script.hosts
   pub numbers : AllPairs (λ a b. a.number ≢ b.number) script.hosts

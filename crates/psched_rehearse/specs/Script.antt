@@ -5,10 +5,9 @@ use Rattle.std.specs.Str.{bytes_eq, is_utf8}
 use Rattle.ps_time.specs.Class.{class_of_text}
 use Rattle.ps_time.specs.Name.{is_name}
 use Rattle.ps_time.specs.Number.{decimal_of}
-use Rattle.ps_time.specs.declared.moment.TheConstants.{MAX_MOMENT, MAX_LENGTH}
+use Rattle.ps_time.specs.Numbers.{greatest_moment, greatest_length, most_script_hosts}
 use Rattle.psched_rehearse.specs.declared.read.Content.{Content}
 use Rattle.psched_rehearse.specs.declared.read.Content.TheVariants.{Nothing, NewHost, Event}
-use Rattle.psched_rehearse.specs.declared.script.TheConstants.{MAX_HOSTS}
 use Rattle.psched_rehearse.specs.declared.script.ScriptHost.{ScriptHost}
 use Rattle.psched_rehearse.specs.declared.script.ScriptLine.TheVariants.{Host, Book}
 use Rattle.psched_rehearse.specs.declared.script.Script.{Script}
@@ -56,17 +55,17 @@ host_line hosts (word ∷ name ∷ number ∷ []) =
     need (number_of 1 65535 number) BadNumber (λ n.
     check (is_name name) BadName (
     check (not (is_repeated hosts name n)) RepeatedHost (
-    check (nat_lt (length hosts) MAX_HOSTS) TooManyHosts (
+    check (nat_lt (length hosts) most_script_hosts) TooManyHosts (
     Ok (NewHost (record { name = name; number = n }))))))
 host_line hosts _ = Err WrongNumberOfFields
 
 -- `T NAME book CLASS PRIORITY START LENGTH`
 abbrev pub book_line : List ScriptHost → List (List ℕ) → Result Content Reason
 book_line hosts (at ∷ name ∷ word ∷ class ∷ priority ∷ start ∷ len ∷ []) =
-    need (number_of 0 MAX_MOMENT at) BadNumber (λ t.
+    need (number_of 0 greatest_moment at) BadNumber (λ t.
     need (priority_of priority) BadNumber (λ p.
-    need (number_of 0 MAX_MOMENT start) BadNumber (λ s.
-    need (number_of 1 MAX_LENGTH len) BadNumber (λ l.
+    need (number_of 0 greatest_moment start) BadNumber (λ s.
+    need (number_of 1 greatest_length len) BadNumber (λ l.
     check (is_name name) BadName (
     need (place_of hosts name) NoSuchHost (λ h.
     need (class_of_text class) BadClass (λ c.

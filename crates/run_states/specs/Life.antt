@@ -1,7 +1,7 @@
 -- The life of a run's row: its steps, how it lapses, and its state at a moment.
 use Rattle.std.specs.Prelude.{ℕ, ◌+◌, ◌≤◌, Bool, not, ◌&&◌, nat_le, nat_lt, min, List, map, Option, Some, None, is_some, IfSome, if◌then◌else◌}
 use Rattle.ps_time.specs.Span.{Span}
-use Rattle.ps_time.specs.declared.moment.TheConstants.{MAX_MOMENT, MAX_LENGTH}
+use Rattle.ps_time.specs.Numbers.{greatest_moment, greatest_length, grace, hold, on_deck}
 use Rattle.run_states.specs.declared.life.LifeStep.{LifeStep}
 use Rattle.run_states.specs.declared.life.LifeStep.TheVariants.{Confirm, Start, End, Close}
 use Rattle.run_states.specs.declared.row.Ending.{Ending}
@@ -62,17 +62,17 @@ advanced step m r = if may_take step r then Some (marked_row step m r) else None
 -- asked and not accepted: a minute after the asking
 abbrev pub lapse_asked : ℕ → Option ℕ → Option Closing
 lapse_asked m None = None
-lapse_asked m (Some asked) = if nat_le (asked + 60) m then Some (record { moment = asked + 60; why = Nonstart Silent }) else None
+lapse_asked m (Some asked) = if nat_le (asked + hold) m then Some (record { moment = asked + hold; why = Nonstart Silent }) else None
 
 -- accepted and not confirmed: a minute after the accepting, or at the start where that is earlier
 abbrev pub lapse_held : ℕ → ℕ → Option Span → Option Closing
 lapse_held m accepted None = None
-lapse_held m accepted (Some i) = let last = min (accepted + 60) i.start in if nat_le last m then Some (record { moment = last; why = Nonstart HoldEnded }) else None
+lapse_held m accepted (Some i) = let last = min (accepted + hold) i.start in if nat_le last m then Some (record { moment = last; why = Nonstart HoldEnded }) else None
 
--- confirmed and not started: more than 15 seconds after the start
+-- confirmed and not started: more than the grace after the start
 abbrev pub lapse_missed : ℕ → Option Span → Option Closing
 lapse_missed m None = None
-lapse_missed m (Some i) = if nat_lt (i.start + 15) m then Some (record { moment = i.start + 16; why = Missed }) else None
+lapse_missed m (Some i) = if nat_lt (i.start + grace) m then Some (record { moment = i.start + (grace + 1); why = Missed }) else None
 
 abbrev pub lapse_at : ℕ → RunRow → Option Closing → Option ℕ → Option ℕ → Option ℕ → Option Closing
 lapse_at m r (Some c) accepted confirmed started = None
@@ -104,11 +104,11 @@ closed_state Canceled = state.Canceled
 
 abbrev pub started_state : ℕ → Option Span → State
 started_state m None = state.Overdue
-started_state m (Some i) = if nat_lt m i.end then state.Running else if nat_lt m (i.end + 15) then state.Cleanup else state.Overdue
+started_state m (Some i) = if nat_lt m i.end then state.Running else if nat_lt m (i.end + grace) then state.Cleanup else state.Overdue
 
 abbrev pub confirmed_state : ℕ → Option Span → State
 confirmed_state m None = state.Pending
-confirmed_state m (Some i) = if nat_le i.start (m + 10) then state.OnDeck else state.Pending
+confirmed_state m (Some i) = if nat_le i.start (m + on_deck) then state.OnDeck else state.Pending
 
 abbrev pub state_at : ℕ → Option Span → Option Closing → Option Ending → Option ℕ → Option ℕ → State
 state_at m interval (Some c) ended started confirmed = closed_state c.why
@@ -122,10 +122,10 @@ state_of r m = state_at m r.interval r.closed r.ended r.started r.confirmed
 
 -- ---- bounds ----
 abbrev pub IsInTime : Span → Type 0
-IsInTime i = (i.start ≤ MAX_MOMENT) × (i.end ≤ MAX_MOMENT + MAX_LENGTH)
+IsInTime i = (i.start ≤ greatest_moment) × (i.end ≤ greatest_moment + greatest_length)
 
 -- the moments that its life counts from are within bounds
 pub record HasMoments (row : RunRow) : Type 0 where
-  pub asked : IfSome row.asked (λ m. m ≤ MAX_MOMENT)
-  pub accepted : IfSome row.accepted (λ m. m ≤ MAX_MOMENT)
+  pub asked : IfSome row.asked (λ m. m ≤ greatest_moment)
+  pub accepted : IfSome row.accepted (λ m. m ≤ greatest_moment)
   pub interval : IfSome row.interval IsInTime
