@@ -10,8 +10,8 @@ use archive_retry::policy::{Entry, Policy};
 use archive_retry::read_policy::read_policy;
 use archive_retry::retry::{due, tried};
 use archive_retry::state::ArchiveState;
-use ps_json::shape::{is_deeper, is_whole};
-use ps_json::tree::{read_tree, write_text};
+use ps_json::kept::is_tree_text;
+use ps_json::tree::read_tree;
 use ps_time::items::Items;
 use ps_time::same::Same;
 use ps_time::text::Text;
@@ -204,14 +204,13 @@ fn walks(rt: HostRuntime) -> Result<(), Fail> {
 fn heard(alloc: Global, text: &str) -> Result<Option<Text>, Fail>
     ensures { IfOk result IsResult }
 {
-    let value = read_tree(alloc, text.as_bytes())?;
-    if value.is_null() {
+    if text == "null" {
         return Ok(None);
     }
-    if !is_whole(&value) || is_deeper(&value, 60) {
+    if !is_tree_text(alloc, text, 64)? {
         return Err(Fail::new("no result"));
     }
-    let text = write_text(alloc, &value)?;
+    let text = Text::new(alloc, text)?;
     Ok(Some(text))
 }
 

@@ -1,4 +1,4 @@
-//! Trees of JSON texts (RFC 8259): read, written and copied.
+//! Trees of JSON texts (RFC 8259): read and written.
 ghost use Rattle.std.specs.Prelude.{◌≡◌, ◌≤◌, IfOk, IfSome, Ok, is_some};
 ghost use Rattle.std.specs.Str.{is_utf8};
 ghost use Rattle.serde_json.specs.Data.{depth};
@@ -75,11 +75,4 @@ pub fn write_text(alloc: Global, value: &Value) -> Result<Text, Memory>
         Ok(text) => Ok(Text::from_string(text)),
         Err(_) => unreachable!(),
     }
-}
-
-/// An equal tree. Its memory comes from where the tree's own does.
-pub fn copy_tree(_alloc: Global, value: &Value) -> Result<Value, Memory>
-    ensures { IfOk result (λ copy. view copy ≡ view value.now) }
-{
-    Ok(value.clone()?)
 }

@@ -1,12 +1,17 @@
 //! What no clause says: that calls succeed, and texts whose answers come from outside.
+ghost use Rattle.serde_json.specs.View.{view};
+ghost use Rattle.ps_json.specs.Tree.{IsWhole};
 
 use ps_json::fault::JsonFault;
-use ps_json::fields::Fields;
+use ps_json::fields::{Fields, is_comment};
+use ps_json::kept::{is_tree_text, read_kept};
 use ps_json::kinds::{read_boolean, read_count, read_integer, read_list, read_text};
 use ps_json::law::law_taken_once;
 use ps_json::shape::{is_deeper, is_whole};
-use ps_json::tree::{copy_tree, read_tree, write_tree};
+use ps_json::tree::{read_tree, write_tree};
 use ps_time::memory::Memory;
+use ps_time::text::Text;
+use serde_json::Value;
 use std::alloc::Global;
 use std::fmt::Display;
 use std::test::Fail;
@@ -175,6 +180,15 @@ static NOT_UTF8: [&[u8]; 8] = [
     b"\"\xf4\x90\x80\x80\"",
 ];
 
+fn written(alloc: Global, value: &Value) -> Result<String, Fail>
+    requires { IsWhole (view value.now) }
+{
+    match String::from_utf8(write_tree(alloc, value)?) {
+        Ok(text) => Ok(text),
+        Err(_) => Err(Fail::new("no UTF-8")),
+    }
+}
+
 // What is written again of a text, or why it is refused.
 fn answer(alloc: Global, bytes: &[u8]) -> Result<String, Fail> {
     match read_tree(alloc, bytes) {
@@ -184,11 +198,7 @@ fn answer(alloc: Global, bytes: &[u8]) -> Result<String, Fail> {
             if !is_whole(&value) {
                 return Ok(String::from_str(alloc, "not whole")?);
             }
-            let written = write_tree(alloc, &copy_tree(alloc, &value)?);
-            match String::from_utf8(written?) {
-                Ok(text) => Ok(text),
-                Err(_) => Err(Fail::new("no UTF-8")),
-            }
+            written(alloc, &value)
         }
     }
 }
@@ -365,6 +375,92 @@ fn check_endings(alloc: Global, table: &[(&str, &str)]) -> Result<(), Fail> {
 #[test]
 fn members_end(rt: HostRuntime) -> Result<(), Fail> {
     check_endings(rt.alloc(), &ENDINGS)
+}
+
+// Objects, and their members by `next`: in the order of the bytes of their names, without comments.
+static NAMED: [(&str, &str); 6] = [
+    ("{}", ""),
+    ("{\"#\":1,\"#b\":2}", ""),
+    ("{\"b\":1,\"#c\":2,\"a\":3,\"b\":4}", "a=3 b=4 "),
+    (
+        "{\"\u{e9}\":1,\"z\":2,\"Z\":3,\"#\":4}",
+        "Z=3 z=2 \u{e9}=1 ",
+    ),
+    ("{\"$\":1,\"#\":2,\"!\":3,\"\":4}", "=4 !=3 $=1 "),
+    ("{\"a#\":1,\"\\u0023\":2}", "a#=1 "),
+];
+
+fn named(alloc: Global, text: &str) -> Result<String, Fail> {
+    let mut fields = opened(alloc, text)?;
+    let mut told = String::new(alloc);
+    for _member in 0..9 {
+        let Some((name, value)) = fields.next() else {
+            break;
+        };
+        let count = read_count(alloc, value, "n", 0, 9)?;
+        told.push_str(format!(in alloc; "{name}={count} ")?.as_str())?;
+    }
+    fields.end(alloc)?;
+    Ok(told)
+}
+
+fn check_named(alloc: Global, table: &[(&str, &str)]) -> Result<(), Fail> {
+    for (text, expected) in table {
+        let told = named(alloc, text)?;
+        if told.as_str() != *expected {
+            return Err(Fail::new(format_args!("{text} is told {told}")));
+        }
+    }
+    Ok(())
+}
+
+#[test]
+fn members_by_their_names(rt: HostRuntime) -> Result<(), Fail> {
+    assert!(rt; is_comment("#") && is_comment("#a") && !is_comment("") && !is_comment("a#"));
+    check_named(rt.alloc(), &NAMED)
+}
+
+// Texts, the most levels that are taken, and what is written again of the tree; nothing where the text
+// may not be kept.
+static KEPT: [(&str, usize, &str); 11] = [
+    ("null", 0, "null"),
+    ("[]", 0, ""),
+    ("[]", 1, "[]"),
+    (" { \"b\" : [ ] , \"a\" : 1 } ", 2, "{\"a\":1,\"b\":[]}"),
+    ("{\"b\":[]}", 1, ""),
+    ("[1.5]", 64, ""),
+    ("[-0]", 64, ""),
+    ("18446744073709551615", 64, "18446744073709551615"),
+    ("18446744073709551616", 64, ""),
+    ("", 64, ""),
+    ("[1]]", 64, ""),
+];
+
+fn kept(alloc: Global, text: &str, most: usize) -> Result<String, Fail> {
+    if most > 64 || !is_tree_text(alloc, text, most)? {
+        return Ok(String::new(alloc));
+    }
+    let text = Text::new(alloc, text)?;
+    let value = read_kept(alloc, &text)?;
+    if !is_whole(&value) {
+        return Err(Fail::new("not whole"));
+    }
+    written(alloc, &value)
+}
+
+fn check_kept(alloc: Global, table: &[(&str, usize, &str)]) -> Result<(), Fail> {
+    for (text, most, expected) in table {
+        let told = kept(alloc, text, *most)?;
+        if told.as_str() != *expected {
+            return Err(Fail::new(format_args!("{text} is told {told}")));
+        }
+    }
+    Ok(())
+}
+
+#[test]
+fn texts_that_are_kept(rt: HostRuntime) -> Result<(), Fail> {
+    check_kept(rt.alloc(), &KEPT)
 }
 
 // The text of a value or of its refusal.
