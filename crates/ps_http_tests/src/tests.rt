@@ -48,8 +48,19 @@ impl<S: Source> Source for Pieces<S> {
 }
 
 fn reader(alloc: Global, bytes: &[u8], most: usize) -> Result<Reader<Pieces<MemorySource>>, Fail> {
+    failing_reader(alloc, bytes, most, &[])
+}
+
+/// A reader of bytes in such pieces, of which these calls fail.
+fn failing_reader(
+    alloc: Global,
+    bytes: &[u8],
+    most: usize,
+    failing: &[u64],
+) -> Result<Reader<Pieces<MemorySource>>, Fail> {
+    let failing = failing.to_vec(alloc)?;
     let bytes = bytes.to_vec(alloc)?;
-    let inner = MemorySource::new(bytes, Vec::new(alloc));
+    let inner = MemorySource::new(bytes, failing);
     match Reader::new(alloc, Pieces { inner, most }) {
         Ok(reader) => Ok(reader),
         Err(_) => Err(AllocError.into()),
@@ -77,13 +88,22 @@ fn kept_word(request: &Request) -> &'static str {
     if request.close { "close" } else { "ok" }
 }
 
+/// What the next request comes to, where so many bytes are left.
+fn next_outcome(
+    alloc: Global,
+    reader: &mut Reader<Pieces<MemorySource>>,
+    count: usize,
+) -> &'static str {
+    match reader.read_request(alloc, LIMITS) {
+        Ok(Some(request)) => kept_word(&request),
+        Ok(None) => "none",
+        Err(fault) => word(fault, count),
+    }
+}
+
 fn request_outcome(alloc: Global, bytes: &[u8], most: usize) -> Result<&'static str, Fail> {
     let mut reader = reader(alloc, bytes, most)?;
-    match reader.read_request(alloc, LIMITS) {
-        Ok(Some(request)) => Ok(kept_word(&request)),
-        Ok(None) => Ok("none"),
-        Err(fault) => Ok(word(fault, bytes.len())),
-    }
+    Ok(next_outcome(alloc, &mut reader, bytes.len()))
 }
 
 fn response_outcome(alloc: Global, bytes: &[u8], most: usize) -> Result<&'static str, Fail> {
@@ -346,17 +366,29 @@ fn head_outcome(
     request_outcome(alloc, &head.as_slice()[..count], 0)
 }
 
-// A head of 16,384 bytes and one of 16,385, 64 fields and 65, and heads without an end.
+// The fields, the padding, how many bytes come, and what is expected: a head of 16,384 bytes and one of
+// 16,385, 64 fields and 65, and heads without an end.
+static HEADS: [(usize, usize, usize, &str); 6] = [
+    (1, 16_358, 20_000, "ok"),
+    (1, 16_359, 20_000, "large"),
+    (64, 1, 20_000, "ok"),
+    (65, 1, 20_000, "large"),
+    (1, 20_000, 16_384, "large"),
+    (1, 20_000, 16_383, "inside"),
+];
+
+fn check_heads(alloc: Global, cases: &[(usize, usize, usize, &str)]) -> Result<(), Fail> {
+    for (fields, padding, count, wanted) in cases {
+        if head_outcome(alloc, *fields, *padding, *count)? != *wanted {
+            return Err(Fail::new(format_args!("{fields} fields, {padding}, {count}")));
+        }
+    }
+    Ok(())
+}
+
 #[test]
 fn the_limits_of_a_head(rt: HostRuntime) -> Result<(), Fail> {
-    let alloc = rt.alloc();
-    assert_eq!(rt; head_outcome(alloc, 1, 16_358, 20_000)?, "ok");
-    assert_eq!(rt; head_outcome(alloc, 1, 16_359, 20_000)?, "large");
-    assert_eq!(rt; head_outcome(alloc, 64, 1, 20_000)?, "ok");
-    assert_eq!(rt; head_outcome(alloc, 65, 1, 20_000)?, "large");
-    assert_eq!(rt; head_outcome(alloc, 1, 20_000, 16_384)?, "large");
-    assert_eq!(rt; head_outcome(alloc, 1, 20_000, 16_383)?, "inside");
-    Ok(())
+    check_heads(rt.alloc(), &HEADS)
 }
 
 fn with_body(alloc: Global, count: usize) -> Result<Vec<u8>, Fail> {
@@ -367,55 +399,24 @@ fn with_body(alloc: Global, count: usize) -> Result<Vec<u8>, Fail> {
     Ok(bytes)
 }
 
-fn reads_one(alloc: Global, reader: &mut Reader<Pieces<MemorySource>>) -> bool {
-    matches!(reader.read_request(alloc, LIMITS), Ok(Some(_)))
-}
-
-fn next_fault(alloc: Global, reader: &mut Reader<Pieces<MemorySource>>) -> Option<HttpFault> {
-    match reader.read_request(alloc, LIMITS) {
-        Ok(_) => None,
-        Err(fault) => Some(fault),
-    }
-}
-
 // One byte more than the body begins the next message.
 #[test]
 fn the_limit_of_a_body(rt: HostRuntime) -> Result<(), Fail> {
     let alloc = rt.alloc();
     let bytes = with_body(alloc, 1_048_577)?;
     let mut reader = reader(alloc, bytes.as_slice(), 0)?;
-    assert!(rt; reads_one(alloc, &mut reader));
-    assert_eq!(rt;
-        next_fault(alloc, &mut reader),
-        Some(HttpFault::EndInside(1))
-    );
-    assert_eq!(rt;
-        next_fault(alloc, &mut reader),
-        Some(HttpFault::AfterRefusal)
-    );
+    assert_eq!(rt; next_outcome(alloc, &mut reader, 1), "ok");
+    assert_eq!(rt; next_outcome(alloc, &mut reader, 1), "inside");
+    assert_eq!(rt; next_outcome(alloc, &mut reader, 1), "after");
     Ok(())
-}
-
-fn failing_reader(
-    alloc: Global,
-    bytes: &[u8],
-    call: u64,
-) -> Result<Reader<Pieces<MemorySource>>, Fail> {
-    let failing = [call].to_vec(alloc)?;
-    let bytes = bytes.to_vec(alloc)?;
-    let inner = MemorySource::new(bytes, failing);
-    match Reader::new(alloc, Pieces { inner, most: 100 }) {
-        Ok(reader) => Ok(reader),
-        Err(_) => Err(AllocError.into()),
-    }
 }
 
 /// Whether reading meets that fault once, and then reads nothing.
 fn fails_once(alloc: Global, bytes: &[u8], call: u64) -> Result<bool, Fail> {
-    let mut reader = failing_reader(alloc, bytes, call)?;
+    let mut reader = failing_reader(alloc, bytes, 100, &[call])?;
     let mut faults = 0u32;
     for _ in 0..4 {
-        if next_fault(alloc, &mut reader) == Some(HttpFault::ReadFault) {
+        if next_outcome(alloc, &mut reader, 0) == "fault" {
             faults = faults.saturating_add(1);
         }
     }
