@@ -5,7 +5,8 @@ use plugin_core::fault::SpecFault;
 use plugin_core::read_test::read_test;
 use plugin_core::test_spec::TestSpec;
 use plugin_core::write_test::{law_test, write_test};
-use ps_json::tree::{read_tree, write_tree};
+use ps_json::tree::{read_tree, write_text};
+use ps_time::text::Text;
 use std::alloc::Global;
 use std::test::Fail;
 
@@ -168,29 +169,31 @@ static OTHERS: [(&str, &str); 20] = [
     (r#"{"type":"Idle","spec":{}}"#, "unknown test Idle"),
 ];
 
-fn fault_text(alloc: Global, fault: SpecFault) -> Result<String, Fail> {
-    match fault {
-        SpecFault::Json(inner) => Ok(format!(in alloc; "{inner}")?),
-        SpecFault::BadTime(member, inner) => Ok(format!(in alloc; "bad time {member} {inner:?}")?),
-        SpecFault::UnknownTest(name) => Ok(format!(in alloc; "unknown test {name}")?),
-        SpecFault::BadSpec(member) => Ok(format!(in alloc; "bad spec {member}")?),
-        SpecFault::Memory => Err(Fail::new("out of memory")),
-    }
+fn fault_text(alloc: Global, fault: &SpecFault) -> Result<Text, Fail> {
+    let text = match fault {
+        SpecFault::Json(inner) => format!(in alloc; "{inner}")?,
+        SpecFault::BadTime(member, inner) => format!(in alloc; "bad time {member} {inner:?}")?,
+        SpecFault::UnknownTest(name) => format!(in alloc; "unknown test {name}")?,
+        SpecFault::BadSpec(member) => format!(in alloc; "bad spec {member}")?,
+        SpecFault::Memory => return Err(Fail::new("out of memory")),
+    };
+    Ok(Text::from_string(text))
 }
 
-fn written(alloc: Global, test: &TestSpec) -> Result<String, Fail>
+fn written(alloc: Global, test: &TestSpec) -> Result<Text, Fail>
     requires { IsTest test.now }
 {
     let value = write_test(alloc, test)?;
-    match String::from_utf8(write_tree(alloc, &value)?) {
-        Ok(text) => Ok(text),
-        Err(_) => Err(Fail::new("no UTF-8")),
-    }
+    Ok(write_text(alloc, &value)?)
 }
 
-fn told(alloc: Global, text: &str) -> Result<String, Fail> {
+fn told(alloc: Global, text: &str) -> Result<Text, Fail> {
     match read_test(alloc, read_tree(alloc, text.as_bytes())?) {
-        Err(fault) => fault_text(alloc, fault),
+        Err(fault) => {
+            let text = fault_text(alloc, &fault);
+            drop(fault);
+            text
+        }
         Ok(test) => written(alloc, &test),
     }
 }
@@ -198,7 +201,7 @@ fn told(alloc: Global, text: &str) -> Result<String, Fail> {
 fn check(alloc: Global, table: &[(&str, &str)]) -> Result<(), Fail> {
     for (text, expected) in table {
         let told = told(alloc, text)?;
-        if told.as_str() != *expected {
+        if !told.is(expected) {
             return Err(Fail::new(format_args!("{text} is told {told}")));
         }
     }

@@ -84,7 +84,7 @@ fn read(alloc: Global, text: &str) -> Result<TestSpec, Fail>
     }
 }
 
-fn joined(alloc: Global, names: &Items<Text>) -> Result<String, Memory> {
+fn joined(alloc: Global, names: &[Text]) -> Result<String, Memory> {
     let mut text = String::new(alloc);
     for name in names {
         text.push_str(" ")?;
@@ -93,12 +93,22 @@ fn joined(alloc: Global, names: &Items<Text>) -> Result<String, Memory> {
     Ok(text)
 }
 
+fn tools(alloc: Global, test: &TestSpec) -> Result<String, Memory> {
+    let installed = names(alloc, "snooze sleepbgm simplestreamer ping sleep")?;
+    let tools = tools_for(alloc, test, installed.as_slice())?;
+    joined(alloc, tools.as_slice())
+}
+
+fn hosts(alloc: Global, test: &TestSpec, lead: &str) -> Result<String, Memory> {
+    let hosts = participants_of(alloc, test, lead)?;
+    joined(alloc, hosts.as_slice())
+}
+
 // The tools for a test, the participants under this lead, the parts of `a` and `b`, and whether `c`
 // takes part.
 fn parts(alloc: Global, test: &TestSpec, lead: &str) -> Result<String, Fail> {
-    let installed = names(alloc, "snooze sleepbgm simplestreamer ping sleep")?;
-    let tools = joined(alloc, &tools_for(alloc, test, installed.as_slice())?)?;
-    let hosts = joined(alloc, &participants_of(alloc, test, lead)?)?;
+    let tools = tools(alloc, test)?;
+    let hosts = hosts(alloc, test, lead)?;
     let a = role_of(test, lead, "a");
     let b = role_of(test, lead, "b");
     let c = is_participant(test, lead, "c");

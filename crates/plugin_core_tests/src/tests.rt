@@ -112,37 +112,66 @@ fn simplestream_is_normal_and_takes_dawdle_and_timeout(rt: HostRuntime) -> Resul
     Ok(())
 }
 
+fn one_of_each(alloc: Global) -> Result<Vec<TestSpec>, Memory> {
+    let mut tests = Vec::new(alloc);
+    tests.push(idle(alloc)?)?;
+    tests.push(idleex(alloc)?)?;
+    tests.push(idlebgm())?;
+    tests.push(idlemany(alloc)?)?;
+    tests.push(simplestream(alloc)?)?;
+    Ok(tests)
+}
+
+// How many of the tests are the same as this one.
+fn count_same(test: &TestSpec, tests: &[TestSpec]) -> u64 {
+    let mut count = 0_u64;
+    for other in tests {
+        if test.same(other) {
+            count = count.saturating_add(1);
+        }
+    }
+    count
+}
+
+fn is_copied(alloc: Global, test: &TestSpec, tests: &[TestSpec]) -> Result<bool, Memory> {
+    let copy = test.copy(alloc)?;
+    Ok(copy.same(test) && count_same(&copy, tests) == 1)
+}
+
+fn are_copied(alloc: Global, tests: &[TestSpec]) -> Result<bool, Memory> {
+    for test in tests {
+        if !is_copied(alloc, test, tests)? {
+            return Ok(false);
+        }
+    }
+    Ok(tests.len() == 5)
+}
+
 #[test]
 fn copies(rt: HostRuntime) -> Result<(), Fail> {
-    let alloc = rt.alloc();
-    let tests = [
-        idle(alloc)?,
-        idleex(alloc)?,
-        idlebgm(),
-        idlemany(alloc)?,
-        simplestream(alloc)?,
-    ];
-    for test in tests.iter() {
-        let copy = test.copy(alloc)?;
-        assert!(rt; copy.same(test));
-        let alike = tests.iter().filter(|other| copy.same(other)).count();
-        assert_eq!(rt; alike, 1);
+    let tests = one_of_each(rt.alloc())?;
+    assert!(rt; are_copied(rt.alloc(), tests.as_slice())?);
+    Ok(())
+}
+
+static NAMES: [(Tool, &str); 4] = [
+    (Tool::Sleep, "sleep"),
+    (Tool::Snooze, "snooze"),
+    (Tool::Sleepbgm, "sleepbgm"),
+    (Tool::Simplestreamer, "simplestreamer"),
+];
+
+fn check_names(alloc: Global, table: &[(Tool, &str)]) -> Result<(), Fail> {
+    for (tool, name) in table {
+        let text = format!(in alloc; "{tool}")?;
+        if tool_name(*tool) != *name || text.as_str() != *name {
+            return Err(Fail::new(format_args!("{name} is shown as {text}")));
+        }
     }
     Ok(())
 }
 
 #[test]
 fn names(rt: HostRuntime) -> Result<(), Fail> {
-    let names = [
-        (Tool::Sleep, "sleep"),
-        (Tool::Snooze, "snooze"),
-        (Tool::Sleepbgm, "sleepbgm"),
-        (Tool::Simplestreamer, "simplestreamer"),
-    ];
-    for (tool, name) in names {
-        assert!(rt; tool_name(tool) == name);
-        let text = format!(in rt.alloc(); "{tool}")?;
-        assert!(rt; text.as_str() == name);
-    }
-    Ok(())
+    check_names(rt.alloc(), &NAMES)
 }
