@@ -2,20 +2,11 @@
 #![tactic(auto)]
 
 use ps_ports::adapters::{ReaderSource, WriterSink};
-use psched::{OUT_OF_MEMORY, psched};
+use psched_top::psched::{OUT_OF_MEMORY, psched};
 use std::alloc::Global;
 use std::io::ErrorKind;
 use std::process::ExitCode;
 use std::{env, io};
-
-mod command;
-mod limits;
-#[cfg(test)]
-mod limits_tests;
-mod outcome;
-mod psched;
-#[cfg(test)]
-mod tests;
 
 fn words_of(rt: &HostRuntime, alloc: Global) -> io::Result<Vec<String>> {
     match env::args(rt) {

@@ -1,0 +1,74 @@
+-- Why an outcome comes, from what a reading gave.
+use Rattle.std.proofs.Common.{◌≡◌, ◌≤◌, ◌<◌, ℕ, Bool, true, length, List, [], Option, Some, None, Result, Ok, Err, IfOk, IfSome, inl, inr, refl, ap, subst, ◌∙◌, arith, rules, tests}
+use Rattle.ps_ports.specs.All.{GaveAll, GaveMoreThan, HeldMoreThan}
+use Rattle.ps_ports.specs.Causes.{Rose}
+use Rattle.ps_ports.specs.declared.fault.AllFault.{AllFault}
+use Rattle.ps_ports.specs.declared.fault.AllFault.TheVariants.{TooLong as MoreCame, ReadFault, Memory}
+use Rattle.psched_top.specs.declared.command.Command.{Command}
+use Rattle.psched_top.specs.declared.command.Command.TheVariants.{Rehearse, ValidateLimits, Help, Version}
+use Rattle.psched_top.specs.declared.outcome.Outcome.{Outcome}
+use Rattle.psched_top.specs.declared.outcome.Outcome.TheVariants.{TooLong, CannotRead}
+use Rattle.psched_top.specs.Command.{takes_input}
+use Rattle.psched_top.specs.Outcome.{most_bytes, outcome_of, status_of, unread_of}
+use Rattle.psched_top.specs.Psched.{Comes, Exactly, IsChecked, IsGiven, IsSafeReport, IsRehearsed, IsValid, Told}
+
+-- what holds of the bytes of a source that was read to its end
+pub rehearsed_of : (held left : Option (List ℕ)) (bytes : List ℕ) (outcome : Outcome) → GaveAll held left bytes → IsSafeReport bytes outcome → IsRehearsed held left outcome
+rehearsed_of None left bytes outcome gave s = (record { input = bytes; all = tt; ended = tt; script = s.script; grammar = s.grammar; safe = s.safe }, s.report)
+rehearsed_of (Some held) left bytes outcome gave s = (record { input = bytes; all = gave.0; ended = gave.1; script = s.script; grammar = s.grammar; safe = s.safe }, s.report)
+
+pub checked_of : (held left : Option (List ℕ)) (bytes : List ℕ) (outcome : Outcome) → GaveAll held left bytes → IsValid bytes outcome → IsChecked held left outcome
+checked_of None left bytes outcome gave v = (record { input = bytes; all = tt; ended = tt; config = v.config; grammar = v.grammar }, v.counts)
+checked_of (Some held) left bytes outcome gave v = (record { input = bytes; all = gave.0; ended = gave.1; config = v.config; grammar = v.grammar }, v.counts)
+
+-- more bytes than a command takes
+too_long : (command : Option Command) (input : List ℕ) → takes_input command ≡ true → most_bytes < length input → TooLong ≡ outcome_of command input
+too_long None input reads more = absurd (cc)
+too_long (Some Help) input reads more = absurd (cc)
+too_long (Some Version) input reads more = absurd (cc)
+too_long (Some Rehearse) input reads more = search (rules, tests)
+too_long (Some ValidateLimits) input reads more = search (rules, tests)
+
+given_too_long : (command : Option Command) (held left : Option (List ℕ)) → takes_input command ≡ true → GaveMoreThan most_bytes held left → HeldMoreThan most_bytes held
+    → IsGiven command held TooLong
+given_too_long command None left reads gave more = record { input = gave.0; all = tt; given = too_long command gave.0 reads gave.2 }
+given_too_long command (Some held) left reads gave more = record { input = held; all = refl; given = too_long command held reads more }
+
+-- a source that didn't give a whole input has its cause
+pub comes_unread : (command : Option Command) (held left : Option (List ℕ)) (before now : ℕ) (fault : AllFault) (outcome : Outcome) → takes_input command ≡ true
+    → (fault ≡ MoreCame → GaveMoreThan most_bytes held left) → (fault ≡ MoreCame → HeldMoreThan most_bytes held) → (fault ≡ ReadFault → Rose before now)
+    → unread_of fault ≡ Some outcome → Comes command held before now outcome
+comes_unread command held left before now MoreCame outcome reads gave more rose is =
+    let same : TooLong ≡ outcome = cc in
+    subst (Comes command held before now) same (inl (given_too_long command held left reads (gave refl) (more refl)))
+comes_unread command held left before now ReadFault outcome reads gave more rose is =
+    let same : outcome ≡ CannotRead = cc in
+    inr (record { fault = same; reads = reads; cause = rose refl })
+comes_unread command held left before now Memory outcome reads gave more rose is = absurd (cc)
+
+pub unread_fails : (fault : AllFault) (outcome : Outcome) → unread_of fault ≡ Some outcome → status_of outcome ≡ 0 → ⊥
+unread_fails MoreCame outcome is zero =
+    let same : TooLong ≡ outcome = cc in
+    omega (arith, ap status_of same ∙ zero)
+unread_fails ReadFault outcome is zero =
+    let same : CannotRead ≡ outcome = cc in
+    omega (arith, ap status_of same ∙ zero)
+unread_fails Memory outcome is zero = absurd (cc)
+
+-- a command that takes every input alike
+pub given_unread : (asked : Option Command) (held : Option (List ℕ)) (outcome : Outcome) → ((input : List ℕ) → outcome ≡ outcome_of asked input) → IsGiven asked held outcome
+given_unread asked None outcome same = record { input = []; all = tt; given = same [] }
+given_unread asked (Some held) outcome same = record { input = held; all = refl; given = same held }
+
+pub exactly_given : (asked : Option Command) (held : List ℕ) (old new : Option (List ℕ)) (outcome : Outcome) (status : ℕ) → IsGiven asked (Some held) outcome
+    → Exactly outcome old new status → Exactly (outcome_of asked held) old new status
+exactly_given asked held old new outcome status given is = subst (λ o. Exactly o old new status) (given.given ∙ ap (outcome_of asked) given.all) is
+
+-- a source that tells its bytes leaves no choice below status 3
+pub exactly_of : (asked : Option Command) (held : Option (List ℕ)) (before now : ℕ) (old new : Option (List ℕ)) (status : ℕ) → Told asked held before now old new status
+    → status ≤ 2 → IfSome held (λ bytes. Exactly (outcome_of asked bytes) old new status)
+exactly_of asked None before now old new status told low = tt
+exactly_of asked (Some held) before now old new status told low = by_cause told.comes where
+  by_cause : Comes asked (Some held) before now told.outcome → Exactly (outcome_of asked held) old new status
+  by_cause (inl given) = exactly_given asked held old new told.outcome status given (told.status_is, told.written)
+  by_cause (inr fault) = absurd (omega (arith, low, told.status_is ∙ ap status_of fault.fault))

@@ -1,0 +1,161 @@
+//! The top call: psched over any source and sink.
+ghost use Rattle.std.specs.Prelude.{◌≡◌, ◌≢◌, ◌≤◌, ◌<◌, true, false, Some, None, IfOk, IfSome, IsErr};
+ghost use Rattle.std.specs.Io.KnownBytes.{Appends};
+ghost use Rattle.ps_ports.specs.All.{WrotePrefix};
+ghost use Rattle.ps_ports.specs.Causes.{Rose};
+ghost use Rattle.psched_rehearse.specs.Script.{script_of};
+ghost use Rattle.psched_top.specs.Command.{asked, takes_input};
+ghost use Rattle.psched_top.specs.Outcome.{outcome_of, outcome_of_script, status_of, text_of, unread_of};
+ghost use Rattle.psched_top.specs.Psched.{Comes, CutShort, Exactly, IsChecked, IsRehearsed, IsSafeReport, Reported, Told, Validated};
+
+use crate::command::{Command, read_command};
+use crate::limits::validate_bytes;
+use crate::outcome::Outcome;
+use ps_ports::all::{read_all, write_all};
+use ps_ports::fault::AllFault;
+use ps_ports::sink::Sink;
+use ps_ports::source::Source;
+use ps_time::memory::Memory;
+use ps_time::text::Text;
+use psched_rehearse::read::read_script;
+use psched_rehearse::rehearse::rehearse;
+use psched_rehearse::script::ScriptFault;
+use std::alloc::Global;
+
+// The most bytes of an input.
+const MAX_INPUT: u64 = 67_108_864;
+
+// The status where the sink failed.
+const WRITE_FAULT: u8 = 4;
+
+/// The status where memory was wanting.
+pub const OUT_OF_MEMORY: u8 = 10;
+
+fn rehearse_bytes(alloc: Global, bytes: &[u8]) -> Result<Outcome, Memory>
+    ensures given { IfOk result (λ outcome. outcome ≡ outcome_of_script (script_of bytes.now)) }
+    ensures safe { IfOk result (λ outcome. status_of outcome ≡ 0 → IsSafeReport bytes.now outcome) }
+{
+    match read_script(alloc, bytes) {
+        Ok(script) => Ok(Outcome::Report(rehearse(alloc, &script)?.report)),
+        Err(ScriptFault::Memory) => Err(Memory),
+        Err(fault) => {
+            let line = format!(in alloc; "{fault}\n")?;
+            Ok(Outcome::Refused(Text::from_string(line)))
+        }
+    }
+}
+
+// What a command comes to whose input didn't come whole.
+fn without_input(fault: AllFault) -> Result<Outcome, Memory>
+    ensures { IfOk result (λ outcome. unread_of fault ≡ Some outcome) }
+{
+    match fault {
+        AllFault::TooLong => Ok(Outcome::TooLong),
+        AllFault::ReadFault => Ok(Outcome::CannotRead),
+        AllFault::Memory => Err(Memory),
+    }
+}
+
+fn rehearse_source<S: Source>(alloc: Global, source: &mut S) -> Result<Outcome, Memory>
+    ensures comes { IfOk result (Comes (Some Command.Rehearse) (S.left source.old) (S.read_faults source.old) (S.read_faults source.new)) }
+    ensures rehearsed { IfOk result (λ outcome. status_of outcome ≡ 0 → IsRehearsed (S.left source.old) (S.left source.new) outcome) }
+    ensures later { S.read_faults source.old ≤ S.read_faults source.new }
+    ensures kept { S.kept source.old source.new }
+{
+    match read_all(alloc, source, MAX_INPUT) {
+        Ok(bytes) => rehearse_bytes(alloc, &bytes),
+        Err(fault) => without_input(fault),
+    }
+}
+
+fn validate_source<S: Source>(alloc: Global, source: &mut S) -> Result<Outcome, Memory>
+    ensures comes { IfOk result (Comes (Some Command.ValidateLimits) (S.left source.old) (S.read_faults source.old) (S.read_faults source.new)) }
+    ensures validated { IfOk result (λ outcome. status_of outcome ≡ 0 → IsChecked (S.left source.old) (S.left source.new) outcome) }
+    ensures later { S.read_faults source.old ≤ S.read_faults source.new }
+    ensures kept { S.kept source.old source.new }
+{
+    match read_all(alloc, source, MAX_INPUT) {
+        Ok(bytes) => validate_bytes(alloc, &bytes),
+        Err(fault) => without_input(fault),
+    }
+}
+
+fn run<S: Source>(alloc: Global, words: &[String], source: &mut S) -> Result<Outcome, Memory>
+    ensures comes { IfOk result (Comes (asked words.now) (S.left source.old) (S.read_faults source.old) (S.read_faults source.new)) }
+    ensures rehearsed { IfOk result (λ outcome. status_of outcome ≡ 0 → asked words.now ≡ Some Command.Rehearse → IsRehearsed (S.left source.old) (S.left source.new) outcome) }
+    ensures validated { IfOk result (λ outcome. status_of outcome ≡ 0 → asked words.now ≡ Some Command.ValidateLimits → IsChecked (S.left source.old) (S.left source.new) outcome) }
+    ensures memory { IsErr result → takes_input (asked words.now) ≡ true }
+    ensures unread { takes_input (asked words.now) ≡ false → source.new ≡ source.old }
+    ensures later { S.read_faults source.old ≤ S.read_faults source.new }
+    ensures kept { S.kept source.old source.new }
+{
+    match read_command(words) {
+        Some(Command::Rehearse) => rehearse_source(alloc, source),
+        Some(Command::ValidateLimits) => validate_source(alloc, source),
+        Some(Command::Help) => Ok(Outcome::Usage),
+        Some(Command::Version) => Ok(Outcome::Version),
+        None => Ok(Outcome::WrongWords),
+    }
+}
+
+fn tell<K: Sink>(sink: &mut K, outcome: &Outcome) -> u8
+    ensures done { result ≢ 4 → result ≡ status_of outcome.now }
+    ensures told { result ≢ 4 → Appends (K.written sink.old) (K.written sink.new) (text_of outcome.now) }
+    ensures fault { result ≡ 4 → Rose (K.write_faults sink.old) (K.write_faults sink.new) }
+    ensures prefix { result ≡ 4 → WrotePrefix (K.written sink.old) (K.written sink.new) (text_of outcome.now) }
+    ensures status { result ≤ 4 }
+    ensures later { K.write_faults sink.old ≤ K.write_faults sink.new }
+    ensures kept { K.sink_kept sink.old sink.new }
+{
+    match write_all(sink, outcome.text().as_bytes()) {
+        Ok(()) => outcome.status(),
+        Err(_) => WRITE_FAULT,
+    }
+}
+
+/// psched: does what the words ask for, with the source as its input and the sink as its output,
+/// and answers its exit status. docs/specification/program.md states the words and the statuses.
+/// The words leave out the program's name.
+pub fn psched<S: Source, K: Sink>(
+    alloc: Global,
+    words: &[String],
+    source: &mut S,
+    sink: &mut K,
+) -> u8
+    // The text of what it comes to was written whole, with that status.
+    ensures done { result ≤ 3 → Told (asked words.now) (S.left source.old) (S.read_faults source.old) (S.read_faults source.new) (K.written sink.old) (K.written sink.new) result }
+
+    // Status and text are these functions of the words and the whole input.
+    ensures exact { result ≤ 2 → IfSome (S.left source.old) (λ held. Exactly (outcome_of (asked words.now) held) (K.written sink.old) (K.written sink.new) result) }
+
+    // A rehearsal that succeeds wrote the report on its script, and no two booked runs of a host conflict.
+    ensures rehearsed { result ≡ 0 → asked words.now ≡ Some Command.Rehearse → Reported (S.left source.old) (S.left source.new) (K.written sink.old) (K.written sink.new) }
+
+    // A check that succeeds wrote how many entries the configuration has.
+    ensures validated { result ≡ 0 → asked words.now ≡ Some Command.ValidateLimits → Validated (S.left source.old) (S.left source.new) (K.written sink.old) (K.written sink.new) }
+
+    ensures wrong_words { result ≡ 1 → asked words.now ≡ None }
+    ensures read_fault { result ≡ 3 → Rose (S.read_faults source.old) (S.read_faults source.new) }
+    ensures write_fault { result ≡ 4 → Rose (K.write_faults sink.old) (K.write_faults sink.new) }
+
+    // A part of the front of the text that was due went out.
+    ensures prefix { result ≡ 4 → CutShort (asked words.now) (S.left source.old) (S.read_faults source.old) (S.read_faults source.new) (K.written sink.old) (K.written sink.new) }
+
+    // Want of memory, in a command that reads alone. Nothing was written.
+    ensures memory { 4 < result → result ≡ 10 }
+    ensures memory_wanted { result ≡ 10 → takes_input (asked words.now) ≡ true }
+    ensures memory_unsaid { result ≡ 10 → sink.new ≡ sink.old }
+
+    // The other commands, and words that aren't in the grammar, read nothing.
+    ensures unread { takes_input (asked words.now) ≡ false → source.new ≡ source.old }
+
+    ensures read_later { S.read_faults source.old ≤ S.read_faults source.new }
+    ensures write_later { K.write_faults sink.old ≤ K.write_faults sink.new }
+    ensures kept { S.kept source.old source.new }
+    ensures sink_kept { K.sink_kept sink.old sink.new }
+{
+    match run(alloc, words, source) {
+        Ok(outcome) => tell(sink, &outcome),
+        Err(Memory) => OUT_OF_MEMORY,
+    }
+}
