@@ -5,6 +5,7 @@ use Rattle.std.proofs.lemmas.Bool.Decides.{nat_tests}
 use Rattle.std.specs.List.{list_all}
 use Rattle.serde_json.specs.Data.{string}
 use Rattle.serde_json.specs.View.{items_of}
+use Rattle.ps_json.specs.Each.{read_each}
 use Rattle.ps_json.specs.Kinds.{items_list}
 use Rattle.ps_json.proofs.TreeLemmas.{items_list-items_of}
 use Rattle.ps_time.proofs.PictureLemmas.{and_true}
@@ -14,20 +15,18 @@ use Rattle.ps_time.specs.declared.moment.TheConstants.{MAX_LENGTH}
 use Rattle.plugin_core.specs.declared.test_spec.TestSpec.{TestSpec}
 use Rattle.plugin_core.specs.declared.test_spec.TestSpec.TheVariants.{Idle, Idleex, Idlebgm, Idlemany, Simplestream}
 use Rattle.plugin_core.specs.Bounds.{IsTest, IsComment}
-use Rattle.plugin_core.specs.ReadTest.{names_from, are_hosts, test_of}
+use Rattle.plugin_core.specs.ReadTest.{host_in, are_hosts, test_of}
 use Rattle.plugin_core.specs.WriteTest.{test_data}
 
 -- the names of hosts, one after another
-names_back : (name : List ℕ) (done names : List (List ℕ)) → list_all is_name names ≡ true → names_from name done (map string names) ≡ Ok (done ++ names)
-names_back name done [] are = ap Ok (sym (append-nil done))
-names_back name done (x ∷ xs) are =
-    let each = and_true (is_name x) (list_all is_name xs) are in
-    let more : names_from name (done ++ x ∷ []) (map string xs) ≡ Ok ((done ++ x ∷ []) ++ xs) = names_back name (done ++ x ∷ []) xs each.1 in
-    rw (each.0, more, append_assoc) refl
+names_back : (name : List ℕ) (names : List (List ℕ)) → list_all is_name names ≡ true → read_each (host_in name) (map string names) ≡ Ok names
+names_back name [] are = refl
+names_back name (x ∷ xs) are =
+    let each = and_true (is_name x) (list_all is_name xs) are in rw (each.0, names_back name xs each.1) refl
 
 -- the same, as the list that is read
-pub hosts_back : (name : List ℕ) (names : List (List ℕ)) → list_all is_name names ≡ true → names_from name [] (items_list (items_of (map string names))) ≡ Ok names
-hosts_back name names are = rw (items_list-items_of (map string names)) (names_back name [] names are)
+pub hosts_back : (name : List ℕ) (names : List (List ℕ)) → list_all is_name names ≡ true → read_each (host_in name) (items_list (items_of (map string names))) ≡ Ok names
+hosts_back name names are = rw (items_list-items_of (map string names)) (names_back name names are)
 
 abbrev Fits : Option (List ℕ) → Type 0
 Fits None = Unit {0}

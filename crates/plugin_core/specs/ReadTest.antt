@@ -1,6 +1,7 @@
 -- Which test a JSON tree is.
 use Rattle.std.specs.Prelude.{ℕ, ◌/◌, ◌+◌, Bool, true, not, ◌&&◌, ◌==◌, nat_lt, nat_le, List, [], ◌∷◌, ◌++◌, length, Option, Some, None, Result, Ok, Err, if◌then◌else◌, codes}
 use Rattle.serde_json.specs.Data.{Data, Members}
+use Rattle.ps_json.specs.Each.{read_each}
 use Rattle.ps_json.specs.Answer.{then_with, lifted}
 use Rattle.ps_json.specs.Fields.{without_member, end_of}
 use Rattle.ps_json.specs.Kinds.{count_of, text_of, list_of, members_of}
@@ -46,10 +47,6 @@ abbrev pub host_in : List ℕ → Data → Result (List ℕ) SpecFault
 host_in name d = then_with (in_json (text_of name d)) (λ bs. if is_name bs then Ok bs else Err (Json (WrongKind name)))
 
 -- the names of hosts
-abbrev pub names_from : List ℕ → List (List ℕ) → List Data → Result (List (List ℕ)) SpecFault
-names_from name done [] = Ok done
-names_from name done (d ∷ ds) = then_with (host_in name d) (λ bs. names_from name (done ++ bs ∷ []) ds)
-
 -- no name stands there twice
 abbrev pub all_differ : List (List ℕ) → Bool
 all_differ [] = true
@@ -61,7 +58,7 @@ are_hosts names = nat_le 2 (length names) && (nat_le (length names) most_partici
 
 abbrev pub hosts_in : List ℕ → Data → Result (List (List ℕ)) SpecFault
 hosts_in name d =
-    then_with (in_json (list_of name d)) (λ ds. then_with (names_from name [] ds) (λ names. if are_hosts names then Ok names else Err (BadSpec name)))
+    then_with (in_json (list_of name d)) (λ ds. then_with (read_each (host_in name) ds) (λ names. if are_hosts names then Ok names else Err (BadSpec name)))
 
 -- ---- specs of tests: their members, in the order in which they are read
 

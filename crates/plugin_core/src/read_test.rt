@@ -2,6 +2,7 @@
 ghost use Rattle.std.specs.Prelude.{◌≡◌, ◌≤◌, ◌+◌, [], true, length, map, None, IfOk, OnOk, codes};
 ghost use Rattle.std.specs.List.{list_all};
 ghost use Rattle.serde_json.specs.View.{view};
+ghost use Rattle.ps_json.specs.Each.{read_each};
 ghost use Rattle.ps_json.specs.Answer.{GivesUnless, then_with};
 ghost use Rattle.ps_json.specs.Fields.{without_member};
 ghost use Rattle.ps_time.specs.Name.{is_name};
@@ -11,7 +12,7 @@ ghost use Rattle.plugin_core.specs.Fault.{wrapped};
 ghost use Rattle.plugin_core.specs.TestSpec.{test_length};
 ghost use Rattle.plugin_core.specs.declared.test_spec.TestSpec.{TestSpec};
 ghost use Rattle.ps_json.specs.Member.{required, optional};
-ghost use Rattle.plugin_core.specs.ReadTest.{schema, length_in, duration_in, text_within, comment_in, host_in, names_from, all_differ, are_hosts, hosts_in, sleeping_of, after_sleeping, ended, idle_of, idleex_of, paced, idlebgm_of, idlemany_of, whole, simplestream_of, spec_of, kind_in, object_in, test_of};
+ghost use Rattle.plugin_core.specs.ReadTest.{schema, length_in, duration_in, text_within, comment_in, host_in, all_differ, are_hosts, hosts_in, sleeping_of, after_sleeping, ended, idle_of, idleex_of, paced, idlebgm_of, idlemany_of, whole, simplestream_of, spec_of, kind_in, object_in, test_of};
 
 use crate::fault::SpecFault;
 use crate::kind::{TestKind, read_kind};
@@ -199,7 +200,7 @@ fn read_idlebgm(alloc: Global, mut fields: Fields) -> Result<TestSpec, SpecFault
 }
 
 fn read_names(alloc: Global, values: Vec<Value>, name: &str) -> Result<Items<Text>, SpecFault>
-    ensures value { GivesUnless SpecFault.Memory result (names_from name.now [] (map view values.items)) }
+    ensures value { GivesUnless SpecFault.Memory result (read_each (host_in name.now) (map view values.items)) }
     ensures names { IfOk result (λ hosts. list_all is_name hosts ≡ true) }
 {
     let mut names = Items::new(alloc);
