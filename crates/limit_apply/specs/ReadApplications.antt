@@ -1,6 +1,7 @@
 -- Which applications and priorities a JSON tree is.
 use Rattle.std.specs.Prelude.{ℕ, ◌&&◌, ℤ, pos, negsuc, int_le, List, [], ◌∷◌, ◌++◌, Option, Some, None, Result, Ok, Err, if◌then◌else◌, false, codes}
 use Rattle.serde_json.specs.Data.{Data, Members}
+use Rattle.ps_json.specs.Each.{read_each}
 use Rattle.ps_json.specs.Answer.{then_with}
 use Rattle.ps_json.specs.Fields.{without_member}
 use Rattle.ps_json.specs.Kinds.{integer_of, list_of}
@@ -28,12 +29,8 @@ group_of ls d =
     member_then (codes "limits") (required wrapped (places_in ls)) ms (λ places ms.
     then_with (described ms) (λ _. Ok (record { require = require; limits = places })))))
 
-abbrev pub groups_from : List (Named Limit) → List Group → List Data → Result (List Group) LimitFault
-groups_from ls done [] = Ok done
-groups_from ls done (d ∷ ds) = then_with (group_of ls d) (λ g. groups_from ls (done ++ g ∷ []) ds)
-
 abbrev pub apply_in : List (Named Limit) → List ℕ → Data → Result (List Group) LimitFault
-apply_in ls name d = then_with (some_in name d) (groups_from ls [])
+apply_in ls name d = then_with (some_in name d) (read_each (group_of ls))
 
 abbrev pub told_of : List (Named Classifier) → List (Named Limit) → Members → Result Application LimitFault
 told_of cs ls ms =
@@ -53,12 +50,8 @@ application_of cs ls d =
     then_with (told_of cs ls ms) (λ application.
     then_with (described (after_told ms)) (λ _. Ok application)))
 
-abbrev pub applications_from : List (Named Classifier) → List (Named Limit) → List Application → List Data → Result (List Application) LimitFault
-applications_from cs ls done [] = Ok done
-applications_from cs ls done (d ∷ ds) = then_with (application_of cs ls d) (λ a. applications_from cs ls (done ++ a ∷ []) ds)
-
 abbrev pub applications_in : List (Named Classifier) → List (Named Limit) → List ℕ → Data → Result (List Application) LimitFault
-applications_in cs ls name d = then_with (some_in name d) (applications_from cs ls [])
+applications_in cs ls name d = then_with (some_in name d) (read_each (application_of cs ls))
 
 -- ---- priorities
 
@@ -81,12 +74,8 @@ entry_of cs d =
     let ms = without_member (codes "ceiling") (without_member (codes "classifier") ms) in
     then_with (described ms) (λ _. Ok entry)))
 
-abbrev pub entries_from : List (Named Classifier) → List Ceiling → List Data → Result (List Ceiling) LimitFault
-entries_from cs done [] = Ok done
-entries_from cs done (d ∷ ds) = then_with (entry_of cs d) (λ c. entries_from cs (done ++ c ∷ []) ds)
-
 abbrev pub entries_in : List (Named Classifier) → List ℕ → Data → Result (List Ceiling) LimitFault
-entries_in cs name d = then_with (in_json (list_of name d)) (entries_from cs [])
+entries_in cs name d = then_with (in_json (list_of name d)) (read_each (entry_of cs))
 
 abbrev pub default_of : Members → Result ℤ LimitFault
 default_of ms = optional (pos 0) ceiling_in (codes "default") ms

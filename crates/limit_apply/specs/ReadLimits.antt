@@ -2,6 +2,7 @@
 use Rattle.std.specs.Prelude.{ℕ, nat_lt, List, [], ◌∷◌, ◌++◌, Option, Some, None, Result, Ok, Err, if◌then◌else◌, false, bytes_eq, codes}
 use Rattle.serde_json.specs.Data.{Data, Members}
 use Rattle.serde_json.specs.Find.{get_member}
+use Rattle.ps_json.specs.Each.{read_each}
 use Rattle.ps_json.specs.Answer.{then_with}
 use Rattle.ps_json.specs.Fields.{without_member}
 use Rattle.ps_json.specs.declared.fault.JsonFault.TheVariants.{WrongKind}
@@ -56,12 +57,8 @@ length_in name d = then_with (text_in name d) (λ bs. timed name (length_of bs))
 abbrev pub moment_in : Round → List ℕ → Data → Result ℕ LimitFault
 moment_in round name d = then_with (text_in name d) (λ bs. timed name (moment_of round bs))
 
-abbrev pub names_from : List ℕ → List (List ℕ) → List Data → Result (List (List ℕ)) LimitFault
-names_from name done [] = Ok done
-names_from name done (d ∷ ds) = then_with (text_in name d) (λ bs. names_from name (done ++ bs ∷ []) ds)
-
 abbrev pub names_in : List ℕ → Data → Result (List (List ℕ)) LimitFault
-names_in name d = then_with (some_in name d) (names_from name [])
+names_in name d = then_with (some_in name d) (read_each (text_in name))
 
 -- `lower` and `upper`, of the length that is named first
 abbrev pub range_in : List ℕ → List ℕ → Data → Result Bounds LimitFault

@@ -2,6 +2,7 @@
 use Rattle.std.specs.Prelude.{ℕ, nat_lt, ◌&&◌, pos, negsuc, int_le, unsigned_abs, List, [], ◌∷◌, ◌++◌, is_some, Result, Ok, Err, if◌then◌else◌, false, codes}
 use Rattle.serde_json.specs.Data.{Data, Members}
 use Rattle.serde_json.specs.Find.{as_object}
+use Rattle.ps_json.specs.Each.{read_each}
 use Rattle.ps_json.specs.Answer.{then_with}
 use Rattle.ps_json.specs.Fields.{without_member}
 use Rattle.ps_json.specs.Kinds.{integer_of}
@@ -33,13 +34,8 @@ item_of least most place d =
     if is_some (as_object d) then range_in least most place d
     else then_with (number_in place least most place d) (λ n. Ok (record { lower = n; upper = n }))
 
-abbrev pub items_from : ℕ → ℕ → List ℕ → List Bounds → List Data → Result (List Bounds) LimitFault
-items_from least most place done [] = Ok done
-items_from least most place done (d ∷ ds) =
-    then_with (item_of least most place d) (λ range. items_from least most place (done ++ range ∷ []) ds)
-
 abbrev pub numbers_in : ℕ → ℕ → List ℕ → Data → Result (List Bounds) LimitFault
-numbers_in least most place d = then_with (some_in place d) (items_from least most place [])
+numbers_in least most place d = then_with (some_in place d) (read_each (item_of least most place))
 
 -- each list may be left out, and isn't empty where it is there
 abbrev pub schedule_of : Members → Result Schedule LimitFault

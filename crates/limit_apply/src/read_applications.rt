@@ -1,13 +1,14 @@
 //! The reader of applications and priorities.
 ghost use Rattle.std.specs.Prelude.{◌≡◌, ◌≤ℤ◌, pos, negsuc, [], map, option_map, codes, IfOk, OnOk};
 ghost use Rattle.serde_json.specs.View.{view};
+ghost use Rattle.ps_json.specs.Each.{read_each};
 ghost use Rattle.ps_json.specs.Answer.{GivesUnless};
 ghost use Rattle.ps_json.specs.Fields.{without_member};
 ghost use Rattle.ps_json.specs.Member.{required};
 ghost use Rattle.limit_ident.specs.Fault.{wrapped};
 ghost use Rattle.limit_ident.specs.ReadClassifiers.{require_in, places_in};
 ghost use Rattle.limit_ident.specs.Named.{place_in};
-ghost use Rattle.limit_apply.specs.ReadApplications.{group_of, groups_from, apply_in, told_of, after_told, application_of, applications_from, applications_in, ceiling_in, ceiling_of, entry_of, entries_from, default_of, ceilings_of, priorities_of};
+ghost use Rattle.limit_apply.specs.ReadApplications.{group_of, apply_in, told_of, after_told, application_of, applications_in, ceiling_in, ceiling_of, entry_of, default_of, ceilings_of, priorities_of};
 
 use crate::application::{Application, Group};
 use crate::limit::Limit;
@@ -63,7 +64,7 @@ fn read_groups(
     values: Vec<Value>,
     limits: &[Named<Limit>],
 ) -> Result<Items<Group>, LimitFault>
-    ensures { GivesUnless LimitFault.Memory result (groups_from limits.now [] (map view values.items)) }
+    ensures { GivesUnless LimitFault.Memory result (read_each (group_of limits.now) (map view values.items)) }
 {
     let mut groups = Items::new(alloc);
     for value in values {
@@ -142,7 +143,7 @@ fn read_entries(
     limits: &[Named<Limit>],
 ) -> Result<Items<Application>, LimitFault>
     ensures { GivesUnless LimitFault.Memory result
-        (applications_from classifiers.now limits.now [] (map view values.items)) }
+        (read_each (application_of classifiers.now limits.now) (map view values.items)) }
 {
     let mut entries = Items::new(alloc);
     for value in values {
@@ -221,7 +222,7 @@ fn read_ceilings(
     values: Vec<Value>,
     classifiers: &[Named<Classifier>],
 ) -> Result<Items<Ceiling>, LimitFault>
-    ensures { GivesUnless LimitFault.Memory result (entries_from classifiers.now [] (map view values.items)) }
+    ensures { GivesUnless LimitFault.Memory result (read_each (entry_of classifiers.now) (map view values.items)) }
 {
     let mut entries = Items::new(alloc);
     for value in values {

@@ -1,11 +1,13 @@
 //! The reader of limits.
 ghost use Rattle.std.specs.Prelude.{◌≡◌, [], map, option_map, codes, OnOk};
 ghost use Rattle.serde_json.specs.View.{view};
+ghost use Rattle.ps_json.specs.Each.{read_each};
 ghost use Rattle.ps_json.specs.Answer.{GivesUnless};
 ghost use Rattle.ps_json.specs.Fields.{without_member};
 ghost use Rattle.ps_json.specs.Member.{required, optional};
 ghost use Rattle.limit_ident.specs.Fault.{wrapped};
-ghost use Rattle.limit_apply.specs.ReadLimits.{kind_of, kind_in, pass_of, names_from, test_type_in, length_in, moment_in, range_in, bounds_in, some_bounds_in, lengths_in, test_in, dates_in, dates_of, times_in, rule_of, told_of, after_told, rest_of, limit_of, limits_from, limits_in};
+ghost use Rattle.limit_ident.specs.Member.{text_in};
+ghost use Rattle.limit_apply.specs.ReadLimits.{kind_of, kind_in, pass_of, test_type_in, length_in, moment_in, range_in, bounds_in, some_bounds_in, lengths_in, test_in, dates_in, dates_of, times_in, rule_of, told_of, after_told, rest_of, limit_of, limits_from, limits_in};
 
 use crate::bounds::Bounds;
 use crate::limit::{DateRange, Lengths, Limit, Rule};
@@ -73,7 +75,7 @@ fn read_pass_data(alloc: Global, value: Option<Value>) -> Result<Rule, LimitFaul
 }
 
 fn read_names(alloc: Global, values: Vec<Value>, name: &str) -> Result<Items<Text>, LimitFault>
-    ensures { GivesUnless LimitFault.Memory result (names_from name.now [] (map view values.items)) }
+    ensures { GivesUnless LimitFault.Memory result (read_each (text_in name.now) (map view values.items)) }
 {
     let mut names = Items::new(alloc);
     for value in values {

@@ -1,11 +1,12 @@
 //! The reader of schedules.
 ghost use Rattle.std.specs.Prelude.{◌≡◌, [], map, codes, OnOk};
 ghost use Rattle.serde_json.specs.View.{view};
+ghost use Rattle.ps_json.specs.Each.{read_each};
 ghost use Rattle.ps_json.specs.Answer.{GivesUnless};
 ghost use Rattle.ps_json.specs.Fields.{without_member};
 ghost use Rattle.ps_json.specs.Member.{required, optional};
 ghost use Rattle.limit_ident.specs.Fault.{wrapped};
-ghost use Rattle.limit_apply.specs.ReadSchedule.{number_in, range_in, item_of, items_from, numbers_in, schedule_of, after_schedule, schedule_in};
+ghost use Rattle.limit_apply.specs.ReadSchedule.{number_in, range_in, item_of, numbers_in, schedule_of, after_schedule, schedule_in};
 
 use crate::bounds::Bounds;
 use crate::schedule::Schedule;
@@ -98,7 +99,7 @@ fn read_items(
     least: u8,
     most: u8,
 ) -> Result<Items<Bounds>, LimitFault>
-    ensures { GivesUnless LimitFault.Memory result (items_from least most place.now [] (map view values.items)) }
+    ensures { GivesUnless LimitFault.Memory result (read_each (item_of least most place.now) (map view values.items)) }
 {
     let mut items = Items::new(alloc);
     for value in values {

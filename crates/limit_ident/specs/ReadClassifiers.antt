@@ -1,6 +1,7 @@
 -- Which classifiers a JSON tree is.
 use Rattle.std.specs.Prelude.{ℕ, List, [], ◌∷◌, ◌++◌, Option, Some, None, Result, Ok, Err, if◌then◌else◌, bytes_eq, codes}
 use Rattle.serde_json.specs.Data.{Data, Members}
+use Rattle.ps_json.specs.Each.{read_each}
 use Rattle.ps_json.specs.Answer.{then_with}
 use Rattle.ps_json.specs.declared.fault.JsonFault.TheVariants.{WrongKind}
 use Rattle.limit_ident.specs.declared.classifier.Classifier.{Classifier}
@@ -31,12 +32,8 @@ require_in name d = then_with (text_in name d) (λ bs. known (require_of bs))
     known (Some require) = Ok require
 
 -- the places of the entries that the items name
-abbrev pub places_from : {T : Type 0} → List (Named T) → List ℕ → List ℕ → List Data → Result (List ℕ) LimitFault
-places_from es name done [] = Ok done
-places_from es name done (d ∷ ds) = then_with (place_in es name d) (λ place. places_from es name (done ++ place ∷ []) ds)
-
 abbrev pub places_in : {T : Type 0} → List (Named T) → List ℕ → Data → Result (List ℕ) LimitFault
-places_in es name d = then_with (some_in name d) (places_from es name [])
+places_in es name d = then_with (some_in name d) (read_each (place_in es name))
 
 -- what stands behind the name
 abbrev pub rest_of : List (Named Identifier) → Members → Result Classifier LimitFault

@@ -2,6 +2,7 @@
 use Rattle.std.specs.Prelude.{ℕ, List, [], ◌∷◌, ◌++◌, Option, Some, None, Result, Ok, Err, if◌then◌else◌, false, bytes_eq, codes}
 use Rattle.serde_json.specs.Data.{Data, Members}
 use Rattle.serde_json.specs.Find.{get_member}
+use Rattle.ps_json.specs.Each.{read_each}
 use Rattle.ps_json.specs.Answer.{then_with}
 use Rattle.ps_json.specs.Fields.{without_member}
 use Rattle.ps_json.specs.declared.fault.JsonFault.TheVariants.{WrongKind}
@@ -77,12 +78,8 @@ block_in d = then_with (text_in (codes "cidrs") d) (λ bs. known bs (block_of bs
     known bs None = Err (BadCidr bs)
     known bs (Some block) = Ok block
 
-abbrev pub blocks_from : List Block → List Data → Result (List Block) LimitFault
-blocks_from done [] = Ok done
-blocks_from done (d ∷ ds) = then_with (block_in d) (λ block. blocks_from (done ++ block ∷ []) ds)
-
 abbrev pub blocks_in : List ℕ → Data → Result (List Block) LimitFault
-blocks_in name d = then_with (some_in name d) (blocks_from [])
+blocks_in name d = then_with (some_in name d) (read_each block_in)
 
 abbrev pub cidr_list_in : List ℕ → Data → Result Condition LimitFault
 cidr_list_in name d =

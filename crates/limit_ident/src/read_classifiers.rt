@@ -1,12 +1,14 @@
 //! The reader of classifiers.
 ghost use Rattle.std.specs.Prelude.{◌≡◌, ◌<◌, [], map, length, codes, IfOk, All};
 ghost use Rattle.serde_json.specs.View.{view};
+ghost use Rattle.ps_json.specs.Each.{read_each};
 ghost use Rattle.ps_json.specs.Answer.{GivesUnless};
 ghost use Rattle.ps_json.specs.Fields.{without_member};
 ghost use Rattle.ps_json.specs.Member.{required, optional};
 ghost use Rattle.limit_ident.specs.Fault.{wrapped};
 ghost use Rattle.limit_ident.specs.declared.require.Require.TheVariants.{Any as any};
-ghost use Rattle.limit_ident.specs.ReadClassifiers.{require_of, require_in, places_from, places_in, rest_of, classifier_of, classifiers_from, classifiers_of};
+ghost use Rattle.limit_ident.specs.Named.{place_in};
+ghost use Rattle.limit_ident.specs.ReadClassifiers.{require_of, require_in, places_in, rest_of, classifier_of, classifiers_from, classifiers_of};
 
 use crate::classifier::{Classifier, Classifiers};
 use crate::fault::LimitFault;
@@ -54,13 +56,13 @@ fn take_require(alloc: Global, fields: &mut Fields) -> Result<Require, LimitFaul
     }
 }
 
-fn read_each<T>(
+fn read_listed<T>(
     alloc: Global,
     values: Vec<Value>,
     name: &str,
     entries: &[Named<T>],
 ) -> Result<Items<usize>, LimitFault>
-    ensures value { GivesUnless LimitFault.Memory result (places_from entries.now name.now [] (map view values.items)) }
+    ensures value { GivesUnless LimitFault.Memory result (read_each (place_in entries.now name.now) (map view values.items)) }
     ensures within { IfOk result (λ places. All (λ place. place < length entries.now) places) }
 {
     let mut places = Items::new(alloc);
@@ -81,7 +83,7 @@ pub fn read_places<T>(
     ensures within { IfOk result (λ places. All (λ place. place < length entries.now) places) }
 {
     let values = read_some(alloc, value, name)?;
-    read_each(alloc, values, name, entries)
+    read_listed(alloc, values, name, entries)
 }
 
 fn need_identifiers(

@@ -1,11 +1,12 @@
 //! The reader of identifiers.
 ghost use Rattle.std.specs.Prelude.{◌≡◌, [], map, option_map, codes, OnOk};
 ghost use Rattle.serde_json.specs.View.{view};
+ghost use Rattle.ps_json.specs.Each.{read_each};
 ghost use Rattle.ps_json.specs.Answer.{GivesUnless};
 ghost use Rattle.ps_json.specs.Fields.{without_member};
 ghost use Rattle.ps_json.specs.Member.{required};
 ghost use Rattle.limit_ident.specs.Fault.{wrapped};
-ghost use Rattle.limit_ident.specs.ReadIdentifiers.{kind_of, kind_in, hint_in, style_in, match_in, hinted_in, block_in, blocks_from, cidr_list_in, always_of, condition_of, told_of, after_told, rest_of, identifier_of, identifiers_from, identifiers_of};
+ghost use Rattle.limit_ident.specs.ReadIdentifiers.{kind_of, kind_in, hint_in, style_in, match_in, hinted_in, block_in, cidr_list_in, always_of, condition_of, told_of, after_told, rest_of, identifier_of, identifiers_from, identifiers_of};
 
 use crate::address::{Block, read_block};
 use crate::fault::LimitFault;
@@ -106,7 +107,7 @@ fn read_block_in(alloc: Global, value: Value) -> Result<Block, LimitFault>
 }
 
 fn read_blocks(alloc: Global, values: Vec<Value>) -> Result<Items<Block>, LimitFault>
-    ensures { GivesUnless LimitFault.Memory result (blocks_from [] (map view values.items)) }
+    ensures { GivesUnless LimitFault.Memory result (read_each block_in (map view values.items)) }
 {
     let mut blocks = Items::new(alloc);
     for value in values {

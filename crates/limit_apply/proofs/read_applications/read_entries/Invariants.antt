@@ -1,9 +1,10 @@
-use Rattle.std.proofs.Common.{◌≡◌, [], map}
+use Rattle.std.proofs.Common.{◌≡◌, map}
 use Rattle.std.specs.Vec.Iter.{into_iter_items}
 use Rattle.serde_json.specs.View.{view}
-use Rattle.limit_apply.specs.ReadApplications.{applications_from}
+use Rattle.ps_json.specs.Each.{read_each, read_after}
+use Rattle.limit_apply.specs.ReadApplications.{application_of}
 use Rattle.limit_apply.proofs.read_applications.read_entries.Given as goal
 
 -- what is left decides
 abbrev pub invariant-loop-value : goal.invariant-loop-value
-invariant-loop-value l = applications_from l.classifiers l.limits [] (map view l.fn.values.items) ≡ applications_from l.classifiers l.limits l.entries (map view (into_iter_items l.value-iterator))
+invariant-loop-value l = read_each (application_of l.classifiers l.limits) (map view l.fn.values.items) ≡ read_after (application_of l.classifiers l.limits) l.entries (map view (into_iter_items l.value-iterator))

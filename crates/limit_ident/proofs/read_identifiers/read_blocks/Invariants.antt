@@ -1,9 +1,10 @@
-use Rattle.std.proofs.Common.{◌≡◌, [], map}
+use Rattle.std.proofs.Common.{◌≡◌, map}
 use Rattle.std.specs.Vec.Iter.{into_iter_items}
 use Rattle.serde_json.specs.View.{view}
-use Rattle.limit_ident.specs.ReadIdentifiers.{blocks_from}
+use Rattle.ps_json.specs.Each.{read_each, read_after}
+use Rattle.limit_ident.specs.ReadIdentifiers.{block_in}
 use Rattle.limit_ident.proofs.read_identifiers.read_blocks.Given as goal
 
 -- what is left decides
 abbrev pub invariant-loop-value : goal.invariant-loop-value
-invariant-loop-value l = blocks_from [] (map view l.fn.values.items) ≡ blocks_from l.blocks (map view (into_iter_items l.value-iterator))
+invariant-loop-value l = read_each block_in (map view l.fn.values.items) ≡ read_after block_in l.blocks (map view (into_iter_items l.value-iterator))
