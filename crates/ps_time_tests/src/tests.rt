@@ -1,5 +1,5 @@
 //! Texts, lists, intervals, classes, names, keys and identifiers.
-ghost use Rattle.std.specs.Prelude.{◌≡◌, ◌<◌, length, slice_set};
+ghost use Rattle.std.specs.Prelude.{◌≡◌, ◌/◌, ◌<◌, length, map, slice_set};
 
 use ps_time::asker::{Asker, Verdict};
 use ps_time::class::{Class, class_name, classes_conflict, read_class};
@@ -104,11 +104,18 @@ fn is_one_written(alloc: Global) -> Result<bool, Memory> {
     Ok(items.as_slice() == &[5, 6, 70][..])
 }
 
-fn are_all_written(alloc: Global) -> Result<bool, Memory> {
-    let mut items = three(alloc)?;
+// A walk that writes each item.
+fn halve(items: &mut Items<u64>)
+    ensures { items.new ≡ map (λ n. n / 2) items.old }
+{
     for item in items.as_mut_slice() {
         *item /= 2;
     }
+}
+
+fn are_all_written(alloc: Global) -> Result<bool, Memory> {
+    let mut items = three(alloc)?;
+    halve(&mut items);
     Ok(items.as_slice() == &[2, 3, 3][..])
 }
 
