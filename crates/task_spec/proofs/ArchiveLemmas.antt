@@ -6,14 +6,16 @@ use Rattle.std.proofs.lemmas.List.Elements.{All-head, All-tail}
 use Rattle.std.specs.Str.{bytes_eq}
 use Rattle.serde_json.specs.Data.{array}
 use Rattle.serde_json.specs.View.{items_of}
+use Rattle.ps_json.proofs.EachLemmas.{read_each-back}
+use Rattle.ps_json.specs.Each.{read_each}
 use Rattle.ps_json.proofs.TreeLemmas.{items_list-items_of}
 use Rattle.ps_time.specs.Length.{length_of, length_text_of}
 use Rattle.ps_time.specs.declared.moment.TheConstants.{MAX_LENGTH}
 use Rattle.archive_retry.specs.Bounds.{IsEntry, IsPolicy}
-use Rattle.archive_retry.specs.ReadPolicy.{entry_of, entries_from, policy_of}
+use Rattle.archive_retry.specs.ReadPolicy.{entry_of, policy_of}
 use Rattle.archive_retry.specs.declared.policy.Entry.{Entry}
 use Rattle.task_spec.specs.Bounds.{FitsArchiver, IsArchive}
-use Rattle.task_spec.specs.ReadArchive.{settings_members, settings_text, data_members, archive_of, archives_from, archives_in}
+use Rattle.task_spec.specs.ReadArchive.{settings_members, settings_text, data_members, archive_of, archives_in}
 use Rattle.task_spec.specs.WriteTask.{entry_data, with_policy, archive_data}
 use Rattle.task_spec.specs.declared.task.Archive.{Archive}
 
@@ -23,17 +25,14 @@ module _ (lengths : (n : ℕ) → n ≤ MAX_LENGTH → length_of (length_text_of
       let count : nat_le 1 e.attempts && nat_le e.attempts 1_000 ≡ true = grind (arith, nat_tests) in
       rw (count, lengths e.wait is.short) refl
 
-  entries_back : (done es : List Entry) → All IsEntry es → entries_from done (map entry_data es) ≡ Ok (done ++ es)
-  entries_back done [] are = ap Ok (sym (append-nil done))
-  entries_back done (e ∷ es) are =
-      let more : entries_from (done ++ e ∷ []) (map entry_data es) ≡ Ok ((done ++ e ∷ []) ++ es) = entries_back (done ++ e ∷ []) es (All-tail IsEntry e es are) in
-      rw (entry_back e (All-head IsEntry e es are), more, append_assoc) refl
+  entries_back : (es : List Entry) → All IsEntry es → read_each entry_of (map entry_data es) ≡ Ok es
+  entries_back es are = read_each-back entry_of IsEntry entry_data entry_back es are
 
   -- a policy with entries
   policy_back : (es : List Entry) → 1 ≤ length es → IsPolicy (record { entries = es }) → policy_of (array (items_of (map entry_data es))) ≡ Ok (record { entries = es })
   policy_back es some is =
       let count : nat_le 1 (length es) && nat_le (length es) 16 ≡ true = grind (arith, nat_tests, is.few) in
-      rw (items_list-items_of (map entry_data es), length-map es entry_data, count, entries_back [] es is.entries) refl
+      rw (items_list-items_of (map entry_data es), length-map es entry_data, count, entries_back es is.entries) refl
 
   data_back : (archiver : List ℕ) (fail : Option ℕ) (es : List Entry) → FitsArchiver archiver fail → IsPolicy (record { entries = es }) → data_members archiver (with_policy es (settings_members fail)) ≡ Ok (record { archiver = archiver; settings = settings_text fail; policy = record { entries = es } })
   data_back archiver None [] fits is =
@@ -56,13 +55,7 @@ module _ (lengths : (n : ℕ) → n ≤ MAX_LENGTH → length_of (length_text_of
       let made = data_back a.archiver is.fail a.policy.entries is.fits is.policy in
       rw (is.reads, is.known, made, is.text) refl
 
-  archives_read : (done archives : List Archive) → All IsArchive archives → archives_from done (map archive_data archives) ≡ Ok (done ++ archives)
-  archives_read done [] are = ap Ok (sym (append-nil done))
-  archives_read done (a ∷ as_left) are =
-      let more : archives_from (done ++ a ∷ []) (map archive_data as_left) ≡ Ok ((done ++ a ∷ []) ++ as_left) = archives_read (done ++ a ∷ []) as_left (All-tail IsArchive a as_left are) in
-      rw (archive_back a (All-head IsArchive a as_left are), more, append_assoc) refl
-
   pub archives_back : (name : List ℕ) (archives : List Archive) → All IsArchive archives → length archives ≤ 8 → archives_in name (array (items_of (map archive_data archives))) ≡ Ok archives
   archives_back name archives are few =
       let count : nat_le (length (map archive_data archives)) 8 ≡ true = rw (length-map archives archive_data) (grind (arith, nat_tests)) in
-      rw (items_list-items_of (map archive_data archives), count) (archives_read [] archives are)
+      rw (items_list-items_of (map archive_data archives), count) (read_each-back archive_of IsArchive archive_data archive_back archives are)

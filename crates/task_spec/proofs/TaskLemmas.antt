@@ -10,6 +10,7 @@ use Rattle.serde_json.specs.Data.{Data, null, boolean, number, string, array, ob
 use Rattle.serde_json.specs.Find.{as_null, of_integer}
 use Rattle.serde_json.specs.View.{items_of}
 use Rattle.serde_json.specs.Written.{has_float, compact_text}
+use Rattle.ps_json.specs.Each.{read_each}
 use Rattle.ps_json.proofs.TreeLemmas.{items_list-items_of}
 use Rattle.ps_time.proofs.PictureLemmas.{and_true}
 use Rattle.ps_time.specs.Length.{length_of, length_text_of}
@@ -29,22 +30,20 @@ use Rattle.task_spec.proofs.StartLemmas.{start_read}
 use Rattle.task_spec.specs.Bounds.{IsReference, IsTask}
 use Rattle.task_spec.specs.ReadArchive.{archives_in}
 use Rattle.task_spec.specs.ReadSchedule.{schedule_in}
-use Rattle.task_spec.specs.ReadTask.{is_tool, leads, tools_from, tools_in, reference_in, priority_in, test_in, task_of}
+use Rattle.task_spec.specs.ReadTask.{is_tool, leads, tool_name_in, tools_in, reference_in, priority_in, test_in, task_of}
 use Rattle.task_spec.specs.WriteTask.{count_data, schedule_data, archive_data, task_data}
 use Rattle.task_spec.specs.declared.task.Archive.{Archive}
 use Rattle.task_spec.specs.declared.task.Task.{Task}
 
-tools_read : (name : List ℕ) (done tools : List (List ℕ)) → list_all is_tool tools ≡ true → tools_from name done (map string tools) ≡ Ok (done ++ tools)
-tools_read name done [] are = ap Ok (sym (append-nil done))
-tools_read name done (t ∷ ts) are =
-    let each = and_true (is_tool t) (list_all is_tool ts) are in
-    let more : tools_from name (done ++ t ∷ []) (map string ts) ≡ Ok ((done ++ t ∷ []) ++ ts) = tools_read name (done ++ t ∷ []) ts each.1 in
-    rw (each.0, more, append_assoc) refl
+tools_read : (name : List ℕ) (tools : List (List ℕ)) → list_all is_tool tools ≡ true → read_each (tool_name_in name) (map string tools) ≡ Ok tools
+tools_read name [] are = refl
+tools_read name (t ∷ ts) are =
+    let each = and_true (is_tool t) (list_all is_tool ts) are in rw (each.0, tools_read name ts each.1) refl
 
 tools_back : (name : List ℕ) (tools : List (List ℕ)) → 1 ≤ length tools → list_all is_tool tools ≡ true → length tools ≤ 8 → tools_in [] name (names_data tools) ≡ Ok tools
 tools_back name tools some are few =
     let count : nat_le 1 (length tools) && nat_le (length tools) 8 ≡ true = grind (arith, nat_tests) in
-    rw (items_list-items_of (map string tools), length-map tools string, count) (tools_read name [] tools are)
+    rw (items_list-items_of (map string tools), length-map tools string, count) (tools_read name tools are)
 
 priority_back : (name : List ℕ) (z : ℤ) → negsuc 999 ≤ℤ z → z ≤ℤ pos 1_000 → priority_in name (number (of_integer z)) ≡ Ok z
 priority_back name (pos n) low high =

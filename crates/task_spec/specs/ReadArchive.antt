@@ -3,6 +3,7 @@ use Rattle.std.specs.Prelude.{ℕ, Bool, true, nat_le, List, [], ◌∷◌, ◌+
 use Rattle.std.specs.Str.{bytes_eq}
 use Rattle.serde_json.specs.Data.{Data, unsigned, number, object, Members, no_members, member}
 use Rattle.serde_json.specs.Written.{compact_text}
+use Rattle.ps_json.specs.Each.{read_each}
 use Rattle.ps_json.specs.Answer.{then_with, lifted}
 use Rattle.ps_json.specs.Fields.{without_member, end_of}
 use Rattle.ps_json.specs.Kinds.{count_of, text_of, list_of, members_of}
@@ -68,11 +69,7 @@ archive_of d =
     member_then (codes "data") (optional (plain archiver) (data_in archiver)) ms (λ archive ms.
     then_with (in_json (end_of ms)) (λ _. Ok archive))))
 
-abbrev pub archives_from : List Archive → List Data → Result (List Archive) TaskFault
-archives_from done [] = Ok done
-archives_from done (d ∷ ds) = then_with (archive_of d) (λ a. archives_from (done ++ a ∷ []) ds)
-
 -- a list of up to 8
 abbrev pub archives_in : List ℕ → Data → Result (List Archive) TaskFault
 archives_in name d =
-    then_with (in_json (list_of name d)) (λ ds. if nat_le (length ds) 8 then archives_from [] ds else Err (Json (WrongKind name)))
+    then_with (in_json (list_of name d)) (λ ds. if nat_le (length ds) 8 then read_each archive_of ds else Err (Json (WrongKind name)))

@@ -4,6 +4,7 @@ use Rattle.std.specs.Str.{bytes_eq}
 use Rattle.serde_json.specs.Data.{Data, Members, depth}
 use Rattle.serde_json.specs.Find.{as_number, as_i64, as_null}
 use Rattle.serde_json.specs.Written.{has_float, compact_text}
+use Rattle.ps_json.specs.Each.{read_each}
 use Rattle.ps_json.specs.Answer.{then_with, lifted}
 use Rattle.ps_json.specs.Fields.{end_of}
 use Rattle.ps_json.specs.Kinds.{count_of, text_of, list_of, members_of, integer_within}
@@ -54,15 +55,11 @@ tool_name_in name d = then_with (in_json (text_of name d)) (λ bs. if is_tool bs
 abbrev pub tool_in : List ℕ → Data → Result (List (List ℕ)) TaskFault
 tool_in name d = then_with (tool_name_in name d) (λ bs. Ok (bs ∷ []))
 
-abbrev pub tools_from : List ℕ → List (List ℕ) → List Data → Result (List (List ℕ)) TaskFault
-tools_from name done [] = Ok done
-tools_from name done (d ∷ ds) = then_with (tool_name_in name d) (λ bs. tools_from name (done ++ bs ∷ []) ds)
-
 -- a list of 1 to 8 names, where there is no `tool`
 abbrev pub tools_in : List (List ℕ) → List ℕ → Data → Result (List (List ℕ)) TaskFault
 tools_in [] name d =
     then_with (in_json (list_of name d)) (λ ds.
-    if nat_le 1 (length ds) && nat_le (length ds) 8 then tools_from name [] ds else Err (Json (WrongKind name)))
+    if nat_le 1 (length ds) && nat_le (length ds) 8 then read_each (tool_name_in name) ds else Err (Json (WrongKind name)))
 tools_in (tool ∷ _) name d = Err (Json (WrongKind name))
 
 -- a tree of at most 63 levels whose numbers are whole, and whose compact text isn't long; null is none

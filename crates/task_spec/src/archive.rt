@@ -2,13 +2,14 @@
 ghost use Rattle.std.specs.Prelude.{◌≡◌, ◌≤◌, [], true, Ok, length, map, All, IfOk, codes};
 ghost use Rattle.serde_json.specs.Data.{object};
 ghost use Rattle.serde_json.specs.View.{view};
+ghost use Rattle.ps_json.specs.Each.{read_each};
 ghost use Rattle.ps_json.specs.Answer.{GivesUnless};
 ghost use Rattle.ps_json.specs.Fields.{without_member};
 ghost use Rattle.ps_json.specs.Tree.{tree_of};
 ghost use Rattle.archive_retry.specs.Bounds.{IsPolicy};
 ghost use Rattle.ps_json.specs.Member.{optional};
 ghost use Rattle.task_spec.specs.Bounds.{FitsArchiver, IsArchive};
-ghost use Rattle.task_spec.specs.ReadArchive.{is_archiver, archiver_in, fail_of, after_fail, settings_members, settings_text, policy_in, data_members, data_in, plain, archive_of, archives_from, archives_in};
+ghost use Rattle.task_spec.specs.ReadArchive.{is_archiver, archiver_in, fail_of, after_fail, settings_members, settings_text, policy_in, data_members, data_in, plain, archive_of, archives_in};
 
 use crate::fault::TaskFault;
 use crate::task::Archive;
@@ -147,7 +148,7 @@ fn read_archive(alloc: Global, value: Value) -> Result<Archive, TaskFault>
 }
 
 fn read_all(alloc: Global, values: Vec<Value>) -> Result<Items<Archive>, TaskFault>
-    ensures value { GivesUnless TaskFault.Memory result (archives_from [] (map view values.items)) }
+    ensures value { GivesUnless TaskFault.Memory result (read_each archive_of (map view values.items)) }
     ensures bounds { IfOk result (λ archives. All IsArchive archives) }
     ensures count { IfOk result (λ archives. length archives ≡ length values.items) }
 {

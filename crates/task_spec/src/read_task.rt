@@ -3,6 +3,7 @@ ghost use Rattle.std.specs.Prelude.{◌≡◌, ◌≤◌, ◌≤ℤ◌, ℤ, pos
 ghost use Rattle.std.specs.List.{list_all};
 ghost use Rattle.std.specs.Option.{ForSome};
 ghost use Rattle.serde_json.specs.View.{view};
+ghost use Rattle.ps_json.specs.Each.{read_each};
 ghost use Rattle.ps_json.specs.Answer.{GivesUnless, then_with};
 ghost use Rattle.ps_json.specs.Fields.{without_member};
 ghost use Rattle.ps_time.specs.declared.moment.TheConstants.{MAX_MOMENT};
@@ -12,7 +13,7 @@ ghost use Rattle.task_spec.specs.Bounds.{IsArchive, IsReference, IsRest, IsTask}
 ghost use Rattle.task_spec.specs.Fault.{wrapped};
 ghost use Rattle.task_spec.specs.ReadArchive.{archives_in};
 ghost use Rattle.task_spec.specs.ReadSchedule.{schedule_in};
-ghost use Rattle.task_spec.specs.ReadTask.{schema, leads, test_in, is_tool, tool_name_in, tool_in, tools_from, tools_in, reference_in, priority_in, from_now, rest_of, task_of};
+ghost use Rattle.task_spec.specs.ReadTask.{schema, leads, test_in, is_tool, tool_name_in, tool_in, tools_in, reference_in, priority_in, from_now, rest_of, task_of};
 
 use crate::archive::read_archives;
 use crate::fault::TaskFault;
@@ -103,7 +104,7 @@ fn take_tool(alloc: Global, fields: &mut Fields) -> Result<Items<Text>, TaskFaul
 }
 
 fn read_names(alloc: Global, values: Vec<Value>) -> Result<Items<Text>, TaskFault>
-    ensures value { GivesUnless TaskFault.Memory result (tools_from (codes "tools") [] (map view values.items)) }
+    ensures value { GivesUnless TaskFault.Memory result (read_each (tool_name_in (codes "tools")) (map view values.items)) }
     ensures known { IfOk result (λ tools. list_all is_tool tools ≡ true) }
     ensures count { IfOk result (λ tools. length tools ≡ length values.items) }
 {
