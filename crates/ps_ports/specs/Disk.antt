@@ -1,6 +1,6 @@
 -- What the calls of a disk do to its bytes, and what a crash may leave of them between two syncs.
 use Rattle.std.specs.Prelude.{◌≡◌, ◌⊎◌, ℕ, ◌+◌, ◌-◌, ◌^◌, ◌<◌, ◌≤◌, min, List, [], ◌∷◌, ◌++◌, length, take, drop, replicate, Option, IfSome, Some, Result, OnErr, OnOk}
-use Rattle.ps_ports.specs.Causes.{Rose}
+use Rattle.ps_ports.specs.Causes.{Rose, raised}
 use Rattle.ps_ports.specs.declared.disk.DiskCall.{DiskCall}
 use Rattle.ps_ports.specs.declared.disk.DiskCall.TheVariants.{Write, Cut, Sync}
 
@@ -67,11 +67,12 @@ pub record LeavesOnly {D : Type 0} (moment : D → ℕ) (left_since : D → ℕ 
   -- for a run that began earlier
   pub before : (t : ℕ) (c : List ℕ) → t ≤ moment old → left_since new t c → left_since old t c ⊎ P c
 
--- the count of faults rises exactly where the call fails
+-- the count of faults rises exactly where the call fails, and by one
 pub record CountsFault {T E : Type 0} (before now : ℕ) (result : Result T E) : Type 0 where
   pub later : before ≤ now
   pub ok : OnOk result (now ≡ before)
   pub failed : OnErr result (Rose before now)
+  pub one : OnErr result (now ≡ raised before)
 
 -- where the disk tells its calls it told those before, and this is the one call more
 abbrev pub Tells : Option (List DiskCall) → Option (List DiskCall) → DiskCall → Type 0

@@ -1,5 +1,5 @@
 //! Disks: files of bytes that a crash may leave in part.
-ghost use Rattle.std.specs.Prelude.{◌≡◌, ℕ, ◌+◌, ◌≤◌, ◌^◌, List, take, length, Option, IfOk, OnOk, OnErr, IsErr};
+ghost use Rattle.std.specs.Prelude.{◌≡◌, ℕ, ◌+◌, ◌<◌, ◌≤◌, ◌^◌, List, take, length, Option, IfOk, OnOk, OnErr, IsErr};
 ghost use Rattle.std.specs.Io.{ReadsAtMost};
 ghost use Rattle.ps_ports.specs.Disk.{ReadsAt, written, Torn, Shortened, Follows, NoMore, Only, AreBounded, Elapses, CountsFault, Tells};
 ghost use Rattle.ps_ports.specs.declared.disk.DiskCall.{DiskCall as Call};
@@ -95,6 +95,9 @@ pub trait Disk {
 
     // This moment is one of those since an earlier one.
     ghost counts_now: { (disk : Self) (t : ℕ) (c : List ℕ) → premise → t ≤ moment disk → may_leave disk c → left_since disk t c };
+
+    // The count is a `u64`, at each moment.
+    ghost disk_faults_fit: { (disk : Self) → disk_faults disk < 2 ^ 64 };
 
     // Since this moment there is no other.
     ghost only_now: { (disk : Self) (c : List ℕ) → premise → left_since disk (moment disk) c → may_leave disk c };

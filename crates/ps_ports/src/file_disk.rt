@@ -45,6 +45,7 @@ impl FileDisk {
 
 impl Disk for FileDisk {
     ghost use Rattle.std.specs.Prelude.{[], None};
+    ghost use Rattle.ps_ports.specs.Causes.{counted, counted_fits};
 
     ghost premise = { ⊥ };
 
@@ -58,7 +59,7 @@ impl Disk for FileDisk {
 
     ghost told = { λ _. None };
 
-    ghost disk_faults = { λ d. d.faults };
+    ghost disk_faults = { λ d. counted d.faults };
 
     fn read(&mut self, at: u64, buf: &mut [u8]) -> Result<usize, Failed> {
         if let Ok(count) = self.file.read_at(buf, at) {
@@ -96,6 +97,8 @@ impl Disk for FileDisk {
     ghost reads_now = { λ _ no. absurd no };
 
     ghost counts_now = { λ _ _ _ no. absurd no };
+
+    ghost disk_faults_fit = { λ d. counted_fits d.faults };
 
     ghost only_now = { λ _ _ no. absurd no };
 }

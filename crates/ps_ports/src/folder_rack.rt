@@ -46,7 +46,9 @@ impl<R: Files<File = File>> FolderRack<R> {
 impl<R: Files<File = File>> Rack for FolderRack<R> {
     type Disk = FileDisk;
 
-    ghost rack_faults = { λ r. r.faults };
+    ghost use Rattle.ps_ports.specs.Causes.{counted, counted_fits};
+
+    ghost rack_faults = { λ r. counted r.faults };
 
     ghost keeps_pair = { λ _ _ _ _. Unit {0} };
 
@@ -75,6 +77,8 @@ impl<R: Files<File = File>> Rack for FolderRack<R> {
             self.faults.raise();
         }
     }
+
+    ghost rack_faults_fit = { λ r. counted_fits r.faults };
 }
 
 impl From<io::Error> for RackFault {

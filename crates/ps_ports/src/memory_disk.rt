@@ -2,7 +2,7 @@
 ghost use Rattle.std.specs.Prelude.{◌≡◌, ◌+◌, ◌-◌, ◌≤◌, ◌^◌, [], length, take, drop, min, IfOk, IsErr, OnOk, OnErr, IsTrue, is_err, false};
 ghost use Rattle.std.specs.Io.{ReadsAtMost};
 ghost use Rattle.ps_ports.specs.Disk.{ReadsAt, written, Torn, Shortened, Follows, NoMore, Only, AreBounded, Elapses, CountsFault, Tells};
-ghost use Rattle.ps_ports.specs.Causes.{Rose};
+ghost use Rattle.ps_ports.specs.Causes.{counted, raised};
 ghost use Rattle.ps_ports.specs.Memory.{called, fails_next};
 ghost use Rattle.ps_ports.specs.History.{IsImage, LeftSince, bytes_now, first_calls, image_bytes};
 ghost use Rattle.ps_ports.specs.MemoryDisk.{new_disk, armed, armed_number, after_read, after_starved, ends_too_far, is_to_fail, Makes, reopened, told_calls};
@@ -54,10 +54,13 @@ impl MemoryDisk {
     /// A disk with these bytes, all of them fixed. `failing` has the numbers of the calls that are to
     /// fail, the first call being number 1, reads too.
     pub fn new(alloc: Global, bytes: Vec<u8>, failing: Vec<u64>) -> MemoryDisk
-        ensures { result ≡ new_disk bytes.items failing.items }
+        ensures disk { result ≡ new_disk bytes.items failing.items }
+        ensures size { AreBounded (IsImage result.history) }
     {
+        let history = History::new(alloc, bytes);
+        history.known();
         MemoryDisk {
-            history: History::new(alloc, bytes),
+            history,
             calls: FailingCalls::new(failing),
             until_fault: 0,
             faults: Faults::none(),
@@ -106,6 +109,7 @@ impl MemoryDisk {
         requires { calls ≤ length self.history.log }
         ensures disk { IfOk result (λ disk. disk ≡ new_disk (image_bytes image (first_calls calls self.history)) []) }
         ensures image { IfOk result (λ disk. IsImage (first_calls calls self.history) (bytes_now disk.history)) }
+        ensures size { IfOk result (λ disk. AreBounded (IsImage disk.history)) }
     {
         let alloc = self.history.alloc();
         let MemoryDisk {
@@ -139,6 +143,13 @@ impl MemoryDisk {
         }
     }
 
+    // No image is too long. Does nothing.
+    pub(crate) fn known(&self)
+        ensures { AreBounded (IsImage self.now.history) }
+    {
+        self.history.known();
+    }
+
     // Whether the next write, cut or sync is to fail, whatever it is. Counts it.
     fn next_fails(&mut self) -> bool
         ensures answer { result ≡ is_to_fail self.old }
@@ -157,7 +168,7 @@ impl MemoryDisk {
     fn starve(&mut self) -> Failed
         ensures after { self.new ≡ after_starved self.old }
         ensures size { AreBounded (IsImage self.new.history) }
-        ensures rose { (self.old.faults ≤ self.new.faults) × Rose self.old.faults self.new.faults }
+        ensures rose { (self.old.faults ≤ self.new.faults) × (counted self.new.faults ≡ raised (counted self.old.faults)) }
     {
         self.history.known();
         self.next_fails();
@@ -169,7 +180,7 @@ impl MemoryDisk {
     fn make(&mut self, call: DiskCall) -> Result<(), Failed>
         ensures makes { Makes call self.old self.new result }
         ensures size { AreBounded (IsImage self.new.history) }
-        ensures cause { CountsFault self.old.faults self.new.faults result }
+        ensures cause { CountsFault (counted self.old.faults) (counted self.new.faults) result }
     {
         let fails = self.next_fails() || is_too_far(&call);
         let added = self.history.add(call, !fails);
@@ -187,6 +198,7 @@ impl MemoryDisk {
 
 impl Disk for MemoryDisk {
     ghost use Rattle.std.specs.Prelude.{◌≡◌, ℕ, length};
+    ghost use Rattle.ps_ports.specs.Causes.{counted, counted_fits};
     ghost use Rattle.ps_ports.specs.History.{IsImage, LeftSince, bytes_now};
     ghost use Rattle.ps_ports.specs.Images.{bytes_are_image, image_counts, only_image};
     ghost use Rattle.ps_ports.specs.MemoryDisk.{told_calls};
@@ -203,7 +215,7 @@ impl Disk for MemoryDisk {
 
     ghost told = { λ d. told_calls d };
 
-    ghost disk_faults = { λ d. d.faults };
+    ghost disk_faults = { λ d. counted d.faults };
 
     fn read(&mut self, at: u64, buf: &mut [u8]) -> Result<usize, Failed>
         ensures bound { ReadsAtMost result buf.new }
@@ -213,7 +225,7 @@ impl Disk for MemoryDisk {
         ensures size { AreBounded (IsImage self.new.history) }
         ensures time { Elapses (length self.old.history.log) (length self.new.history.log) (LeftSince self.old.history) (LeftSince self.new.history) (IsImage self.new.history) }
         ensures told { told_calls self.new ≡ told_calls self.old }
-        ensures cause { CountsFault self.old.faults self.new.faults result }
+        ensures cause { CountsFault (counted self.old.faults) (counted self.new.faults) result }
 
         // A read that isn't to fail gives as many bytes as fit.
         ensures fails { is_err result ≡ fails_next self.old.calls }
@@ -236,7 +248,7 @@ impl Disk for MemoryDisk {
         ensures time { Elapses (length self.old.history.log) (length self.new.history.log) (LeftSince self.old.history) (LeftSince self.new.history) (IsImage self.new.history) }
         ensures too_far { 2 ^ 64 ≤ at + length bytes.now → IsErr result }
         ensures told { Tells (told_calls self.old) (told_calls self.new) (Write at bytes.now) }
-        ensures cause { CountsFault self.old.faults self.new.faults result }
+        ensures cause { CountsFault (counted self.old.faults) (counted self.new.faults) result }
         ensures makes { Makes (Write at bytes.now) self.old self.new result }
     {
         match bytes.to_vec(self.history.alloc()) {
@@ -252,7 +264,7 @@ impl Disk for MemoryDisk {
         ensures size { AreBounded (IsImage self.new.history) }
         ensures time { Elapses (length self.old.history.log) (length self.new.history.log) (LeftSince self.old.history) (LeftSince self.new.history) (IsImage self.new.history) }
         ensures told { Tells (told_calls self.old) (told_calls self.new) (Cut len) }
-        ensures cause { CountsFault self.old.faults self.new.faults result }
+        ensures cause { CountsFault (counted self.old.faults) (counted self.new.faults) result }
         ensures makes { Makes (Cut len) self.old self.new result }
     {
         self.make(DiskCall::Cut(len))
@@ -265,7 +277,7 @@ impl Disk for MemoryDisk {
         ensures size { AreBounded (IsImage self.new.history) }
         ensures time { Elapses (length self.old.history.log) (length self.new.history.log) (LeftSince self.old.history) (LeftSince self.new.history) (IsImage self.new.history) }
         ensures told { Tells (told_calls self.old) (told_calls self.new) Sync }
-        ensures cause { CountsFault self.old.faults self.new.faults result }
+        ensures cause { CountsFault (counted self.old.faults) (counted self.new.faults) result }
         ensures makes { Makes Sync self.old self.new result }
     {
         self.make(DiskCall::Sync)
@@ -274,6 +286,8 @@ impl Disk for MemoryDisk {
     ghost reads_now = { λ d _. bytes_are_image d.history };
 
     ghost counts_now = { λ d t c _ le image. image_counts d.history t c le image };
+
+    ghost disk_faults_fit = { λ d. counted_fits d.faults };
 
     ghost only_now = { λ d c _ left. only_image d.history c left };
 }

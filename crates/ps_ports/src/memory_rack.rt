@@ -1,8 +1,8 @@
 //! A rack in memory.
 ghost use Rattle.std.specs.Prelude.{◌≡◌, ◌≤◌, ◌<◌, ◌+◌, [], IfOk, OnOk, IsErrOf, IsTrue, Some};
-ghost use Rattle.ps_ports.specs.Causes.{Rose};
+ghost use Rattle.ps_ports.specs.Causes.{counted, raised};
 ghost use Rattle.ps_ports.specs.Memory.{no_calls};
-ghost use Rattle.ps_ports.specs.Disk.{Only};
+ghost use Rattle.ps_ports.specs.Disk.{AreBounded, Only};
 ghost use Rattle.ps_ports.specs.History.{IsImage, bytes_now};
 ghost use Rattle.ps_ports.specs.MemoryDisk.{DiskState};
 ghost use Rattle.ps_ports.specs.Rack.{fresh_first, fresh_second, IsKept, find_pair, is_out, Opens, after_close};
@@ -68,11 +68,12 @@ impl MemoryRack {
 
 impl Rack for MemoryRack {
     ghost use Rattle.std.specs.Prelude.{◌≡◌, IsTrue, Some};
+    ghost use Rattle.ps_ports.specs.Causes.{counted, counted_fits};
     ghost use Rattle.ps_ports.specs.Rack.{find_pair, is_out};
 
     type Disk = MemoryDisk;
 
-    ghost rack_faults = { λ r. r.faults };
+    ghost rack_faults = { λ r. counted r.faults };
 
     ghost keeps_pair = { λ r folder first second. find_pair folder r.shelf.pairs ≡ Some (first, second) };
 
@@ -83,7 +84,7 @@ impl Rack for MemoryRack {
         alloc: Global,
         folder: &str,
     ) -> Result<(MemoryDisk, MemoryDisk), RackFault>
-        ensures counts { IfOk result (λ pair. (pair.0.faults ≡ 0) × (pair.1.faults ≡ 0)) }
+        ensures counts { IfOk result (λ pair. (counted pair.0.faults ≡ 0) × (counted pair.1.faults ≡ 0)) }
         ensures again { IfOk result (λ pair. (first second : DiskState) → find_pair folder.now self.old.shelf.pairs ≡ Some (first, second)
             → IsKept {D = DiskState} (λ d. bytes_now d.history) (λ d. IsImage d.history) first pair.0
             × IsKept {D = DiskState} (λ d. bytes_now d.history) (λ d. IsImage d.history) second pair.1) }
@@ -91,8 +92,10 @@ impl Rack for MemoryRack {
             → (bytes_now pair.0.history ≡ fresh_first) × (bytes_now pair.1.history ≡ fresh_second)
             × Only fresh_first (IsImage pair.0.history) × Only fresh_second (IsImage pair.1.history)) }
         ensures open { OnOk result (IsTrue (is_out folder.now self.new)) }
-        ensures later { self.old.faults ≤ self.new.faults }
-        ensures failed { IsErrOf result rack_failed → Rose self.old.faults self.new.faults }
+        ensures size { IfOk result (λ pair. AreBounded (IsImage pair.0.history) × AreBounded (IsImage pair.1.history)) }
+        ensures later { counted self.old.faults ≤ counted self.new.faults }
+        ensures failed { IsErrOf result rack_failed → counted self.new.faults ≡ raised (counted self.old.faults) }
+        ensures calm { (IsErrOf result rack_failed → ⊥) → counted self.new.faults ≡ counted self.old.faults }
         ensures opens { Opens folder.now self.old self.new result }
     {
         if self.calls.next_fails() || self.shelf.is_out(folder) {
@@ -100,7 +103,11 @@ impl Rack for MemoryRack {
             return Err(RackFault::Failed);
         }
         match self.shelf.take(alloc, folder) {
-            Ok(pair) => Ok(pair),
+            Ok((first, second)) => {
+                first.known();
+                second.known();
+                Ok((first, second))
+            }
             Err(_) => Err(RackFault::Memory),
         }
     }
@@ -108,8 +115,8 @@ impl Rack for MemoryRack {
     fn close_pair(&mut self, folder: &str, first: MemoryDisk, second: MemoryDisk)
         requires { IsTrue (is_out folder.now self.old) }
         ensures kept { find_pair folder.now self.new.shelf.pairs ≡ Some (first, second) }
-        ensures rose { 0 < first.faults + second.faults → Rose self.old.faults self.new.faults }
-        ensures calm { first.faults + second.faults ≡ 0 → self.new.faults ≡ self.old.faults }
+        ensures rose { 0 < counted first.faults + counted second.faults → counted self.new.faults ≡ raised (counted self.old.faults) }
+        ensures calm { counted first.faults + counted second.faults ≡ 0 → counted self.new.faults ≡ counted self.old.faults }
         ensures after { self.new ≡ after_close folder.now first second self.old }
     {
         if first.faults() != 0 || second.faults() != 0 {
@@ -117,4 +124,6 @@ impl Rack for MemoryRack {
         }
         self.shelf.give_back(folder, first, second);
     }
+
+    ghost rack_faults_fit = { λ r. counted_fits r.faults };
 }

@@ -2,7 +2,7 @@
 ghost use Rattle.std.specs.Prelude.{◌≡◌, IfOk, IsTrue, IsErr, Some, false, length};
 ghost use Rattle.std.specs.Io.{WritesAtMost};
 ghost use Rattle.std.specs.Io.KnownBytes.{WriteAppends};
-ghost use Rattle.ps_ports.specs.Causes.{HasCause, CountsNothing};
+ghost use Rattle.ps_ports.specs.Causes.{HasCause, CountsNothing, counted};
 ghost use Rattle.ps_ports.specs.Memory.{no_calls, fails_next, after_write};
 
 use crate::failing_calls::FailingCalls;
@@ -73,18 +73,19 @@ impl MemorySink {
 impl Sink for MemorySink {
     ghost use Rattle.std.specs.Prelude.{◌≡◌, Some, refl};
     ghost use Rattle.std.proofs.Common.{◌∙◌};
+    ghost use Rattle.ps_ports.specs.Causes.{counted, counted_fits};
 
     ghost written = { λ s. Some s.written };
 
-    ghost write_faults = { λ s. s.faults };
+    ghost write_faults = { λ s. counted s.faults };
 
     ghost sink_kept = { λ a b. b.calls.failing ≡ a.calls.failing };
 
     fn write(&mut self, bytes: &[u8]) -> Result<usize, Failed>
         ensures bound { WritesAtMost result bytes.now }
         ensures bytes { WriteAppends (Some self.old.written) (Some self.new.written) result bytes.now }
-        ensures cause { HasCause self.old.faults self.new.faults result }
-        ensures nothing { CountsNothing self.old.faults self.new.faults result bytes.now }
+        ensures cause { HasCause (counted self.old.faults) (counted self.new.faults) result }
+        ensures nothing { CountsNothing (counted self.old.faults) (counted self.new.faults) result bytes.now }
         ensures kept { self.new.calls.failing ≡ self.old.calls.failing }
 
         // A write that is to fail does, and each other one takes the whole piece or finds no memory.
@@ -102,4 +103,6 @@ impl Sink for MemorySink {
     ghost sink_kept_refl = { λ _. refl };
 
     ghost sink_kept_trans = { λ _ _ _ p q. q ∙ p };
+
+    ghost write_faults_fit = { λ s. counted_fits s.faults };
 }

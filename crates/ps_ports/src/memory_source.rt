@@ -2,7 +2,7 @@
 ghost use Rattle.std.specs.Prelude.{◌≡◌, IfOk, Some, is_err, length, min};
 ghost use Rattle.std.specs.Io.{ReadsAtMost};
 ghost use Rattle.std.specs.Io.KnownBytes.{ReadConsumes};
-ghost use Rattle.ps_ports.specs.Causes.{HasCause};
+ghost use Rattle.ps_ports.specs.Causes.{HasCause, counted};
 ghost use Rattle.ps_ports.specs.Memory.{no_calls, fails_next, after_read};
 
 use crate::failing_calls::FailingCalls;
@@ -65,17 +65,18 @@ impl MemorySource {
 impl Source for MemorySource {
     ghost use Rattle.std.specs.Prelude.{◌≡◌, Some, refl};
     ghost use Rattle.std.proofs.Common.{◌∙◌};
+    ghost use Rattle.ps_ports.specs.Causes.{counted, counted_fits};
 
     ghost left = { λ s. Some s.left };
 
-    ghost read_faults = { λ s. s.faults };
+    ghost read_faults = { λ s. counted s.faults };
 
     ghost kept = { λ a b. b.calls.failing ≡ a.calls.failing };
 
     fn read(&mut self, buf: &mut [u8]) -> Result<usize, Failed>
         ensures bound { ReadsAtMost result buf.new }
         ensures bytes { ReadConsumes (Some self.old.left) (Some self.new.left) result buf.new }
-        ensures cause { HasCause self.old.faults self.new.faults result }
+        ensures cause { HasCause (counted self.old.faults) (counted self.new.faults) result }
         ensures kept { self.new.calls.failing ≡ self.old.calls.failing }
 
         // A read that isn't to fail gives as many bytes as fit.
@@ -93,4 +94,6 @@ impl Source for MemorySource {
     ghost kept_refl = { λ _. refl };
 
     ghost kept_trans = { λ _ _ _ p q. q ∙ p };
+
+    ghost read_faults_fit = { λ s. counted_fits s.faults };
 }

@@ -2,7 +2,7 @@
 ghost use Rattle.std.specs.Prelude.{◌≡◌, [], IfOk, IsTrue, IsErr, is_err, Some, false, length, min};
 ghost use Rattle.std.specs.Io.{ReadsAtMost, WritesAtMost};
 ghost use Rattle.std.specs.Io.KnownBytes.{ReadConsumes, WriteAppends};
-ghost use Rattle.ps_ports.specs.Causes.{HasCause, CountsNothing};
+ghost use Rattle.ps_ports.specs.Causes.{HasCause, CountsNothing, counted};
 ghost use Rattle.ps_ports.specs.Memory.{no_calls, fails_next, after_read, after_write, source_of, sink_of, with_source, with_sink, ReadKeeps, WriteKeeps};
 
 use crate::failing_calls::FailingCalls;
@@ -109,18 +109,19 @@ impl MemoryStream {
 
 impl Source for MemoryStream {
     ghost use Rattle.std.specs.Prelude.{Some};
+    ghost use Rattle.ps_ports.specs.Causes.{counted, counted_fits};
     ghost use Rattle.ps_ports.specs.Memory.{ReadKeeps, ReadKeeps-refl, ReadKeeps-trans};
 
     ghost left = { λ s. Some s.left };
 
-    ghost read_faults = { λ s. s.read_faults };
+    ghost read_faults = { λ s. counted s.read_faults };
 
     ghost kept = { ReadKeeps };
 
     fn read(&mut self, buf: &mut [u8]) -> Result<usize, Failed>
         ensures bound { ReadsAtMost result buf.new }
         ensures bytes { ReadConsumes (Some self.old.left) (Some self.new.left) result buf.new }
-        ensures cause { HasCause self.old.read_faults self.new.read_faults result }
+        ensures cause { HasCause (counted self.old.read_faults) (counted self.new.read_faults) result }
         ensures kept { ReadKeeps self.old self.new }
 
         // A read that isn't to fail gives as many bytes as fit.
@@ -138,23 +139,26 @@ impl Source for MemoryStream {
     ghost kept_refl = { ReadKeeps-refl };
 
     ghost kept_trans = { ReadKeeps-trans };
+
+    ghost read_faults_fit = { λ s. counted_fits s.read_faults };
 }
 
 impl Sink for MemoryStream {
     ghost use Rattle.std.specs.Prelude.{Some};
+    ghost use Rattle.ps_ports.specs.Causes.{counted, counted_fits};
     ghost use Rattle.ps_ports.specs.Memory.{WriteKeeps, WriteKeeps-refl, WriteKeeps-trans};
 
     ghost written = { λ s. Some s.written };
 
-    ghost write_faults = { λ s. s.write_faults };
+    ghost write_faults = { λ s. counted s.write_faults };
 
     ghost sink_kept = { WriteKeeps };
 
     fn write(&mut self, bytes: &[u8]) -> Result<usize, Failed>
         ensures bound { WritesAtMost result bytes.now }
         ensures bytes { WriteAppends (Some self.old.written) (Some self.new.written) result bytes.now }
-        ensures cause { HasCause self.old.write_faults self.new.write_faults result }
-        ensures nothing { CountsNothing self.old.write_faults self.new.write_faults result bytes.now }
+        ensures cause { HasCause (counted self.old.write_faults) (counted self.new.write_faults) result }
+        ensures nothing { CountsNothing (counted self.old.write_faults) (counted self.new.write_faults) result bytes.now }
         ensures kept { WriteKeeps self.old self.new }
 
         // A write that is to fail does, and each other one takes the whole piece or finds no memory.
@@ -172,13 +176,16 @@ impl Sink for MemoryStream {
     ghost sink_kept_refl = { WriteKeeps-refl };
 
     ghost sink_kept_trans = { WriteKeeps-trans };
+
+    ghost write_faults_fit = { λ s. counted_fits s.write_faults };
 }
 
 impl Stream for MemoryStream {
     ghost use Rattle.std.proofs.Common.{ap};
     ghost use Rattle.std.specs.Prelude.{Some};
+    ghost use Rattle.ps_ports.specs.Causes.{counted};
 
-    ghost reads_keep = { λ a b k. (ap Some k.written, k.faults) };
+    ghost reads_keep = { λ a b k. (ap Some k.written, ap counted k.faults) };
 
-    ghost writes_keep = { λ a b k. (ap Some k.left, k.faults) };
+    ghost writes_keep = { λ a b k. (ap Some k.left, ap counted k.faults) };
 }

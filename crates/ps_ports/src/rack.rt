@@ -1,7 +1,7 @@
 //! Racks: pairs of disks, each under a folder.
-ghost use Rattle.std.specs.Prelude.{◌≡◌, ◌≢◌, ℕ, ◌+◌, ◌≤◌, ◌<◌, List, IfOk, OnOk, IsErrOf};
-ghost use Rattle.ps_ports.specs.Causes.{Rose};
-ghost use Rattle.ps_ports.specs.Disk.{Only};
+ghost use Rattle.std.specs.Prelude.{◌≡◌, ◌≢◌, ℕ, ◌+◌, ◌≤◌, ◌<◌, ◌^◌, List, IfOk, OnOk, IsErrOf};
+ghost use Rattle.ps_ports.specs.Causes.{raised};
+ghost use Rattle.ps_ports.specs.Disk.{AreBounded, Only};
 ghost use Rattle.ps_ports.specs.Rack.{fresh_first, fresh_second, IsKept};
 ghost use Rattle.ps_ports.specs.declared.rack.RackFault.TheVariants.{Failed as rack_failed};
 
@@ -48,14 +48,19 @@ pub trait Rack {
         ensures fresh { Self.Disk.premise → IfOk result (λ pair. ((first second : Self.Disk) → keeps_pair self.old folder.now first second → ⊥)
             → (Self.Disk.seen pair.0 ≡ fresh_first) × (Self.Disk.seen pair.1 ≡ fresh_second)
             × Only fresh_first (Self.Disk.may_leave pair.0) × Only fresh_second (Self.Disk.may_leave pair.1)) }
+        ensures size { Self.Disk.premise → IfOk result (λ pair. AreBounded (Self.Disk.may_leave pair.0) × AreBounded (Self.Disk.may_leave pair.1)) }
         ensures open { OnOk result (is_open self.new folder.now) }
         ensures later { rack_faults self.old ≤ rack_faults self.new }
-        ensures failed { IsErrOf result rack_failed → Rose (rack_faults self.old) (rack_faults self.new) };
+        ensures failed { IsErrOf result rack_failed → rack_faults self.new ≡ raised (rack_faults self.old) }
+        ensures calm { (IsErrOf result rack_failed → ⊥) → rack_faults self.new ≡ rack_faults self.old };
 
     /// Gives an opened pair back. Takes no memory.
     fn close_pair(&mut self, folder: &str, first: Self::Disk, second: Self::Disk)
         requires { is_open self.old folder.now }
         ensures kept { keeps_pair self.new folder.now first second }
-        ensures rose { 0 < Self.Disk.disk_faults first + Self.Disk.disk_faults second → Rose (rack_faults self.old) (rack_faults self.new) }
+        ensures rose { 0 < Self.Disk.disk_faults first + Self.Disk.disk_faults second → rack_faults self.new ≡ raised (rack_faults self.old) }
         ensures calm { Self.Disk.disk_faults first + Self.Disk.disk_faults second ≡ 0 → rack_faults self.new ≡ rack_faults self.old };
+
+    // The count is a `u64`, at each moment.
+    ghost rack_faults_fit: { (rack : Self) → rack_faults rack < 2 ^ 64 };
 }

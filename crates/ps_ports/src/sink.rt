@@ -1,5 +1,5 @@
 //! Sinks of bytes.
-ghost use Rattle.std.specs.Prelude.{◌≡◌, ℕ, List, Option, refl};
+ghost use Rattle.std.specs.Prelude.{◌≡◌, ◌<◌, ◌^◌, ℕ, List, Option, refl};
 ghost use Rattle.std.specs.Io.{WritesAtMost};
 ghost use Rattle.std.specs.Io.KnownBytes.{WriteAppends};
 ghost use Rattle.std.proofs.Common.{◌∙◌};
@@ -30,6 +30,9 @@ pub trait Sink {
     ghost sink_kept_refl: { (a : Self) → sink_kept a a };
 
     ghost sink_kept_trans: { (a b c : Self) → sink_kept a b → sink_kept b c → sink_kept a c };
+
+    // The count is a `u64`, at each moment.
+    ghost write_faults_fit: { (a : Self) → write_faults a < 2 ^ 64 };
 }
 
 impl<S: Sink> Sink for &mut S {
@@ -46,4 +49,6 @@ impl<S: Sink> Sink for &mut S {
     ghost sink_kept_refl = { λ a. (refl, S.sink_kept_refl a.now) };
 
     ghost sink_kept_trans = { λ a b c p q. (q.0 ∙ p.0, S.sink_kept_trans a.now b.now c.now p.1 q.1) };
+
+    ghost write_faults_fit = { λ a. S.write_faults_fit a.now };
 }

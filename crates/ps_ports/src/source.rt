@@ -1,5 +1,5 @@
 //! Sources of bytes.
-ghost use Rattle.std.specs.Prelude.{◌≡◌, ℕ, List, Option, refl};
+ghost use Rattle.std.specs.Prelude.{◌≡◌, ◌<◌, ◌^◌, ℕ, List, Option, refl};
 ghost use Rattle.std.specs.Io.{ReadsAtMost};
 ghost use Rattle.std.specs.Io.KnownBytes.{ReadConsumes};
 ghost use Rattle.std.proofs.Common.{◌∙◌};
@@ -29,6 +29,9 @@ pub trait Source {
     ghost kept_refl: { (a : Self) → kept a a };
 
     ghost kept_trans: { (a b c : Self) → kept a b → kept b c → kept a c };
+
+    // The count is a `u64`, at each moment.
+    ghost read_faults_fit: { (a : Self) → read_faults a < 2 ^ 64 };
 }
 
 impl<S: Source> Source for &mut S {
@@ -45,4 +48,6 @@ impl<S: Source> Source for &mut S {
     ghost kept_refl = { λ a. (refl, S.kept_refl a.now) };
 
     ghost kept_trans = { λ a b c p q. (q.0 ∙ p.0, S.kept_trans a.now b.now c.now p.1 q.1) };
+
+    ghost read_faults_fit = { λ a. S.read_faults_fit a.now };
 }

@@ -40,6 +40,8 @@ impl<S: Source> Source for Slow<S> {
     ghost kept_refl = { λ a. S.kept_refl a.inner };
 
     ghost kept_trans = { λ a b c. S.kept_trans a.inner b.inner c.inner };
+
+    ghost read_faults_fit = { λ a. S.read_faults_fit a.inner };
 }
 
 impl<K: Sink> Sink for Slow<K> {
@@ -59,6 +61,8 @@ impl<K: Sink> Sink for Slow<K> {
     ghost sink_kept_refl = { λ a. K.sink_kept_refl a.inner };
 
     ghost sink_kept_trans = { λ a b c. K.sink_kept_trans a.inner b.inner c.inner };
+
+    ghost write_faults_fit = { λ a. K.write_faults_fit a.inner };
 }
 
 fn slow_source(

@@ -1,12 +1,11 @@
-use Rattle.std.proofs.Common.{◌≤◌, ◌+◌, ◌-◌, ◌^◌}
-use Rattle.std.specs.Prelude.{min}
+use Rattle.std.proofs.Common.{◌≡◌}
 use Rattle.std.specs.Io.KnownBytes.{Keeps}
+use Rattle.ps_ports.specs.Causes.{counted as as_count, raised_by}
 use Rattle.ps_ports.proofs.adapters.ReaderSourceSource.read.Given as goal
 
 -- each turn so far has counted an error, and has taken nothing
 abbrev pub invariant-loop : goal.invariant-loop
 invariant-loop g l = record {
-  later : l.fn.self.faults ≤ l.self.faults;
-  counted : min (l.fn.self.faults + l.counter) (2 ^ 64 - 1) ≤ l.self.faults;
+  errors : as_count l.self.faults ≡ raised_by l.counter (as_count l.fn.self.faults);
   kept : Keeps (g.R.Read.remaining l.fn.self.reader) (g.R.Read.remaining l.self.reader);
 }
