@@ -106,6 +106,7 @@ half_is_torn at piece bytes =
       before = torn.before;
       after = sym (ap (λ (k : ℕ). drop k new) more) ∙ sym (drop-drop rest (at + m) new) ∙ ap (drop rest) torn.after ∙ drop-drop rest (at + m) bytes ∙ ap (λ (k : ℕ). drop k bytes) more;
       no_shorter = torn.no_shorter;
+      nothing = λ none. torn.nothing (omega (arith, none, length-take (length piece / 2) piece));
     }
 
 half_is_part : (call : DiskCall) (bytes : List ℕ) → PartOf call bytes (half_done_by call bytes)

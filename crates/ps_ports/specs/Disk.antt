@@ -15,11 +15,12 @@ abbrev pub written : ℕ → List ℕ → List ℕ → List ℕ
 written at [] old = old
 written at (b ∷ bytes) old = take at old ++ replicate (at - length old) 0 ++ (b ∷ bytes) ++ drop (at + length (b ∷ bytes)) old
 
--- after any part of a write of n bytes: any bytes in its range and past the old end, the same elsewhere
+-- after any part of a write of n bytes: any bytes in its range and past the old end, the same elsewhere; none change nothing
 pub record Torn (at n : ℕ) (old new : List ℕ) : Type 0 where
   pub before : take (min at (length old)) new ≡ take at old
   pub after : drop (at + n) new ≡ drop (at + n) old
   pub no_shorter : length old ≤ length new
+  pub nothing : n ≡ 0 → new ≡ old
 
 -- after any part of a cut to n bytes: some length between
 pub record Shortened (n : ℕ) (old new : List ℕ) : Type 0 where

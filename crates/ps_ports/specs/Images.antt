@@ -17,7 +17,7 @@ length-front at bytes = omega (arith, length-append (take at bytes) (replicate (
 
 -- a write that was done is a part of itself
 pub written_is_torn : (at : ℕ) (piece bytes : List ℕ) → Torn at (length piece) bytes (written at piece bytes)
-written_is_torn at [] bytes = record { before = take_min at bytes; after = refl; no_shorter = omega arith }
+written_is_torn at [] bytes = record { before = take_min at bytes; after = refl; no_shorter = omega arith; nothing = λ none. refl }
 written_is_torn at (b ∷ piece) bytes =
     let n = length (b ∷ piece) in
     let past = drop (at + n) bytes in
@@ -28,6 +28,7 @@ written_is_torn at (b ∷ piece) bytes =
       before = ap (take (min at (length bytes))) split ∙ take_at (take at bytes) (replicate (at - length bytes) 0 ++ (b ∷ piece) ++ past) (min at (length bytes)) (length-take at bytes);
       after = drop_at (front at bytes ++ b ∷ piece) past (at + n) size;
       no_shorter = omega (arith, length-append (front at bytes ++ b ∷ piece) past, size, length-drop (at + n) bytes);
+      nothing = λ none. absurd (omega (arith, none));
     }
 
 -- so is any call
@@ -41,7 +42,7 @@ done_is_part Sync bytes = refl
 
 -- and nothing at all
 pub nothing_is_part : (call : DiskCall) (bytes : List ℕ) → PartOf call bytes bytes
-nothing_is_part (Write at piece) bytes = record { before = take_min at bytes; after = refl; no_shorter = omega arith }
+nothing_is_part (Write at piece) bytes = record { before = take_min at bytes; after = refl; no_shorter = omega arith; nothing = λ none. refl }
 nothing_is_part (Cut len) bytes = record { front = take_all (length bytes) bytes (omega arith); no_shorter = omega arith }
 nothing_is_part Sync bytes = refl
 
