@@ -8,6 +8,8 @@ use Rattle.ps_ports.specs.Disk.{NoMore}
 use Rattle.ps_ports.specs.MemoryDisk.{DiskState, new_disk, reopened}
 use Rattle.ps_ports.specs.declared.rack.RackFault.{RackFault}
 use Rattle.ps_ports.specs.declared.rack.RackFault.TheVariants.{Failed, Memory}
+use Rattle.std.specs.declared.io.ErrorKind.{ErrorKind}
+use Rattle.std.specs.declared.io.ErrorKind.TheVariants.{OutOfMemory}
 
 -- A new pair. The first disk: the magic, an open gate, the generation 1 in eight bytes, an empty snapshot's length in four, a closed gate.
 abbrev pub fresh_first : List ℕ
@@ -16,6 +18,11 @@ fresh_first = codes "PSCHJRN1" ++ 1 ∷ 0 ∷ 0 ∷ 0 ∷ 0 ∷ 0 ∷ 0 ∷ 0 �
 -- the second: the magic and a closed gate
 abbrev pub fresh_second : List ℕ
 fresh_second = codes "PSCHJRN1" ++ 0 ∷ []
+
+-- the fault that an error of the system stands for
+abbrev pub fault_of : ErrorKind → RackFault
+fault_of OutOfMemory = Memory
+fault_of _ = Failed
 
 -- a disk that was given back and is opened again: it reads as before, and a crash may leave no more than before
 pub record IsKept {D : Type 0} (seen : D → List ℕ) (may_leave : D → List ℕ → Type 0) (old new : D) : Type 0 where

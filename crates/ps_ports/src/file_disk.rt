@@ -18,7 +18,7 @@ pub struct FileDisk {
 }
 
 impl FileDisk {
-    pub fn new(file: File, lock: Option<File>) -> FileDisk
+    pub(crate) fn new(file: File, lock: Option<File>) -> FileDisk
         ensures { ⟦<FileDisk as Disk>⟧.disk_faults result ≡ 0 }
     {
         FileDisk {

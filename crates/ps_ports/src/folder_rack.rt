@@ -1,17 +1,15 @@
 //! A rack over folders of the file system.
-ghost use Rattle.std.specs.Prelude.{◌≡◌, IsErrOf, IfErr};
-ghost use Rattle.ps_ports.specs.declared.rack.RackFault.TheVariants.{Failed as rack_failed, Memory as rack_memory};
+ghost use Rattle.std.specs.Prelude.{◌≡◌};
 
 use crate::disk::Disk;
 use crate::faults::Faults;
 use crate::file_disk::FileDisk;
 use crate::rack::{FRESH_FIRST, FRESH_SECOND, Rack, RackFault};
-use std::alloc::{AllocError, Global};
+use std::alloc::Global;
+use std::fs;
 use std::fs::{File, OpenFile, OpenOptions};
-use std::io::ErrorKind;
 use std::os::unix::fs::FileExt;
 use std::rt::Files;
-use std::{fs, io};
 
 /// A rack over folders. In a folder lie `lock` and the folder `pair`, with `first` and `second`.
 ///
@@ -79,23 +77,6 @@ impl<R: Files<File = File>> Rack for FolderRack<R> {
     }
 
     ghost rack_faults_fit = { λ r. counted_fits r.faults };
-}
-
-impl From<io::Error> for RackFault {
-    fn from(fault: io::Error) -> RackFault {
-        match fault.kind() {
-            ErrorKind::OutOfMemory => RackFault::Memory,
-            _ => RackFault::Failed,
-        }
-    }
-}
-
-impl From<AllocError> for RackFault {
-    ghost from_gives = { λ _ fault. fault ≡ rack_memory };
-
-    fn from(_: AllocError) -> RackFault {
-        RackFault::Memory
-    }
 }
 
 fn open_files<R: Files<File = File>>(

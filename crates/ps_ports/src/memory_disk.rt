@@ -124,7 +124,7 @@ impl MemoryDisk {
     }
 
     /// The disk with its count of faults set back to 0.
-    pub fn reopened(self) -> MemoryDisk
+    pub(crate) fn reopened(self) -> MemoryDisk
         ensures { result ≡ reopened self }
     {
         let MemoryDisk {
@@ -168,7 +168,7 @@ impl MemoryDisk {
     fn starve(&mut self) -> Failed
         ensures after { self.new ≡ after_starved self.old }
         ensures size { AreBounded (IsImage self.new.history) }
-        ensures rose { (self.old.faults ≤ self.new.faults) × (counted self.new.faults ≡ raised (counted self.old.faults)) }
+        ensures rose { (counted self.old.faults ≤ counted self.new.faults) × (counted self.new.faults ≡ raised (counted self.old.faults)) }
     {
         self.history.known();
         self.next_fails();

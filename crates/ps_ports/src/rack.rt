@@ -6,7 +6,10 @@ ghost use Rattle.ps_ports.specs.Rack.{fresh_first, fresh_second, IsKept};
 ghost use Rattle.ps_ports.specs.declared.rack.RackFault.TheVariants.{Failed as rack_failed};
 
 use crate::disk::Disk;
-use std::alloc::Global;
+use ps_time::memory::Memory;
+use std::alloc::{AllocError, Global};
+use std::io;
+use std::io::ErrorKind;
 
 /// The first disk of a new pair: the magic, an open gate, the generation 1, an empty snapshot, a closed
 /// gate.
@@ -21,6 +24,43 @@ pub enum RackFault {
     /// The rack failed, and has counted that.
     Failed,
     Memory,
+}
+
+impl From<io::Error> for RackFault {
+    ghost use Rattle.std.specs.Prelude.{◌≡◌};
+    ghost use Rattle.std.specs.IoError.{error_kind};
+    ghost use Rattle.ps_ports.specs.Rack.{fault_of};
+
+    ghost from_gives = { λ error fault. fault ≡ fault_of (error_kind error) };
+
+    fn from(error: io::Error) -> RackFault {
+        match error.kind() {
+            ErrorKind::OutOfMemory => RackFault::Memory,
+            _ => RackFault::Failed,
+        }
+    }
+}
+
+impl From<AllocError> for RackFault {
+    ghost use Rattle.std.specs.Prelude.{◌≡◌};
+    ghost use Rattle.ps_ports.specs.declared.rack.RackFault.TheVariants.{Memory as rack_memory};
+
+    ghost from_gives = { λ _ fault. fault ≡ rack_memory };
+
+    fn from(_fault: AllocError) -> RackFault {
+        RackFault::Memory
+    }
+}
+
+impl From<Memory> for RackFault {
+    ghost use Rattle.std.specs.Prelude.{◌≡◌};
+    ghost use Rattle.ps_ports.specs.declared.rack.RackFault.TheVariants.{Memory as rack_memory};
+
+    ghost from_gives = { λ _ fault. fault ≡ rack_memory };
+
+    fn from(_fault: Memory) -> RackFault {
+        RackFault::Memory
+    }
 }
 
 /// What keeps pairs of disks.
