@@ -55,6 +55,11 @@ is_sync (Write at bytes) = false
 is_sync (Cut len) = false
 is_sync Sync = true
 
+-- the first of these calls is a sync
+abbrev pub begins_with_sync : List LoggedCall → Bool
+begins_with_sync [] = false
+begins_with_sync (l ∷ log) = is_sync l.call
+
 -- a sync that was done
 abbrev pub fixes : LoggedCall → Bool
 fixes l = if l.done then is_sync l.call else false

@@ -1,7 +1,7 @@
 //! The bytes of a disk in memory, and the calls that made them.
 ghost use Rattle.std.specs.Prelude.{◌≡◌, ◌+◌, ◌-◌, ◌≤◌, ◌++◌, [], ◌∷◌, ℕ, List, length, take, drop, replicate, min, IsTrue, IfOk, OnOk, OnErr, if◌then◌else◌};
 ghost use Rattle.ps_ports.specs.Disk.{AreBounded, ReadsAt, written, done_by};
-ghost use Rattle.ps_ports.specs.History.{with_call, first_calls, bytes_now, effect, replayed, half_replayed, half_done_by, fixes, standing, IsImage, image_bytes, EndsInReach, start_of};
+ghost use Rattle.ps_ports.specs.History.{with_call, first_calls, begins_with_sync, LeftSince, bytes_now, effect, replayed, half_replayed, half_done_by, fixes, standing, IsImage, image_bytes, EndsInReach, start_of};
 
 use crate::disk::DiskCall;
 use crate::image::Image;
@@ -64,6 +64,14 @@ impl History {
         self.log.len() as u64
     }
 
+    /// Whether the call after so many others was a sync.
+    pub fn is_sync(&self, before: usize) -> bool
+        requires { before ≤ length self.now.log }
+        ensures { result ≡ begins_with_sync (drop before self.now.log) }
+    {
+        begins_with_sync(&self.log[before..])
+    }
+
     /// Makes a call, or notes one that failed. Where memory is wanting nothing is changed.
     pub fn add(&mut self, call: DiskCall, done: bool) -> Result<(), Memory>
         requires { IsTrue done → EndsInReach call }
@@ -87,6 +95,7 @@ impl History {
         requires { calls ≤ length self.log }
         ensures bytes { IfOk result (λ bytes. bytes.items ≡ image_bytes image (first_calls calls self)) }
         ensures image { IfOk result (λ bytes. IsImage (first_calls calls self) bytes.items) }
+        ensures left { IfOk result (λ bytes. LeftSince self calls bytes.items) }
     {
         let start = first_bytes(self.first, self.bytes);
         left_by_crash(start, &self.log[..calls as usize], image)
@@ -220,6 +229,15 @@ fn replay_fixed(bytes: &mut Vec<u8>, log: &[LoggedCall]) -> Result<usize, Memory
         }
     }
     Ok(fixed)
+}
+
+fn begins_with_sync(log: &[LoggedCall]) -> bool
+    ensures { result ≡ begins_with_sync log.now }
+{
+    match log.first() {
+        Some(logged) => matches!(&logged.call, DiskCall::Sync),
+        None => false,
+    }
 }
 
 fn is_fixing(logged: &LoggedCall) -> bool

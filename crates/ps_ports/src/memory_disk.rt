@@ -4,7 +4,7 @@ ghost use Rattle.std.specs.Io.{ReadsAtMost};
 ghost use Rattle.ps_ports.specs.Disk.{ReadsAt, written, Torn, Shortened, Follows, NoMore, Only, AreBounded, Elapses, CountsFault, Tells};
 ghost use Rattle.ps_ports.specs.Causes.{counted, raised};
 ghost use Rattle.ps_ports.specs.Memory.{called, fails_next};
-ghost use Rattle.ps_ports.specs.History.{IsImage, LeftSince, bytes_now, first_calls, image_bytes};
+ghost use Rattle.ps_ports.specs.History.{IsImage, LeftSince, begins_with_sync, bytes_now, first_calls, image_bytes};
 ghost use Rattle.ps_ports.specs.MemoryDisk.{new_disk, armed, armed_number, after_read, after_starved, ends_too_far, is_to_fail, Makes, reopened, told_calls};
 ghost use Rattle.ps_ports.specs.declared.disk.DiskCall.TheVariants.{Write, Cut, Sync};
 
@@ -96,6 +96,16 @@ impl MemoryDisk {
         self.starved
     }
 
+    /// Whether one of the writes, cuts and syncs was a sync, the first of them being number 1. A stop that
+    /// comes into a sync leaves it undone, one that comes into a write or a cut may have done it.
+    pub fn was_sync(&self, call: u64) -> bool
+        requires counted { 1 ≤ call }
+        requires made { call ≤ length self.now.history.log }
+        ensures { result ≡ begins_with_sync (drop (call - 1) self.now.history.log) }
+    {
+        self.history.is_sync((call - 1) as usize)
+    }
+
     /// Lets one of the writes, cuts and syncs fail, numbered from 1 from now on, or none.
     pub fn fail_at(&mut self, call: Option<u64>)
         ensures { self.new ≡ armed self.old (armed_number call) }
@@ -110,6 +120,10 @@ impl MemoryDisk {
         ensures disk { IfOk result (λ disk. disk ≡ new_disk (image_bytes image (first_calls calls self.history)) []) }
         ensures image { IfOk result (λ disk. IsImage (first_calls calls self.history) (bytes_now disk.history)) }
         ensures size { IfOk result (λ disk. AreBounded (IsImage disk.history)) }
+
+        // The same in the words of the trait: these bytes are left since that moment, and then only these.
+        ensures left { IfOk result (λ disk. ⟦<MemoryDisk as Disk>⟧.left_since self calls (⟦<MemoryDisk as Disk>⟧.seen disk)) }
+        ensures only { IfOk result (λ disk. Only (⟦<MemoryDisk as Disk>⟧.seen disk) (⟦<MemoryDisk as Disk>⟧.may_leave disk)) }
     {
         let alloc = self.history.alloc();
         let MemoryDisk {
@@ -125,8 +139,10 @@ impl MemoryDisk {
 
     /// The disk with its count of faults set back to 0.
     pub(crate) fn reopened(self) -> MemoryDisk
-        ensures { result ≡ reopened self }
+        ensures disk { result ≡ reopened self }
+        ensures size { AreBounded (IsImage result.history) }
     {
+        self.history.known();
         let MemoryDisk {
             history,
             calls,
@@ -141,13 +157,6 @@ impl MemoryDisk {
             faults: Faults::none(),
             starved,
         }
-    }
-
-    // No image is too long. Does nothing.
-    pub(crate) fn known(&self)
-        ensures { AreBounded (IsImage self.now.history) }
-    {
-        self.history.known();
     }
 
     // Whether the next write, cut or sync is to fail, whatever it is. Counts it.

@@ -103,11 +103,7 @@ impl Rack for MemoryRack {
             return Err(RackFault::Failed);
         }
         match self.shelf.take(alloc, folder) {
-            Ok((first, second)) => {
-                first.known();
-                second.known();
-                Ok((first, second))
-            }
+            Ok(pair) => Ok(pair),
             Err(_) => Err(RackFault::Memory),
         }
     }

@@ -1,6 +1,8 @@
 //! The pairs in a rack in memory.
 ghost use Rattle.std.specs.Prelude.{◌≡◌, [], IfOk, OnOk, OnErr, IfSome, IfNone, IsTrue, is_some, None, bytes_eq, ◌+◌, ◌<◌, ◌∷◌, vec_len, vec_capacity};
 ghost use Rattle.ps_ports.specs.Rack.{find_pair, opened_pair, after_take, after_give, first_by, is_under, IsFirst};
+ghost use Rattle.ps_ports.specs.Disk.{AreBounded};
+ghost use Rattle.ps_ports.specs.History.{IsImage};
 ghost use Rattle.ps_ports.specs.MemoryDisk.{new_disk as made_disk};
 
 use crate::memory_disk::MemoryDisk;
@@ -53,6 +55,7 @@ impl Shelf {
     /// Takes the folder's pair, or a new one. Where memory is wanting nothing is changed.
     pub fn take(&mut self, alloc: Global, folder: &str) -> Result<(MemoryDisk, MemoryDisk), Memory>
         ensures pair { IfOk result (λ pair. pair ≡ opened_pair (find_pair folder.now self.old.pairs)) }
+        ensures size { IfOk result (λ pair. AreBounded (IsImage pair.0.history) × AreBounded (IsImage pair.1.history)) }
         ensures after { OnOk result (self.new ≡ after_take folder.now self.old) }
         ensures err { OnErr result (self.new ≡ self.old) }
     {
@@ -97,7 +100,8 @@ fn put_first(pairs: &mut Vec<(Text, MemoryDisk, MemoryDisk)>, pair: (Text, Memor
 }
 
 fn new_disk(alloc: Global, bytes: &[u8]) -> Result<MemoryDisk, Memory>
-    ensures { IfOk result (λ disk. disk ≡ made_disk bytes.now []) }
+    ensures disk { IfOk result (λ disk. disk ≡ made_disk bytes.now []) }
+    ensures size { IfOk result (λ disk. AreBounded (IsImage disk.history)) }
 {
     Ok(MemoryDisk::new(alloc, bytes.to_vec(alloc)?, Vec::new(alloc)))
 }

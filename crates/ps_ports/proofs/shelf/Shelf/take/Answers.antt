@@ -10,7 +10,7 @@ pub returns-in_ok-push-in-Some-clause-pair : goal.returns-in_ok-push-in-Some-cla
 returns-in_ok-push-in-Some-clause-pair c =
     let folder = c.args.folder.now in
     let here = pair_here folder c.self.inside.pairs.items c.in-Some.at c.remove-name.result (first c) c.remove-name.ensures.value in
-    (λ i. (c.reopened.ensures i, c.reopened-in-Some.ensures i)) ∙ ap opened_pair (sym here) ∙ ap (λ s. opened_pair (find_pair folder s.pairs)) c.self.view_is
+    (λ i. (c.reopened.ensures.disk i, c.reopened-in-Some.ensures.disk i)) ∙ ap opened_pair (sym here) ∙ ap (λ s. opened_pair (find_pair folder s.pairs)) c.self.view_is
 
 pub returns-in_ok-push-in-Some-clause-after : goal.returns-in_ok-push-in-Some-clause-after
 returns-in_ok-push-in-Some-clause-after c =
