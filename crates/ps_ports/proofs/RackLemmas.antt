@@ -3,8 +3,8 @@ use Rattle.std.proofs.Common.{◌≡◌, ◌↔◌, ℕ, suc, ◌+◌, ◌<◌, 
 use Rattle.std.specs.Option.{option_map}
 use Rattle.std.proofs.lemmas.List.{drop_more, take_more, get_or_default}
 use Rattle.std.proofs.lemmas.Slice.Eq.{bytes_eq-Decides}
-use Rattle.std.specs.Prelude.{IfSome, IfNone}
-use Rattle.ps_ports.specs.Rack.{Stored, first_by, without_first, IsFirst, is_under, find_pair, opened_pair, fresh_first, fresh_second}
+use Rattle.std.specs.Prelude.{IfSome, IfNone, Result, Ok, Err, OnOk, OnErr}
+use Rattle.ps_ports.specs.Rack.{Stored, ShelfState, after_take, first_by, without_first, IsFirst, is_under, find_pair, opened_pair, fresh_first, fresh_second}
 use Rattle.ps_ports.specs.Disk.{Only}
 use Rattle.ps_ports.specs.History.{bytes_now, IsImage}
 use Rattle.ps_ports.specs.MemoryDisk.{DiskState}
@@ -78,6 +78,25 @@ is_last folder (f ∷ out) = there (bytes_eq folder f) (is_last folder out)
     there true rest = refl
     there false rest = rest
 
+-- where one goes for which another test fails, the first for which that holds stays
+pub first_left : {X : Type 0} (goes test : X → Bool) (xs : List X) → ((x : X) → goes x ≡ true → test x ≡ false) → first_by test (without_first goes xs) ≡ first_by test xs
+first_left goes test [] apart = refl
+first_left {X} goes test (x ∷ xs) apart = here (goes x) refl (first_left goes test xs apart)
+  where
+    here : (b : Bool) → goes x ≡ b → first_by test (without_first goes xs) ≡ first_by test xs → first_by test (without_first goes (x ∷ xs)) ≡ first_by test (x ∷ xs)
+    here true holds rest = ap (λ b. first_by test (if b then xs else x ∷ without_first goes xs)) holds ∙ sym (ap (λ b. if b then Some x else first_by test xs) (apart x holds))
+    here false fails rest = ap (λ b. first_by test (if b then xs else x ∷ without_first goes xs)) fails ∙ ap (λ o. if test x then Some x else o) rest
+
+-- one that is there is there with more behind it
+pub still_there : {X : Type 0} (test : X → Bool) (xs ys : List X) → is_some (first_by test xs) ≡ true → is_some (first_by test (xs ++ ys)) ≡ true
+still_there test [] ys there = absurd (cc there)
+still_there {X} test (x ∷ xs) ys there = at (test x) (still_there test xs ys) there
+  where
+    at : (b : Bool) → (is_some (first_by test xs) ≡ true → is_some (first_by test (xs ++ ys)) ≡ true) → is_some (if b then Some x else first_by test xs) ≡ true
+        → is_some (if b then Some x else first_by test (xs ++ ys)) ≡ true
+    at true rest is = refl
+    at false rest is = rest is
+
 -- what a new pair holds
 pub record IsFresh (pair : DiskState × DiskState) : Type 0 where
   pub first : bytes_now pair.0.history ≡ fresh_first
@@ -88,3 +107,41 @@ pub record IsFresh (pair : DiskState × DiskState) : Type 0 where
 pub fresh_pair : (kept : Option (DiskState × DiskState)) (pair : DiskState × DiskState) → pair ≡ opened_pair kept → ((first second : DiskState) → kept ≡ Some (first, second) → ⊥) → IsFresh pair
 fresh_pair None pair is none = subst IsFresh (sym is) (record { first = refl; second = refl; only_first = λ c image. image; only_second = λ c image. image })
 fresh_pair (Some kept) pair is none = absurd (none kept.0 kept.1 refl)
+
+-- Of other folders.
+
+module _ (folder other : List ℕ) (apart : other ≡ folder → ⊥) where
+  other_name : (name : List ℕ) → bytes_eq folder name ≡ true → bytes_eq other name ≡ false
+  other_name name is = fails (bytes_eq other name) refl
+    where
+      fails : (b : Bool) → bytes_eq other name ≡ b → bytes_eq other name ≡ false
+      fails false differs = differs
+      fails true same = absurd (apart ((bytes_eq-Decides other name).0 same ∙ sym ((bytes_eq-Decides folder name).0 is)))
+
+  pub not_the_folder : bytes_eq other folder ≡ false
+  not_the_folder = other_name folder ((bytes_eq-Decides folder folder).1 refl)
+
+  -- an opening leaves their pairs
+  pub taken_elsewhere : (pairs : List Stored) → find_pair other (without_first (is_under folder) pairs) ≡ find_pair other pairs
+  taken_elsewhere pairs = ap (option_map (λ (p : Stored). (p.1, p.2))) (first_left (is_under folder) (is_under other) pairs (λ p. other_name p.0))
+
+  -- so does a closing
+  pub given_elsewhere : (pairs : List Stored) (first second : DiskState) → find_pair other ((folder, first, second) ∷ pairs) ≡ find_pair other pairs
+  given_elsewhere pairs first second =
+      ap (λ b. option_map (λ (p : Stored). (p.1, p.2)) (if b then Some (folder, first, second) else first_by (is_under other) pairs)) not_the_folder
+
+  -- what was open still is
+  pub open_elsewhere : (out : List (List ℕ)) → first_by (bytes_eq other) (without_first (bytes_eq folder) out) ≡ first_by (bytes_eq other) out
+  open_elsewhere out = first_left (bytes_eq folder) (bytes_eq other) out other_name
+
+-- What a shelf has after a pair was taken, or wasn't.
+
+pub take_leaves : {A E : Type 0} (folder : List ℕ) (old new : ShelfState) (result : Result A E) → OnOk result (new ≡ after_take folder old) → OnErr result (new ≡ old)
+    → (other : List ℕ) → (other ≡ folder → ⊥) → find_pair other new.pairs ≡ find_pair other old.pairs
+take_leaves folder old new (Ok value) after same other apart = ap (λ s. find_pair other s.pairs) after ∙ taken_elsewhere folder other apart old.pairs
+take_leaves folder old new (Err fault) after same other apart = ap (λ s. find_pair other s.pairs) same
+
+pub take_keeps_open : {A E : Type 0} (folder : List ℕ) (old new : ShelfState) (result : Result A E) → OnOk result (new ≡ after_take folder old) → OnErr result (new ≡ old)
+    → (other : List ℕ) → is_some (first_by (bytes_eq other) old.out) ≡ true → is_some (first_by (bytes_eq other) new.out) ≡ true
+take_keeps_open folder old new (Ok value) after same other is = ap (λ s. is_some (first_by (bytes_eq other) s.out)) after ∙ still_there (bytes_eq other) old.out (folder ∷ []) is
+take_keeps_open folder old new (Err fault) after same other is = ap (λ s. is_some (first_by (bytes_eq other) s.out)) same ∙ is

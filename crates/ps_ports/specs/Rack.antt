@@ -1,5 +1,6 @@
 -- Pairs of disks in a rack.
 use Rattle.std.specs.Prelude.{◌≡◌, ℕ, ◌<◌, ◌==◌, Bool, true, false, ◌||◌, ◌&&◌, if◌then◌else◌, List, [], ◌∷◌, ◌++◌, codes, length, slice_index_or, bytes_eq, Option, Some, None, is_some, Result, Ok, Err}
+use Rattle.std.proofs.Common.{sym, ◌∙◌, ap}
 use Rattle.std.specs.Option.{option_map}
 use Rattle.std.specs.List.{remove}
 use Rattle.ps_ports.specs.Causes.{raised}
@@ -28,6 +29,18 @@ fault_of _ = Failed
 pub record IsKept {D : Type 0} (seen : D → List ℕ) (may_leave : D → List ℕ → Type 0) (old new : D) : Type 0 where
   pub bytes : seen new ≡ seen old
   pub images : NoMore (may_leave old) (may_leave new)
+
+-- of each other folder the rack tells the same pairs as before
+abbrev pub LeavesOthers : {D : Type 0} → List ℕ → (List ℕ → D → D → Type 0) → (List ℕ → D → D → Type 0) → Type 0
+LeavesOthers {D} folder old new = (other : List ℕ) (first second : D) → (other ≡ folder → ⊥) → (old other first second → new other first second) × (new other first second → old other first second)
+
+-- of each folder
+abbrev pub LeavesAll : {D : Type 0} → (List ℕ → D → D → Type 0) → (List ℕ → D → D → Type 0) → Type 0
+LeavesAll {D} old new = (folder : List ℕ) (first second : D) → (old folder first second → new folder first second) × (new folder first second → old folder first second)
+
+-- the pair of each other folder that was open still is
+abbrev pub LeavesOpen : List ℕ → (List ℕ → Type 0) → (List ℕ → Type 0) → Type 0
+LeavesOpen folder old new = (other : List ℕ) → (other ≡ folder → ⊥) → old other → new other
 
 -- a pair in memory, with its folder
 abbrev pub Stored : Type 0
@@ -69,6 +82,10 @@ pub record RackState : Type 0 where
   pub calls : Calls
   pub faults : ℕ
 
+-- the pair lies in the rack under the folder
+abbrev pub KeepsPair : RackState → List ℕ → DiskState → DiskState → Type 0
+KeepsPair r folder first second = find_pair folder r.shelf.pairs ≡ Some (first, second)
+
 abbrev pub is_out : List ℕ → RackState → Bool
 is_out folder r = is_some (first_by (bytes_eq folder) r.shelf.out)
 
@@ -101,3 +118,13 @@ after_close folder first second r = record {
   calls = r.calls;
   faults = if (first.faults == 0) && (second.faults == 0) then r.faults else raised r.faults;
 }
+
+-- a folder has one pair
+pub one_pair_kept : (r : RackState) (folder : List ℕ) (a b c d : DiskState) → Unit {0} → KeepsPair r folder a b → KeepsPair r folder c d → (c ≡ a) × (d ≡ b)
+one_pair_kept r folder a b c d tells one other =
+    let same : Some (c, d) ≡ Some (a, b) = sym other ∙ one in
+    (ap (λ o. (pair_in o (a, b)).0) same, ap (λ o. (pair_in o (a, b)).1) same)
+  where
+    pair_in : Option (DiskState × DiskState) → DiskState × DiskState → DiskState × DiskState
+    pair_in None none = none
+    pair_in (Some pair) none = pair

@@ -48,6 +48,8 @@ impl<R: Files<File = File>> Rack for FolderRack<R> {
 
     ghost rack_faults = { λ r. counted r.faults };
 
+    ghost tells_pairs = { ⊥ };
+
     ghost keeps_pair = { λ _ _ _ _. Unit {0} };
 
     ghost is_open = { λ _ _. Unit {0} };
@@ -75,6 +77,8 @@ impl<R: Files<File = File>> Rack for FolderRack<R> {
             self.faults.raise();
         }
     }
+
+    ghost one_pair = { λ _ _ _ _ _ _ no. absurd no };
 
     ghost rack_faults_fit = { λ r. counted_fits r.faults };
 }

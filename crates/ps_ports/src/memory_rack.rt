@@ -1,11 +1,11 @@
 //! A rack in memory.
-ghost use Rattle.std.specs.Prelude.{◌≡◌, ◌≤◌, ◌<◌, ◌+◌, [], IfOk, OnOk, IsErrOf, IsTrue, Some};
+ghost use Rattle.std.specs.Prelude.{◌≡◌, ◌≤◌, ◌<◌, ◌+◌, [], IfOk, OnOk, OnErr, IsErrOf, IsTrue, Some};
 ghost use Rattle.ps_ports.specs.Causes.{counted, raised};
 ghost use Rattle.ps_ports.specs.Memory.{no_calls};
 ghost use Rattle.ps_ports.specs.Disk.{AreBounded, Only};
 ghost use Rattle.ps_ports.specs.History.{IsImage, bytes_now};
 ghost use Rattle.ps_ports.specs.MemoryDisk.{DiskState};
-ghost use Rattle.ps_ports.specs.Rack.{fresh_first, fresh_second, IsKept, find_pair, is_out, Opens, after_close};
+ghost use Rattle.ps_ports.specs.Rack.{fresh_first, fresh_second, IsKept, KeepsPair, LeavesOthers, LeavesAll, LeavesOpen, find_pair, is_out, Opens, after_close};
 ghost use Rattle.ps_ports.specs.declared.rack.RackFault.TheVariants.{Failed as rack_failed};
 
 use crate::disk::Disk;
@@ -69,13 +69,15 @@ impl MemoryRack {
 impl Rack for MemoryRack {
     ghost use Rattle.std.specs.Prelude.{◌≡◌, IsTrue, Some};
     ghost use Rattle.ps_ports.specs.Causes.{counted, counted_fits};
-    ghost use Rattle.ps_ports.specs.Rack.{find_pair, is_out};
+    ghost use Rattle.ps_ports.specs.Rack.{KeepsPair, is_out, one_pair_kept};
 
     type Disk = MemoryDisk;
 
     ghost rack_faults = { λ r. counted r.faults };
 
-    ghost keeps_pair = { λ r folder first second. find_pair folder r.shelf.pairs ≡ Some (first, second) };
+    ghost tells_pairs = { Unit {0} };
+
+    ghost keeps_pair = { KeepsPair };
 
     ghost is_open = { λ r folder. IsTrue (is_out folder r) };
 
@@ -91,7 +93,10 @@ impl Rack for MemoryRack {
         ensures fresh { IfOk result (λ pair. ((first second : DiskState) → find_pair folder.now self.old.shelf.pairs ≡ Some (first, second) → ⊥)
             → (bytes_now pair.0.history ≡ fresh_first) × (bytes_now pair.1.history ≡ fresh_second)
             × Only fresh_first (IsImage pair.0.history) × Only fresh_second (IsImage pair.1.history)) }
+        ensures others { LeavesOthers folder.now (KeepsPair self.old) (KeepsPair self.new) }
+        ensures nothing { OnErr result (LeavesAll (KeepsPair self.old) (KeepsPair self.new)) }
         ensures open { OnOk result (IsTrue (is_out folder.now self.new)) }
+        ensures open_others { LeavesOpen folder.now (λ f. IsTrue (is_out f self.old)) (λ f. IsTrue (is_out f self.new)) }
         ensures size { IfOk result (λ pair. AreBounded (IsImage pair.0.history) × AreBounded (IsImage pair.1.history)) }
         ensures later { counted self.old.faults ≤ counted self.new.faults }
         ensures failed { IsErrOf result rack_failed → counted self.new.faults ≡ raised (counted self.old.faults) }
@@ -111,6 +116,8 @@ impl Rack for MemoryRack {
     fn close_pair(&mut self, folder: &str, first: MemoryDisk, second: MemoryDisk)
         requires { IsTrue (is_out folder.now self.old) }
         ensures kept { find_pair folder.now self.new.shelf.pairs ≡ Some (first, second) }
+        ensures others { LeavesOthers folder.now (KeepsPair self.old) (KeepsPair self.new) }
+        ensures open_others { LeavesOpen folder.now (λ f. IsTrue (is_out f self.old)) (λ f. IsTrue (is_out f self.new)) }
         ensures rose { 0 < counted first.faults + counted second.faults → counted self.new.faults ≡ raised (counted self.old.faults) }
         ensures calm { counted first.faults + counted second.faults ≡ 0 → counted self.new.faults ≡ counted self.old.faults }
         ensures after { self.new ≡ after_close folder.now first second self.old }
@@ -120,6 +127,8 @@ impl Rack for MemoryRack {
         }
         self.shelf.give_back(folder, first, second);
     }
+
+    ghost one_pair = { one_pair_kept };
 
     ghost rack_faults_fit = { λ r. counted_fits r.faults };
 }

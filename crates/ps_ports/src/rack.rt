@@ -1,8 +1,8 @@
 //! Racks: pairs of disks, each under a folder.
-ghost use Rattle.std.specs.Prelude.{◌≡◌, ◌≢◌, ℕ, ◌+◌, ◌≤◌, ◌<◌, ◌^◌, List, IfOk, OnOk, IsErrOf};
+ghost use Rattle.std.specs.Prelude.{◌≡◌, ◌≢◌, ℕ, ◌+◌, ◌≤◌, ◌<◌, ◌^◌, List, IfOk, OnOk, OnErr, IsErrOf};
 ghost use Rattle.ps_ports.specs.Causes.{raised};
 ghost use Rattle.ps_ports.specs.Disk.{AreBounded, Only};
-ghost use Rattle.ps_ports.specs.Rack.{fresh_first, fresh_second, IsKept};
+ghost use Rattle.ps_ports.specs.Rack.{fresh_first, fresh_second, IsKept, LeavesOthers, LeavesAll, LeavesOpen};
 ghost use Rattle.ps_ports.specs.declared.rack.RackFault.TheVariants.{Failed as rack_failed};
 
 use crate::disk::Disk;
@@ -70,6 +70,9 @@ pub trait Rack {
     // How many calls failed, or got back a disk that had failed: a `u64` that never falls.
     ghost rack_faults: { Self → ℕ };
 
+    // The rack tells its pairs. A rack over real folders doesn't.
+    ghost tells_pairs: { Type 0 };
+
     // The pair that is kept under a folder, where the rack tells its pairs; otherwise any.
     ghost keeps_pair: { Self → List ℕ → Self.Disk → Self.Disk → Type 0 };
 
@@ -89,7 +92,10 @@ pub trait Rack {
             → (Self.Disk.seen pair.0 ≡ fresh_first) × (Self.Disk.seen pair.1 ≡ fresh_second)
             × Only fresh_first (Self.Disk.may_leave pair.0) × Only fresh_second (Self.Disk.may_leave pair.1)) }
         ensures size { Self.Disk.premise → IfOk result (λ pair. AreBounded (Self.Disk.may_leave pair.0) × AreBounded (Self.Disk.may_leave pair.1)) }
+        ensures others { tells_pairs → LeavesOthers folder.now (keeps_pair self.old) (keeps_pair self.new) }
+        ensures nothing { tells_pairs → OnErr result (LeavesAll (keeps_pair self.old) (keeps_pair self.new)) }
         ensures open { OnOk result (is_open self.new folder.now) }
+        ensures open_others { LeavesOpen folder.now (is_open self.old) (is_open self.new) }
         ensures later { rack_faults self.old ≤ rack_faults self.new }
         ensures failed { IsErrOf result rack_failed → rack_faults self.new ≡ raised (rack_faults self.old) }
         ensures calm { (IsErrOf result rack_failed → ⊥) → rack_faults self.new ≡ rack_faults self.old };
@@ -98,8 +104,13 @@ pub trait Rack {
     fn close_pair(&mut self, folder: &str, first: Self::Disk, second: Self::Disk)
         requires { is_open self.old folder.now }
         ensures kept { keeps_pair self.new folder.now first second }
+        ensures others { tells_pairs → LeavesOthers folder.now (keeps_pair self.old) (keeps_pair self.new) }
+        ensures open_others { LeavesOpen folder.now (is_open self.old) (is_open self.new) }
         ensures rose { 0 < Self.Disk.disk_faults first + Self.Disk.disk_faults second → rack_faults self.new ≡ raised (rack_faults self.old) }
         ensures calm { Self.Disk.disk_faults first + Self.Disk.disk_faults second ≡ 0 → rack_faults self.new ≡ rack_faults self.old };
+
+    // A folder has one pair.
+    ghost one_pair: { (rack : Self) (folder : List ℕ) (a b c d : Self.Disk) → tells_pairs → keeps_pair rack folder a b → keeps_pair rack folder c d → (c ≡ a) × (d ≡ b) };
 
     // The count is a `u64`, at each moment.
     ghost rack_faults_fit: { (rack : Self) → rack_faults rack < 2 ^ 64 };
