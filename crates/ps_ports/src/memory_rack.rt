@@ -19,7 +19,6 @@ use std::alloc::Global;
 use std::marker::Model;
 
 /// Pairs of disks in memory. An opening fails also where the folder's pair is open.
-#[derive(Drop)]
 pub struct MemoryRack {
     shelf: Shelf,
     calls: FailingCalls,
@@ -32,6 +31,16 @@ impl Model for MemoryRack {
     ghost Value = { RackState };
 
     ghost view = { λ r. record { shelf = r.shelf; calls = r.calls; faults = r.faults } };
+}
+
+impl Drop for MemoryRack {
+    fn drop(self) {
+        let MemoryRack {
+            shelf: _,
+            calls: _,
+            faults: _,
+        } = self;
+    }
 }
 
 impl MemoryRack {

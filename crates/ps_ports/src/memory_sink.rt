@@ -13,7 +13,6 @@ use crate::written::Written;
 use std::marker::Model;
 
 /// Bytes that were written, and the writes that are to fail. A write that finds no memory fails.
-#[derive(Drop)]
 pub struct MemorySink {
     written: Written,
     calls: FailingCalls,
@@ -26,6 +25,16 @@ impl Model for MemorySink {
     ghost Value = { SinkState };
 
     ghost view = { λ s. record { written = s.written.bytes; calls = s.calls; faults = s.faults; starved = s.written.starved } };
+}
+
+impl Drop for MemorySink {
+    fn drop(self) {
+        let MemorySink {
+            written: _,
+            calls: _,
+            faults: _,
+        } = self;
+    }
 }
 
 impl MemorySink {

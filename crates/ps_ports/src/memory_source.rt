@@ -13,7 +13,6 @@ use crate::unread::Unread;
 use std::marker::Model;
 
 /// Bytes to read, and the reads that are to fail.
-#[derive(Drop)]
 pub struct MemorySource {
     left: Unread,
     calls: FailingCalls,
@@ -26,6 +25,16 @@ impl Model for MemorySource {
     ghost Value = { SourceState };
 
     ghost view = { λ s. record { left = s.left; calls = s.calls; faults = s.faults } };
+}
+
+impl Drop for MemorySource {
+    fn drop(self) {
+        let MemorySource {
+            left: _,
+            calls: _,
+            faults: _,
+        } = self;
+    }
 }
 
 impl MemorySource {

@@ -18,7 +18,6 @@ use std::marker::Model;
 
 /// Bytes to read, bytes that were written, and the calls that are to fail, reads and writes
 /// numbered together. A write that finds no memory fails.
-#[derive(Drop)]
 pub struct MemoryStream {
     left: Unread,
     written: Written,
@@ -40,6 +39,18 @@ impl Model for MemoryStream {
       write_faults = s.write_faults;
       starved = s.written.starved;
     } };
+}
+
+impl Drop for MemoryStream {
+    fn drop(self) {
+        let MemoryStream {
+            left: _,
+            written: _,
+            calls: _,
+            read_faults: _,
+            write_faults: _,
+        } = self;
+    }
 }
 
 impl MemoryStream {
