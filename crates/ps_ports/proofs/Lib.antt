@@ -1,5 +1,6 @@
 mod AllLemmas
 pub mod DiskLemmas
+mod FileLemmas
 mod HistoryLemmas
 mod ImageLemmas
 mod MemoryDiskLemmas

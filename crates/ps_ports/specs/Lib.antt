@@ -1,6 +1,7 @@
 pub mod All
 pub mod Causes
 pub mod Disk
+pub mod FileCalls
 pub mod History
 pub mod Images
 pub mod Memory

@@ -1,49 +1,60 @@
 //! A disk over a file. That a real file is such a disk is claimed nowhere.
-ghost use Rattle.std.specs.Prelude.{◌≡◌, None};
+ghost use Rattle.std.specs.Prelude.{◌≡◌, ℕ, ◌+◌, ◌<◌, ◌≤◌, ◌^◌, List, Option, IsErr, OnOk, is_ok, length, if◌then◌else◌, false};
+ghost use Rattle.std.specs.Io.{ReadsAtMost};
+ghost use Rattle.ps_ports.specs.Causes.{counted};
+ghost use Rattle.ps_ports.specs.Disk.{CountsFault, Tells};
+ghost use Rattle.ps_ports.specs.FileCalls.{Adds, one, WroteWhole, cut_calls, sync_call};
+ghost use Rattle.ps_ports.specs.declared.disk.DiskCall.TheVariants.{Write, Cut, Sync};
+ghost use Rattle.ps_ports.specs.declared.file_calls.FileCall.TheVariants.{ReadAt};
 
 use crate::disk::Disk;
 use crate::fault::Failed;
 use crate::faults::Faults;
-use std::fs::{File, OpenFile};
-use std::os::unix::fs::FileExt;
+use crate::file_calls::FileCalls;
+use std::io;
+use std::io::ErrorKind;
 
 /// A disk over a file. Each error of the system fails the call and is counted. A sync brings the bytes
-/// and the length to the device.
+/// to the device, and after a cut the length, too.
 #[derive(Drop)]
-pub struct FileDisk {
-    file: File,
+pub struct FileDisk<F> {
+    file: F,
     // Of a pair one disk holds its lock, which goes when the disk is dropped.
-    _lock: Option<File>,
+    _lock: Option<F>,
+    // A cut made a length since the last sync.
+    was_cut: bool,
     faults: Faults,
 }
 
-impl FileDisk {
-    pub(crate) fn new(file: File, lock: Option<File>) -> FileDisk
-        ensures { ⟦<FileDisk as Disk>⟧.disk_faults result ≡ 0 }
+impl<F: FileCalls> FileDisk<F> {
+    /// A disk over an open file. `lock` is held as long as the disk is.
+    pub fn new(file: F, lock: Option<F>) -> FileDisk<F>
+        ensures { ⟦<FileDisk<F> as Disk>⟧.disk_faults result ≡ 0 }
     {
         FileDisk {
             file,
             _lock: lock,
+            was_cut: false,
             faults: Faults::none(),
         }
     }
 
     /// How many calls failed.
     pub fn faults(&self) -> u64
-        ensures { result ≡ ⟦<FileDisk as Disk>⟧.disk_faults self.now }
+        ensures { result ≡ ⟦<FileDisk<F> as Disk>⟧.disk_faults self.now }
     {
         self.faults.count()
     }
 
-    fn cut_file(&self, len: u64) -> std::io::Result<()> {
-        if len < self.file.metadata()?.len() {
-            self.file.set_len(len)?;
-        }
-        Ok(())
+    /// The file.
+    pub fn file(&self) -> &F
+        ensures { result.now ≡ self.now.file }
+    {
+        &self.file
     }
 }
 
-impl Disk for FileDisk {
+impl<F: FileCalls> Disk for FileDisk<F> {
     ghost use Rattle.std.specs.Prelude.{[], None};
     ghost use Rattle.ps_ports.specs.Causes.{counted, counted_fits};
 
@@ -61,37 +72,60 @@ impl Disk for FileDisk {
 
     ghost disk_faults = { λ d. counted d.faults };
 
-    fn read(&mut self, at: u64, buf: &mut [u8]) -> Result<usize, Failed> {
-        if let Ok(count) = self.file.read_at(buf, at) {
-            return Ok(count);
+    // One read of the file, and its answer.
+    fn read(&mut self, at: u64, buf: &mut [u8]) -> Result<usize, Failed>
+        ensures bound { ReadsAtMost result buf.new }
+        ensures cause { CountsFault (counted self.old.faults) (counted self.new.faults) result }
+        ensures made { Adds (F.made self.old.file) (F.made self.new.file) (one (ReadAt at) (is_ok result)) }
+    {
+        match self.file.read_at(at, buf) {
+            Ok(count) => Ok(count),
+            Err(_) => {
+                self.faults.raise();
+                Err(Failed)
+            }
         }
-        self.faults.raise();
-        Err(Failed)
     }
 
-    fn write_at(&mut self, at: u64, bytes: &[u8]) -> Result<(), Failed> {
-        let end = at.checked_add(bytes.len() as u64);
-        if end.is_some() && self.file.write_all_at(bytes, at).is_ok() {
+    // A write that was done is written whole.
+    fn write_at(&mut self, at: u64, bytes: &[u8]) -> Result<(), Failed>
+        ensures too_far { 2 ^ 64 ≤ at + length bytes.now → IsErr result }
+        ensures cause { CountsFault (counted self.old.faults) (counted self.new.faults) result }
+        ensures whole { OnOk result (WroteWhole (F.made self.old.file) (F.made self.new.file) at bytes.now) }
+    {
+        let in_reach = at.checked_add(bytes.len() as u64).is_some();
+        if in_reach && write_whole(&mut self.file, at, bytes).is_ok() {
             return Ok(());
         }
         self.faults.raise();
         Err(Failed)
     }
 
-    fn cut(&mut self, len: u64) -> Result<(), Failed> {
-        if self.cut_file(len).is_ok() {
+    // The length is asked for, and made where it is greater.
+    fn cut(&mut self, len: u64) -> Result<(), Failed>
+        ensures cause { CountsFault (counted self.old.faults) (counted self.new.faults) result }
+        ensures made { OnOk result ((n : ℕ) × Adds (F.made self.old.file) (F.made self.new.file) (cut_calls len n)) }
+    {
+        self.was_cut = true;
+        if cut_file(&mut self.file, len).is_ok() {
             return Ok(());
         }
         self.faults.raise();
         Err(Failed)
     }
 
-    fn sync(&mut self) -> Result<(), Failed> {
-        if self.file.sync_all().is_ok() {
-            return Ok(());
+    // One sync of this file, and its answer.
+    fn sync(&mut self) -> Result<(), Failed>
+        ensures cause { CountsFault (counted self.old.faults) (counted self.new.faults) result }
+        ensures made { Adds (F.made self.old.file) (F.made self.new.file) (one (sync_call self.old.was_cut) (is_ok result)) }
+        ensures was_cut { self.new.was_cut ≡ (if is_ok result then false else self.old.was_cut) }
+    {
+        if sync_file(&mut self.file, self.was_cut).is_err() {
+            self.faults.raise();
+            return Err(Failed);
         }
-        self.faults.raise();
-        Err(Failed)
+        self.was_cut = false;
+        Ok(())
     }
 
     ghost reads_now = { λ _ no. absurd no };
@@ -101,4 +135,41 @@ impl Disk for FileDisk {
     ghost disk_faults_fit = { λ d. counted_fits d.faults };
 
     ghost only_now = { λ _ _ no. absurd no };
+}
+
+/// Writes the bytes whole, in as many writes as the file needs. A write that takes none is an error.
+pub(crate) fn write_whole<F: FileCalls>(file: &mut F, at: u64, bytes: &[u8]) -> io::Result<()>
+    requires { at + length bytes.now < 2 ^ 64 }
+    ensures { OnOk result (WroteWhole (F.made file.old) (F.made file.new) at bytes.now) }
+{
+    let mut rest = bytes;
+    let mut place = at;
+    while !rest.is_empty() {
+        let count = file.write_at(place, rest)?;
+        if count == 0 {
+            return Err(ErrorKind::WriteZero.into());
+        }
+        place += count as u64;
+        rest = &rest[count..];
+    }
+    Ok(())
+}
+
+fn cut_file<F: FileCalls>(file: &mut F, len: u64) -> io::Result<()>
+    ensures { OnOk result ((n : ℕ) × Adds (F.made file.old) (F.made file.new) (cut_calls len n)) }
+{
+    if file.length()? <= len {
+        return Ok(());
+    }
+    file.set_length(len)
+}
+
+fn sync_file<F: FileCalls>(file: &mut F, was_cut: bool) -> io::Result<()>
+    ensures { Adds (F.made file.old) (F.made file.new) (one (sync_call was_cut) (is_ok result)) }
+{
+    if was_cut {
+        file.sync_all()
+    } else {
+        file.sync_data()
+    }
 }

@@ -42,7 +42,7 @@ impl<R: Files<File = File>> FolderRack<R> {
 }
 
 impl<R: Files<File = File>> Rack for FolderRack<R> {
-    type Disk = FileDisk;
+    type Disk = FileDisk<File>;
 
     ghost use Rattle.ps_ports.specs.Causes.{counted, counted_fits};
 
@@ -58,7 +58,7 @@ impl<R: Files<File = File>> Rack for FolderRack<R> {
         &mut self,
         alloc: Global,
         folder: &str,
-    ) -> Result<(FileDisk, FileDisk), RackFault> {
+    ) -> Result<(FileDisk<File>, FileDisk<File>), RackFault> {
         match open_files(&self.rt, alloc, folder) {
             Ok((first, second, lock)) => Ok((
                 FileDisk::new(first, Some(lock)),
@@ -72,7 +72,7 @@ impl<R: Files<File = File>> Rack for FolderRack<R> {
         }
     }
 
-    fn close_pair(&mut self, _folder: &str, first: FileDisk, second: FileDisk) {
+    fn close_pair(&mut self, _folder: &str, first: FileDisk<File>, second: FileDisk<File>) {
         if first.faults() != 0 || second.faults() != 0 {
             self.faults.raise();
         }

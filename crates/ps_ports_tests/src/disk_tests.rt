@@ -1,11 +1,14 @@
 //! Tests of disks: images worked out by hand, calls that are to fail, and a real pair.
 use ps_ports::disk::Disk;
 use ps_ports::fault::Failed;
+use ps_ports::file_calls::{FileCall, MadeCall};
+use ps_ports::file_disk::FileDisk;
 use ps_ports::folder_rack::FolderRack;
 use ps_ports::image::Image;
 use ps_ports::memory_disk::MemoryDisk;
+use ps_ports::memory_file::MemoryFile;
 use ps_ports::memory_rack::MemoryRack;
-use ps_ports::rack::{FRESH_FIRST, FRESH_SECOND, Rack};
+use ps_ports::rack::{FRESH_FIRST, FRESH_SECOND, Rack, RackFault};
 use std::alloc::{AllocError, Global};
 use std::fs;
 use std::process::Abort;
@@ -46,6 +49,20 @@ static IMAGES: [(u64, &[u8], &[u8], &[u8]); 11] = [
     (9, b"abXmnop", b"abXmnop", b"abXmnop"),
     (10, b"abXmnop", b"abXmnoQ", b"abXmnop"),
 ];
+
+#[test]
+fn the_syncs_of_the_ten_calls(rt: HostRuntime) -> Result<(), Fail> {
+    let mut disk = disk_of(rt.alloc(), b"abcdefgh", &[])?;
+    assert!(rt; make_ten_calls(&mut disk).is_ok() && disk.calls() == 10);
+    for call in 1..11u64 {
+        let made = call <= disk.calls();
+        assert!(rt;
+            made && disk.was_sync(call) == (call == 4 || call == 9),
+            "{call}"
+        );
+    }
+    Ok(())
+}
 
 fn leaves(alloc: Global, calls: u64, image: Image, wanted: &[u8]) -> Result<bool, AllocError> {
     let mut disk = disk_of(alloc, b"abcdefgh", &[])?;
@@ -120,11 +137,15 @@ fn the_named_calls_fail(rt: HostRuntime) -> Result<(), Fail> {
     Ok(())
 }
 
-#[test]
-fn a_rack_in_memory(rt: HostRuntime) -> Result<(), Fail> {
-    let alloc = rt.alloc();
-    let failing = [2].to_vec(alloc)?;
-    let mut rack = MemoryRack::new(alloc, Vec::new(alloc), failing);
+fn is_fresh_again(rack: &mut MemoryRack, alloc: Global) -> bool {
+    match rack.open_pair(alloc, "host") {
+        Ok((first, second)) => first.faults() == 0 && second.bytes() == FRESH_SECOND.as_slice(),
+        Err(_) => false,
+    }
+}
+
+// The second opening is to fail, and so does the third, since the pair is open.
+fn open_and_close(rack: &mut MemoryRack, alloc: Global) -> Result<[bool; 4], RackFault> {
     let (mut first, second) = rack.open_pair(alloc, "host")?;
     let fresh = first.bytes() == FRESH_FIRST.as_slice()
         && second.bytes() == FRESH_SECOND.as_slice();
@@ -132,11 +153,16 @@ fn a_rack_in_memory(rt: HostRuntime) -> Result<(), Fail> {
     let open = rack.open_pair(alloc, "host").is_err();
     let failed = first.write_at(u64::MAX, b"x").is_err();
     rack.close_pair("host", first, second);
-    let again = match rack.open_pair(alloc, "host") {
-        Ok((first, second)) => first.faults() == 0 && second.bytes() == FRESH_SECOND.as_slice(),
-        Err(_) => false,
-    };
-    assert_eq!(rt; [fresh, named, open, failed, again], [true; 5]);
+    Ok([fresh, named, open, failed])
+}
+
+#[test]
+fn a_rack_in_memory(rt: HostRuntime) -> Result<(), Fail> {
+    let alloc = rt.alloc();
+    let failing = [2].to_vec(alloc)?;
+    let mut rack = MemoryRack::new(alloc, Vec::new(alloc), failing);
+    assert_eq!(rt; open_and_close(&mut rack, alloc)?, [true; 4]);
+    assert!(rt; is_fresh_again(&mut rack, alloc));
     assert_eq!(rt; rack.faults(), 3);
     Ok(())
 }
@@ -172,5 +198,64 @@ fn a_real_pair(rt: HostRuntime) -> Result<(), Fail> {
     ];
     assert_eq!(rt; answers, [true; 8]);
     assert_eq!(rt; (rack.faults(), other.faults()), (1, 2));
+    Ok(())
+}
+
+fn is_write(made: &MadeCall, at: u64, piece: &[u8]) -> bool {
+    match &made.call {
+        FileCall::WriteAt(place, bytes) => *place == at && bytes.as_slice() == piece,
+        _ => false,
+    }
+}
+
+// A write takes at most 3 bytes.
+fn file_disk(alloc: Global, failing: &[u64]) -> Result<FileDisk<MemoryFile>, AllocError> {
+    let failing = failing.to_vec(alloc)?;
+    Ok(FileDisk::new(MemoryFile::new(alloc, 9, 3, failing), None))
+}
+
+#[test]
+fn a_write_to_a_file_is_written_whole(rt: HostRuntime) -> Result<(), Fail> {
+    let mut disk = file_disk(rt.alloc(), &[])?;
+    assert!(rt; disk.write_at(5, b"abcdefg").is_ok());
+    let made = disk.file().made();
+    assert_eq!(rt; made.len(), 3);
+    assert!(rt; made.len() == 3 && is_write(&made[0], 5, b"abc"));
+    assert!(rt; made.len() == 3 && is_write(&made[1], 8, b"def"));
+    assert!(rt; made.len() == 3 && is_write(&made[2], 11, b"g"));
+    Ok(())
+}
+
+fn is_sync_data(made: &MadeCall) -> bool {
+    matches!(&made.call, FileCall::SyncData)
+}
+
+fn is_sync_all(made: &MadeCall) -> bool {
+    matches!(&made.call, FileCall::SyncAll)
+}
+
+// The file has 9 bytes, so a cut to 9 makes no length, and one to 4 does.
+#[test]
+fn a_file_is_cut_and_synced(rt: HostRuntime) -> Result<(), Fail> {
+    let mut disk = file_disk(rt.alloc(), &[])?;
+    assert!(rt; disk.sync().is_ok() && disk.cut(9).is_ok() && disk.cut(4).is_ok());
+    assert!(rt; disk.sync().is_ok() && disk.sync().is_ok());
+    let made = disk.file().made();
+    assert_eq!(rt; made.len(), 6);
+    assert!(rt; made.len() == 6 && is_sync_data(&made[0]) && is_sync_data(&made[5]));
+    assert!(rt; made.len() == 6 && matches!(&made[1].call, FileCall::Length(9)));
+    assert!(rt; made.len() == 6 && matches!(&made[3].call, FileCall::SetLength(4)));
+    assert!(rt; made.len() == 6 && is_sync_all(&made[4]));
+    Ok(())
+}
+
+// The second of the three pieces fails, and so does the sync behind it.
+#[test]
+fn a_file_that_fails(rt: HostRuntime) -> Result<(), Fail> {
+    let mut disk = file_disk(rt.alloc(), &[2, 3])?;
+    assert!(rt; disk.write_at(0, b"abcdefg").is_err() && disk.faults() == 1);
+    assert!(rt; disk.sync().is_err() && disk.faults() == 2);
+    assert!(rt; disk.sync().is_ok() && disk.faults() == 2);
+    assert_eq!(rt; disk.file().made().len(), 4);
     Ok(())
 }

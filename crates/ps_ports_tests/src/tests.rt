@@ -65,15 +65,19 @@ impl<K: Sink> Sink for Slow<K> {
     ghost write_faults_fit = { λ a. K.write_faults_fit a.inner };
 }
 
+fn source_of(alloc: Global, held: &[u8], failing: &[u64]) -> Result<MemorySource, AllocError> {
+    let held = held.to_vec(alloc)?;
+    let failing = failing.to_vec(alloc)?;
+    Ok(MemorySource::new(held, failing))
+}
+
 fn slow_source(
     alloc: Global,
     held: &[u8],
     failing: &[u64],
 ) -> Result<Slow<MemorySource>, AllocError> {
-    let held = held.to_vec(alloc)?;
-    let failing = failing.to_vec(alloc)?;
     Ok(Slow {
-        inner: MemorySource::new(held, failing),
+        inner: source_of(alloc, held, failing)?,
     })
 }
 
@@ -92,32 +96,40 @@ fn is_all(answer: Result<Vec<u8>, AllFault>, wanted: &[u8]) -> bool {
     }
 }
 
+fn reads_slowly(alloc: Global, most: u64) -> Result<bool, AllocError> {
+    let mut slow = slow_source(alloc, b"abc", &[])?;
+    Ok(is_all(read_all(alloc, &mut slow, most), b"abc"))
+}
+
+fn reads_at_once(alloc: Global, most: u64) -> Result<bool, AllocError> {
+    let mut source = source_of(alloc, b"abc", &[])?;
+    Ok(is_all(read_all(alloc, &mut source, most), b"abc"))
+}
+
+fn is_too_long_slowly(alloc: Global, most: u64) -> Result<bool, AllocError> {
+    let mut slow = slow_source(alloc, b"abc", &[])?;
+    Ok(read_all(alloc, &mut slow, most).is_err_and(is_too_long))
+}
+
+fn is_too_long_at_once(alloc: Global, most: u64) -> Result<bool, AllocError> {
+    let mut source = source_of(alloc, b"abc", &[])?;
+    Ok(read_all(alloc, &mut source, most).is_err_and(is_too_long))
+}
+
+static WITHIN: [u64; 3] = [3, 4, u64::MAX];
+
+static TOO_FEW: [u64; 3] = [0, 1, 2];
+
 #[test]
 fn reads_to_the_end(rt: HostRuntime) -> Result<(), Fail> {
     let alloc = rt.alloc();
-    for most in [3, 4, u64::MAX] {
-        let mut slow = slow_source(alloc, b"abc", &[])?;
-        assert!(rt;
-            is_all(read_all(alloc, &mut slow, most), b"abc"),
-            "slowly, {most}"
-        );
-        let mut source = slow_source(alloc, b"abc", &[])?.inner;
-        assert!(rt;
-            is_all(read_all(alloc, &mut source, most), b"abc"),
-            "at once, {most}"
-        );
+    for most in &WITHIN {
+        assert!(rt; reads_slowly(alloc, *most)?, "slowly, {most}");
+        assert!(rt; reads_at_once(alloc, *most)?, "at once, {most}");
     }
-    for most in [0, 1, 2] {
-        let mut slow = slow_source(alloc, b"abc", &[])?;
-        assert!(rt;
-            read_all(alloc, &mut slow, most).is_err_and(is_too_long),
-            "slowly, {most}"
-        );
-        let mut source = slow_source(alloc, b"abc", &[])?.inner;
-        assert!(rt;
-            read_all(alloc, &mut source, most).is_err_and(is_too_long),
-            "at once, {most}"
-        );
+    for most in &TOO_FEW {
+        assert!(rt; is_too_long_slowly(alloc, *most)?, "slowly, {most}");
+        assert!(rt; is_too_long_at_once(alloc, *most)?, "at once, {most}");
     }
     let mut empty = slow_source(alloc, b"", &[])?;
     assert!(rt; is_all(read_all(alloc, &mut empty, 0), b""));
@@ -139,7 +151,7 @@ fn reads_more_than_one_buffer(rt: HostRuntime) -> Result<(), Fail> {
     for count in 0..10_000u32 {
         held.push((count % 251) as u8)?;
     }
-    let mut source = slow_source(alloc, held.as_slice(), &[])?.inner;
+    let mut source = source_of(alloc, held.as_slice(), &[])?;
     assert!(rt; is_all(read_all(alloc, &mut source, 10_000), held.as_slice()));
     assert_eq!(rt; source.calls(), 4);
     Ok(())
@@ -312,33 +324,41 @@ impl Write for Interrupted {
     }
 }
 
+fn is_read_again(
+    alloc: Global,
+    then: ErrorKind,
+    wanted: Result<usize, Failed>,
+) -> Result<bool, AllocError> {
+    let errors = [then, ErrorKind::Interrupted].to_vec(alloc)?;
+    let mut source = ReaderSource::new(Interrupted { errors });
+    Ok(source.read(&mut [0]) == wanted && source.faults() == 2)
+}
+
 #[test]
 fn a_read_that_is_interrupted_is_made_again(rt: HostRuntime) -> Result<(), Fail> {
-    for (then, wanted) in [
-        (ErrorKind::Interrupted, Ok(0)),
-        (ErrorKind::BrokenPipe, Err(Failed)),
-    ] {
-        let errors = [then, ErrorKind::Interrupted].to_vec(rt.alloc())?;
-        let mut source = ReaderSource::new(Interrupted { errors });
-        assert_eq!(rt; source.read(&mut [0]), wanted);
-        assert_eq!(rt; source.faults(), 2);
-    }
+    let alloc = rt.alloc();
+    assert!(rt; is_read_again(alloc, ErrorKind::Interrupted, Ok(0))?);
+    assert!(rt; is_read_again(alloc, ErrorKind::BrokenPipe, Err(Failed))?);
     Ok(())
+}
+
+fn is_written_again(
+    alloc: Global,
+    then: ErrorKind,
+    wanted: Result<usize, Failed>,
+) -> Result<bool, AllocError> {
+    let errors = [then, ErrorKind::Interrupted].to_vec(alloc)?;
+    let mut sink = WriterSink::new(Interrupted { errors });
+    let again = sink.write(b"") == wanted && sink.faults() == 2;
+    // It takes none of a piece that isn't empty.
+    let nothing = write_all(&mut sink, b"a") == Err(WriteFault) && sink.faults() == 3;
+    Ok(again && nothing)
 }
 
 #[test]
 fn a_write_that_is_interrupted_is_made_again(rt: HostRuntime) -> Result<(), Fail> {
-    for (then, wanted) in [
-        (ErrorKind::Interrupted, Ok(0)),
-        (ErrorKind::BrokenPipe, Err(Failed)),
-    ] {
-        let errors = [then, ErrorKind::Interrupted].to_vec(rt.alloc())?;
-        let mut sink = WriterSink::new(Interrupted { errors });
-        assert_eq!(rt; sink.write(b""), wanted);
-        assert_eq!(rt; sink.faults(), 2);
-        // It takes none of a piece that isn't empty.
-        assert_eq!(rt; write_all(&mut sink, b"a"), Err(WriteFault));
-        assert_eq!(rt; sink.faults(), 3);
-    }
+    let alloc = rt.alloc();
+    assert!(rt; is_written_again(alloc, ErrorKind::Interrupted, Ok(0))?);
+    assert!(rt; is_written_again(alloc, ErrorKind::BrokenPipe, Err(Failed))?);
     Ok(())
 }
