@@ -3,10 +3,12 @@ use ps_ports::disk::Disk;
 use ps_ports::fault::Failed;
 use ps_ports::file_calls::{FileCall, MadeCall};
 use ps_ports::file_disk::FileDisk;
+use ps_ports::folder_calls::Step;
 use ps_ports::folder_rack::FolderRack;
 use ps_ports::image::Image;
 use ps_ports::memory_disk::MemoryDisk;
 use ps_ports::memory_file::MemoryFile;
+use ps_ports::memory_folders::MemoryFolders;
 use ps_ports::memory_rack::MemoryRack;
 use ps_ports::rack::{FRESH_FIRST, FRESH_SECOND, Rack, RackFault};
 use std::alloc::{AllocError, Global};
@@ -257,5 +259,69 @@ fn a_file_that_fails(rt: HostRuntime) -> Result<(), Fail> {
     assert!(rt; disk.sync().is_err() && disk.faults() == 2);
     assert!(rt; disk.sync().is_ok() && disk.faults() == 2);
     assert_eq!(rt; disk.file().made().len(), 4);
+    Ok(())
+}
+
+fn is_step(step: &Step, kind: &str, path: &str) -> bool {
+    match step {
+        Step::Lock => kind == "lock" && path.is_empty(),
+        Step::CreateFolder(name) => kind == "folder" && name.is(path),
+        Step::CreateFile(name) => kind == "file" && name.is(path),
+        Step::RemoveFolder(name) => kind == "remove" && name.is(path),
+        Step::Rename(from, to) => kind == "rename" && from.is("host/pair.new") && to.is(path),
+        Step::SyncFolder(name) => kind == "sync" && name.is(path),
+    }
+}
+
+fn are_steps(steps: &[Step], wanted: &[(&str, &str)]) -> bool {
+    let same = steps
+        .iter()
+        .zip(wanted.iter())
+        .all(|(step, (kind, path))| is_step(step, kind, path));
+    same && steps.len() == wanted.len()
+}
+
+static MAKES: [(&str, &str); 7] = [
+    ("lock", ""),
+    ("folder", "host/pair.new"),
+    ("file", "host/pair.new/first"),
+    ("file", "host/pair.new/second"),
+    ("sync", "host/pair.new"),
+    ("rename", "host/pair"),
+    ("sync", "host"),
+];
+
+static SWEEPS: [(&str, &str); 3] = [("lock", ""), ("remove", "host/pair.new"), ("sync", "host")];
+
+fn folder_rack(
+    alloc: Global,
+    left: bool,
+    there: bool,
+    failing: &[u64],
+) -> Result<FolderRack<MemoryFolders>, AllocError> {
+    let failing = failing.to_vec(alloc)?;
+    Ok(FolderRack::over(MemoryFolders::new(alloc, left, there, failing)))
+}
+
+#[test]
+fn the_steps_of_an_opening(rt: HostRuntime) -> Result<(), Fail> {
+    let alloc = rt.alloc();
+    let mut makes = folder_rack(alloc, false, false, &[])?;
+    assert!(rt; makes.open_pair(alloc, "host").is_ok() && makes.faults() == 0);
+    assert!(rt; are_steps(makes.calls().steps(), &MAKES));
+    let mut sweeps = folder_rack(alloc, true, true, &[])?;
+    assert!(rt; sweeps.open_pair(alloc, "host").is_ok());
+    assert!(rt; are_steps(sweeps.calls().steps(), &SWEEPS));
+    Ok(())
+}
+
+// The calls are: open the lock, lock, ask for the left pair, ask for the pair, make the folder, the first
+// file, the second, sync the folder, rename it.
+#[test]
+fn a_folder_that_is_not_synced_gets_no_name(rt: HostRuntime) -> Result<(), Fail> {
+    let alloc = rt.alloc();
+    let mut rack = folder_rack(alloc, false, false, &[8])?;
+    assert!(rt; rack.open_pair(alloc, "host").is_err() && rack.faults() == 1);
+    assert!(rt; are_steps(rack.calls().steps(), &MAKES[..4]));
     Ok(())
 }
