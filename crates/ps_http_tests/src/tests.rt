@@ -45,6 +45,8 @@ impl<S: Source> Source for Pieces<S> {
     ghost kept_refl = { λ a. S.kept_refl a.inner };
 
     ghost kept_trans = { λ a b c. S.kept_trans a.inner b.inner c.inner };
+
+    ghost read_faults_fit = { λ a. S.read_faults_fit a.inner };
 }
 
 fn reader(alloc: Global, bytes: &[u8], most: usize) -> Result<Reader<Pieces<MemorySource>>, Fail> {

@@ -6,4 +6,5 @@ pub mod History
 pub mod Images
 pub mod Memory
 pub mod MemoryDisk
+pub mod PairSteps
 pub mod Rack

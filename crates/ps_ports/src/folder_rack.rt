@@ -3,7 +3,9 @@ ghost use Rattle.std.specs.Prelude.{◌≡◌};
 
 use crate::disk::Disk;
 use crate::faults::Faults;
-use crate::file_disk::FileDisk;
+use crate::file_calls::FileCalls;
+use crate::file_disk::{FileDisk, write_whole};
+use crate::folder_calls::{FolderCalls, SystemFolders};
 use crate::rack::{FRESH_FIRST, FRESH_SECOND, Rack, RackFault};
 use std::alloc::Global;
 use std::fs;
@@ -18,26 +20,42 @@ use std::rt::Files;
 /// synced and renamed, so that `pair` is never there in part; a `pair.new` that was left over is removed.
 /// The folder itself has to be there.
 #[derive(Drop)]
-pub struct FolderRack<R> {
-    rt: R,
+pub struct FolderRack<C> {
+    calls: C,
     faults: Faults,
 }
 
-impl<R: Files<File = File>> FolderRack<R> {
-    pub fn new(rt: R) -> FolderRack<R>
-        ensures { ⟦<FolderRack<R> as Rack>⟧.rack_faults result ≡ 0 }
+impl<R: Files<File = File>> FolderRack<SystemFolders<R>> {
+    pub fn new(rt: R) -> FolderRack<SystemFolders<R>>
+        ensures { ⟦<FolderRack<SystemFolders<R>> as Rack>⟧.rack_faults result ≡ 0 }
+    {
+        FolderRack::over(SystemFolders::new(rt))
+    }
+}
+
+impl<C: FolderCalls> FolderRack<C> {
+    /// A rack over the file system that these calls reach.
+    pub fn over(calls: C) -> FolderRack<C>
+        ensures { ⟦<FolderRack<C> as Rack>⟧.rack_faults result ≡ 0 }
     {
         FolderRack {
-            rt,
+            calls,
             faults: Faults::none(),
         }
     }
 
     /// How many openings failed, and how often a disk that had failed was given back.
     pub fn faults(&self) -> u64
-        ensures { result ≡ ⟦<FolderRack<R> as Rack>⟧.rack_faults self.now }
+        ensures { result ≡ ⟦<FolderRack<C> as Rack>⟧.rack_faults self.now }
     {
         self.faults.count()
+    }
+
+    /// The file system.
+    pub fn calls(&self) -> &C
+        ensures { result.now ≡ self.now.calls }
+    {
+        &self.calls
     }
 }
 
@@ -87,72 +105,114 @@ fn open_files<R: Files<File = File>>(
     rt: &R,
     alloc: Global,
     folder: &str,
-) -> Result<(File, File, File), RackFault> {
-    let lock = take_lock(rt, alloc, folder)?;
-    make_pair(rt, alloc, folder)?;
-    let first = open_file(rt, alloc, folder, "pair/first")?;
-    let second = open_file(rt, alloc, folder, "pair/second")?;
+) -> Result<(C::File, C::File, C::File), RackFault>
+    ensures { OnOk result (OpensFolder folder.now (C.steps calls.old) (C.steps calls.new)) }
+{
+    let lock = take_lock(calls, alloc, folder)?;
+    make_pair(calls, alloc, folder)?;
+    let first = open_in(calls, alloc, folder, "/pair/first")?;
+    let second = open_in(calls, alloc, folder, "/pair/second")?;
     Ok((first, second, lock))
 }
 
-fn take_lock<R: Files<File = File>>(
-    rt: &R,
-    alloc: Global,
-    folder: &str,
-) -> Result<File, RackFault> {
-    let path = format!(in alloc; "{folder}/lock")?;
-    let lock = OpenOptions::new()
-        .read(true)
-        .write(true)
-        .create(true)
-        .open(rt, &path)?;
-    match lock.try_lock() {
-        Ok(()) => Ok(lock),
-        Err(_) => Err(RackFault::Failed),
-    }
+fn join(alloc: Global, folder: &str, rest: &str) -> Result<Text, Memory>
+    ensures { IfOk result (λ path. path ≡ folder.now ++ rest.now) }
+{
+    let mut path = String::new(alloc);
+    path.push_str(folder)?;
+    path.push_str(rest)?;
+    Ok(Text::from_string(path))
 }
 
-fn make_pair<R: Files<File = File>>(rt: &R, alloc: Global, folder: &str) -> Result<(), RackFault> {
-    let new_pair = format!(in alloc; "{folder}/pair.new")?;
-    let pair = format!(in alloc; "{folder}/pair")?;
-    if fs::exists(rt, &new_pair)? {
-        rt.remove_dir_all(alloc, &new_pair)?;
+fn take_lock<C: FolderCalls>(
+    calls: &mut C,
+    alloc: Global,
+    folder: &str,
+) -> Result<C::File, RackFault>
+    ensures { OnOk result (Adds (C.steps calls.old) (C.steps calls.new) (Lock ∷ [])) }
+{
+    let path = join(alloc, folder, "/lock")?;
+    let lock = calls.open_or_create_file(path.as_str())?;
+    calls.lock_file(&lock)?;
+    Ok(lock)
+}
+
+fn open_in<C: FolderCalls>(
+    calls: &mut C,
+    alloc: Global,
+    folder: &str,
+    name: &str,
+) -> Result<C::File, RackFault>
+    ensures { C.steps calls.new ≡ C.steps calls.old }
+{
+    let path = join(alloc, folder, name)?;
+    Ok(calls.open_file(path.as_str())?)
+}
+
+// The folder above is synced also for a pair that was there: whoever renamed it may have ended before.
+fn make_pair<C: FolderCalls>(calls: &mut C, alloc: Global, folder: &str) -> Result<(), RackFault>
+    ensures { OnOk result ((left : Bool) × (there : Bool) × Adds (C.steps calls.old) (C.steps calls.new) (pair_steps left there folder.now)) }
+{
+    let made = join(alloc, folder, "/pair.new")?;
+    let pair = join(alloc, folder, "/pair")?;
+    sweep(calls, alloc, made.as_str())?;
+    make_missing(calls, alloc, made.as_str(), pair.as_str())?;
+    Ok(calls.sync_folder(folder)?)
+}
+
+fn sweep<C: FolderCalls>(calls: &mut C, alloc: Global, made: &str) -> Result<(), RackFault>
+    ensures { OnOk result ((left : Bool) × Adds (C.steps calls.old) (C.steps calls.new) (swept left made.now)) }
+{
+    if calls.exists(made)? {
+        calls.remove_folder(alloc, made)?;
     }
-    if !fs::exists(rt, &pair)? {
-        fs::create_dir(rt, &new_pair)?;
-        write_new(rt, alloc, &new_pair, "first", &FRESH_FIRST)?;
-        write_new(rt, alloc, &new_pair, "second", &FRESH_SECOND)?;
-        File::open(rt, &new_pair)?.sync_all()?;
-        fs::rename(rt, &new_pair, &pair)?;
-    }
-    // Also for a pair that was there: whoever renamed it may have ended before this sync.
-    File::open(rt, folder)?.sync_all()?;
     Ok(())
 }
 
-fn write_new<R: Files<File = File>>(
-    rt: &R,
+fn make_missing<C: FolderCalls>(
+    calls: &mut C,
+    alloc: Global,
+    made: &str,
+    pair: &str,
+) -> Result<(), RackFault>
+    ensures { OnOk result ((there : Bool) × Adds (C.steps calls.old) (C.steps calls.new) (if there then [] else made_steps made.now pair.now)) }
+{
+    if !calls.exists(pair)? {
+        make_new(calls, alloc, made, pair)?;
+    }
+    Ok(())
+}
+
+fn make_new<C: FolderCalls>(
+    calls: &mut C,
+    alloc: Global,
+    made: &str,
+    pair: &str,
+) -> Result<(), RackFault>
+    ensures { OnOk result (Adds (C.steps calls.old) (C.steps calls.new) (made_steps made.now pair.now)) }
+{
+    calls.create_folder(made)?;
+    write_new(calls, alloc, made, "/first", &FRESH_FIRST)?;
+    write_new(calls, alloc, made, "/second", &FRESH_SECOND)?;
+    calls.sync_folder(made)?;
+    Ok(calls.rename(made, pair)?)
+}
+
+// The new file, written and synced.
+fn write_new<C: FolderCalls>(
+    calls: &mut C,
     alloc: Global,
     folder: &str,
     name: &str,
     bytes: &[u8],
-) -> Result<(), RackFault> {
-    let path = format!(in alloc; "{folder}/{name}")?;
-    let file = OpenOptions::new()
-        .write(true)
-        .create_new(true)
-        .open(rt, &path)?;
-    file.write_all_at(bytes, 0)?;
+) -> Result<C::File, RackFault>
+    requires { length bytes.now < 2 ^ 64 }
+    ensures file { IfOk result (λ file. IsWritten bytes.now (C.File.made file)) }
+    ensures steps { OnOk result (Adds (C.steps calls.old) (C.steps calls.new) (CreateFile (folder.now ++ name.now) ∷ [])) }
+{
+    let path = join(alloc, folder, name)?;
+    let mut file = calls.create_file(path.as_str())?;
+    write_whole(&mut file, 0, bytes)?;
     file.sync_all()?;
-    Ok(())
-}
-
-fn open_file<R: Files<File = File>>(
-    rt: &R,
-    alloc: Global,
-    folder: &str,
-    name: &str,
-) -> Result<File, RackFault> {
-    let path = format!(in alloc; "{folder}/{name}")?;
-    Ok(OpenOptions::new().read(true).write(true).open(rt, &path)?)
+    Ok(file)
 }

@@ -11,6 +11,7 @@ pub mod fault;
 mod faults;
 pub mod file_calls;
 pub mod file_disk;
+pub mod folder_calls;
 pub mod folder_rack;
 mod history;
 pub mod image;
