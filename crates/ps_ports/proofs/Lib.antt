@@ -1,6 +1,7 @@
 mod AllLemmas
 pub mod DiskLemmas
 mod FileLemmas
+mod FolderLemmas
 mod HistoryLemmas
 mod ImageLemmas
 mod MemoryDiskLemmas

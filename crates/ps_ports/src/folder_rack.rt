@@ -1,5 +1,10 @@
 //! A rack over folders of the file system.
-ghost use Rattle.std.specs.Prelude.{◌≡◌};
+ghost use Rattle.std.specs.Prelude.{◌≡◌, [], ◌∷◌, ◌++◌, Bool, ◌<◌, ◌≤◌, ◌^◌, length, IfOk, IsErrOf, OnOk, if◌then◌else◌};
+ghost use Rattle.ps_ports.specs.Causes.{counted, raised};
+ghost use Rattle.ps_ports.specs.FileCalls.{Adds};
+ghost use Rattle.ps_ports.specs.PairSteps.{IsWritten, OpensFolder, made_steps, pair_steps, swept};
+ghost use Rattle.ps_ports.specs.declared.folder_calls.Step.TheVariants.{CreateFile, Lock};
+ghost use Rattle.ps_ports.specs.declared.rack.RackFault.TheVariants.{Failed as rack_failed};
 
 use crate::disk::Disk;
 use crate::faults::Faults;
@@ -7,10 +12,10 @@ use crate::file_calls::FileCalls;
 use crate::file_disk::{FileDisk, write_whole};
 use crate::folder_calls::{FolderCalls, SystemFolders};
 use crate::rack::{FRESH_FIRST, FRESH_SECOND, Rack, RackFault};
+use ps_time::memory::Memory;
+use ps_time::text::Text;
 use std::alloc::Global;
-use std::fs;
-use std::fs::{File, OpenFile, OpenOptions};
-use std::os::unix::fs::FileExt;
+use std::fs::File;
 use std::rt::Files;
 
 /// A rack over folders. In a folder lie `lock` and the folder `pair`, with `first` and `second`.
@@ -59,10 +64,10 @@ impl<C: FolderCalls> FolderRack<C> {
     }
 }
 
-impl<R: Files<File = File>> Rack for FolderRack<R> {
-    type Disk = FileDisk<File>;
-
+impl<C: FolderCalls> Rack for FolderRack<C> {
     ghost use Rattle.ps_ports.specs.Causes.{counted, counted_fits};
+
+    type Disk = FileDisk<C::File>;
 
     ghost rack_faults = { λ r. counted r.faults };
 
@@ -76,8 +81,14 @@ impl<R: Files<File = File>> Rack for FolderRack<R> {
         &mut self,
         alloc: Global,
         folder: &str,
-    ) -> Result<(FileDisk<File>, FileDisk<File>), RackFault> {
-        match open_files(&self.rt, alloc, folder) {
+    ) -> Result<(FileDisk<C::File>, FileDisk<C::File>), RackFault>
+        ensures counts { IfOk result (λ pair. (counted pair.0.faults ≡ 0) × (counted pair.1.faults ≡ 0)) }
+        ensures later { counted self.old.faults ≤ counted self.new.faults }
+        ensures failed { IsErrOf result rack_failed → counted self.new.faults ≡ raised (counted self.old.faults) }
+        ensures calm { (IsErrOf result rack_failed → ⊥) → counted self.new.faults ≡ counted self.old.faults }
+        ensures steps { OnOk result (OpensFolder folder.now (C.steps self.old.calls) (C.steps self.new.calls)) }
+    {
+        match open_files(&mut self.calls, alloc, folder) {
             Ok((first, second, lock)) => Ok((
                 FileDisk::new(first, Some(lock)),
                 FileDisk::new(second, None),
@@ -90,7 +101,7 @@ impl<R: Files<File = File>> Rack for FolderRack<R> {
         }
     }
 
-    fn close_pair(&mut self, _folder: &str, first: FileDisk<File>, second: FileDisk<File>) {
+    fn close_pair(&mut self, _folder: &str, first: FileDisk<C::File>, second: FileDisk<C::File>) {
         if first.faults() != 0 || second.faults() != 0 {
             self.faults.raise();
         }
@@ -101,8 +112,8 @@ impl<R: Files<File = File>> Rack for FolderRack<R> {
     ghost rack_faults_fit = { λ r. counted_fits r.faults };
 }
 
-fn open_files<R: Files<File = File>>(
-    rt: &R,
+fn open_files<C: FolderCalls>(
+    calls: &mut C,
     alloc: Global,
     folder: &str,
 ) -> Result<(C::File, C::File, C::File), RackFault>

@@ -17,6 +17,7 @@ mod history;
 pub mod image;
 pub mod memory_disk;
 pub mod memory_file;
+pub mod memory_folders;
 pub mod memory_rack;
 pub mod memory_sink;
 pub mod memory_source;

@@ -3,14 +3,17 @@ use ps_ports::disk::Disk;
 use ps_ports::fault::Failed;
 use ps_ports::file_calls::{FileCall, MadeCall};
 use ps_ports::file_disk::FileDisk;
+use ps_ports::folder_calls::Step;
 use ps_ports::folder_rack::FolderRack;
 use ps_ports::image::Image;
 use ps_ports::memory_disk::MemoryDisk;
 use ps_ports::memory_file::MemoryFile;
+use ps_ports::memory_folders::MemoryFolders;
 use ps_ports::memory_rack::MemoryRack;
 use ps_ports::rack::{FRESH_FIRST, FRESH_SECOND, Rack, RackFault};
 use std::alloc::{AllocError, Global};
 use std::fs;
+use std::fs::File;
 use std::process::Abort;
 use std::test::Fail;
 
@@ -171,32 +174,55 @@ fn may_move_to_a_thread<T: Send>(value: T) -> T {
     value
 }
 
+fn is_refused<R: Rack<Disk = FileDisk<File>>>(rack: &mut R, alloc: Global, folder: &str) -> bool {
+    rack.open_pair(alloc, folder).is_err()
+}
+
+fn is_written_first(first: &mut FileDisk<File>) -> bool {
+    let fresh = reads(first, 0, &FRESH_FIRST);
+    let written = first.write_at(7, b"23").is_ok() && first.cut(9).is_ok() && first.cut(40).is_ok();
+    fresh && written && first.sync().is_ok() && reads(first, 6, b"N23")
+}
+
+fn is_too_far_for_second(second: &mut FileDisk<File>) -> bool {
+    let fresh = reads(second, 0, &FRESH_SECOND);
+    fresh && second.write_at(u64::MAX, b"x").is_err() && second.faults() == 1
+}
+
+// While the pair is open, another rack is refused.
+fn make_and_write<R: Rack<Disk = FileDisk<File>>, O: Rack<Disk = FileDisk<File>>>(
+    rack: &mut R,
+    other: &mut O,
+    alloc: Global,
+) -> Result<[bool; 3], RackFault> {
+    let (mut first, second) = rack.open_pair(alloc, "host")?;
+    let mut second = may_move_to_a_thread(second);
+    let refused = is_refused(other, alloc, "host");
+    let written = is_written_first(&mut first);
+    let too_far = is_too_far_for_second(&mut second);
+    rack.close_pair("host", first, second);
+    Ok([refused, written, too_far])
+}
+
+fn is_as_written<R: Rack<Disk = FileDisk<File>>>(rack: &mut R, alloc: Global) -> bool {
+    match rack.open_pair(alloc, "host") {
+        Ok((mut first, _)) => reads(&mut first, 0, b"PSCHJRN23"),
+        Err(_) => false,
+    }
+}
+
 #[test]
 fn a_real_pair(rt: HostRuntime) -> Result<(), Fail> {
     let alloc = rt.alloc();
     fs::create_dir(&rt, "host")?;
     let mut rack = FolderRack::new(&rt);
     let mut other = FolderRack::new(&rt);
-    let no_folder = other.open_pair(alloc, "none").is_err();
-    let (mut first, mut second) = rack.open_pair(alloc, "host")?;
-    second = may_move_to_a_thread(second);
-    let fresh = reads(&mut first, 0, &FRESH_FIRST) && reads(&mut second, 0, &FRESH_SECOND);
-    let refused = other.open_pair(alloc, "host").is_err();
-    let written = first.write_at(7, b"23").is_ok() && first.cut(9).is_ok() && first.cut(40).is_ok();
-    let synced = first.sync().is_ok() && reads(&mut first, 6, b"N23");
-    let too_far = second.write_at(u64::MAX, b"x").is_err() && second.faults() == 1;
-    rack.close_pair("host", first, second);
+    assert!(rt; is_refused(&mut other, alloc, "none"));
+    assert_eq!(rt; make_and_write(&mut rack, &mut other, alloc)?, [true; 3]);
     fs::create_dir(&rt, "host/pair.new")?;
-    let again = match other.open_pair(alloc, "host") {
-        Ok((mut first, _)) => reads(&mut first, 0, b"PSCHJRN23"),
-        Err(_) => false,
-    };
-    let removed = !fs::exists(&rt, "host/pair.new")?;
+    assert!(rt; is_as_written(&mut other, alloc));
+    assert!(rt; !fs::exists(&rt, "host/pair.new")?);
     fs::remove_dir_all(&rt, "host")?;
-    let answers = [
-        no_folder, fresh, refused, written, synced, too_far, again, removed,
-    ];
-    assert_eq!(rt; answers, [true; 8]);
     assert_eq!(rt; (rack.faults(), other.faults()), (1, 2));
     Ok(())
 }
@@ -257,5 +283,69 @@ fn a_file_that_fails(rt: HostRuntime) -> Result<(), Fail> {
     assert!(rt; disk.sync().is_err() && disk.faults() == 2);
     assert!(rt; disk.sync().is_ok() && disk.faults() == 2);
     assert_eq!(rt; disk.file().made().len(), 4);
+    Ok(())
+}
+
+fn is_step(step: &Step, kind: &str, path: &str) -> bool {
+    match step {
+        Step::Lock => kind == "lock" && path.is_empty(),
+        Step::CreateFolder(name) => kind == "folder" && name.is(path),
+        Step::CreateFile(name) => kind == "file" && name.is(path),
+        Step::RemoveFolder(name) => kind == "remove" && name.is(path),
+        Step::Rename(from, to) => kind == "rename" && from.is("host/pair.new") && to.is(path),
+        Step::SyncFolder(name) => kind == "sync" && name.is(path),
+    }
+}
+
+fn are_steps(steps: &[Step], wanted: &[(&str, &str)]) -> bool {
+    let same = steps
+        .iter()
+        .zip(wanted.iter())
+        .all(|(step, (kind, path))| is_step(step, kind, path));
+    same && steps.len() == wanted.len()
+}
+
+static MAKES: [(&str, &str); 7] = [
+    ("lock", ""),
+    ("folder", "host/pair.new"),
+    ("file", "host/pair.new/first"),
+    ("file", "host/pair.new/second"),
+    ("sync", "host/pair.new"),
+    ("rename", "host/pair"),
+    ("sync", "host"),
+];
+
+static SWEEPS: [(&str, &str); 3] = [("lock", ""), ("remove", "host/pair.new"), ("sync", "host")];
+
+fn folder_rack(
+    alloc: Global,
+    left: bool,
+    there: bool,
+    failing: &[u64],
+) -> Result<FolderRack<MemoryFolders>, AllocError> {
+    let failing = failing.to_vec(alloc)?;
+    Ok(FolderRack::over(MemoryFolders::new(alloc, left, there, failing)))
+}
+
+#[test]
+fn the_steps_of_an_opening(rt: HostRuntime) -> Result<(), Fail> {
+    let alloc = rt.alloc();
+    let mut makes = folder_rack(alloc, false, false, &[])?;
+    assert!(rt; makes.open_pair(alloc, "host").is_ok() && makes.faults() == 0);
+    assert!(rt; are_steps(makes.calls().steps(), &MAKES));
+    let mut sweeps = folder_rack(alloc, true, true, &[])?;
+    assert!(rt; sweeps.open_pair(alloc, "host").is_ok());
+    assert!(rt; are_steps(sweeps.calls().steps(), &SWEEPS));
+    Ok(())
+}
+
+// The calls are: open the lock, lock, ask for the left pair, ask for the pair, make the folder, the first
+// file, the second, sync the folder, rename it.
+#[test]
+fn a_folder_that_is_not_synced_gets_no_name(rt: HostRuntime) -> Result<(), Fail> {
+    let alloc = rt.alloc();
+    let mut rack = folder_rack(alloc, false, false, &[8])?;
+    assert!(rt; rack.open_pair(alloc, "host").is_err() && rack.faults() == 1);
+    assert!(rt; are_steps(rack.calls().steps(), &MAKES[..4]));
     Ok(())
 }

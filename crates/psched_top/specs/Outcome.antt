@@ -1,5 +1,6 @@
 -- What psched comes to, by its words and its input, and its status and text then.
 use Rattle.std.specs.Prelude.{ℕ, List, [], ◌∷◌, ◌++◌, length, nat_lt, Option, Some, None, Result, Ok, Err, if◌then◌else◌, codes}
+use Rattle.ps_time.specs.Numbers.{most_input_bytes}
 use Rattle.ps_ports.specs.declared.fault.AllFault.{AllFault}
 use Rattle.ps_ports.specs.declared.fault.AllFault.TheVariants.{TooLong as MoreCame, ReadFault, Memory}
 use Rattle.limit_ident.specs.declared.fault.LimitFault.{LimitFault}
@@ -52,13 +53,9 @@ abbrev pub outcome_of_limits : Result Config LimitFault → Outcome
 outcome_of_limits (Ok config) = Valid (line (valid_text config))
 outcome_of_limits (Err fault) = Refused (line (refusal_text fault))
 
--- the most bytes of an input: 64 MiB
-abbrev pub most_bytes : ℕ
-most_bytes = 67108864
-
 -- what a whole input comes to, unless it is too long
 abbrev pub outcome_of_input : (List ℕ → Outcome) → List ℕ → Outcome
-outcome_of_input made_of input = if nat_lt most_bytes (length input) then TooLong else made_of input
+outcome_of_input made_of input = if nat_lt most_input_bytes (length input) then TooLong else made_of input
 
 -- what comes of a source that didn't give a whole input
 abbrev pub unread_of : AllFault → Option Outcome
