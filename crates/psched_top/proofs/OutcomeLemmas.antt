@@ -4,12 +4,13 @@ use Rattle.ps_ports.specs.All.{GaveAll, GaveMoreThan, HeldMoreThan}
 use Rattle.ps_ports.specs.Causes.{Rose}
 use Rattle.ps_ports.specs.declared.fault.AllFault.{AllFault}
 use Rattle.ps_ports.specs.declared.fault.AllFault.TheVariants.{TooLong as MoreCame, ReadFault, Memory}
+use Rattle.ps_time.specs.Numbers.{most_input_bytes}
 use Rattle.psched_top.specs.declared.command.Command.{Command}
 use Rattle.psched_top.specs.declared.command.Command.TheVariants.{Rehearse, ValidateLimits, Help, Version}
 use Rattle.psched_top.specs.declared.outcome.Outcome.{Outcome}
 use Rattle.psched_top.specs.declared.outcome.Outcome.TheVariants.{TooLong, CannotRead}
 use Rattle.psched_top.specs.Command.{takes_input}
-use Rattle.psched_top.specs.Outcome.{most_bytes, outcome_of, status_of, unread_of}
+use Rattle.psched_top.specs.Outcome.{outcome_of, status_of, unread_of}
 use Rattle.psched_top.specs.Psched.{Comes, Exactly, IsChecked, IsGiven, IsSafeReport, IsRehearsed, IsValid, Told}
 
 -- what holds of the bytes of a source that was read to its end
@@ -22,21 +23,21 @@ checked_of None left bytes outcome gave v = (record { input = bytes; all = tt; e
 checked_of (Some held) left bytes outcome gave v = (record { input = bytes; all = gave.0; ended = gave.1; config = v.config; grammar = v.grammar }, v.counts)
 
 -- more bytes than a command takes
-too_long : (command : Option Command) (input : List ℕ) → takes_input command ≡ true → most_bytes < length input → TooLong ≡ outcome_of command input
+too_long : (command : Option Command) (input : List ℕ) → takes_input command ≡ true → most_input_bytes < length input → TooLong ≡ outcome_of command input
 too_long None input reads more = absurd (cc)
 too_long (Some Help) input reads more = absurd (cc)
 too_long (Some Version) input reads more = absurd (cc)
 too_long (Some Rehearse) input reads more = search (rules, tests)
 too_long (Some ValidateLimits) input reads more = search (rules, tests)
 
-given_too_long : (command : Option Command) (held left : Option (List ℕ)) → takes_input command ≡ true → GaveMoreThan most_bytes held left → HeldMoreThan most_bytes held
+given_too_long : (command : Option Command) (held left : Option (List ℕ)) → takes_input command ≡ true → GaveMoreThan most_input_bytes held left → HeldMoreThan most_input_bytes held
     → IsGiven command held TooLong
 given_too_long command None left reads gave more = record { input = gave.0; all = tt; given = too_long command gave.0 reads gave.2 }
 given_too_long command (Some held) left reads gave more = record { input = held; all = refl; given = too_long command held reads more }
 
 -- a source that didn't give a whole input has its cause
 pub comes_unread : (command : Option Command) (held left : Option (List ℕ)) (before now : ℕ) (fault : AllFault) (outcome : Outcome) → takes_input command ≡ true
-    → (fault ≡ MoreCame → GaveMoreThan most_bytes held left) → (fault ≡ MoreCame → HeldMoreThan most_bytes held) → (fault ≡ ReadFault → Rose before now)
+    → (fault ≡ MoreCame → GaveMoreThan most_input_bytes held left) → (fault ≡ MoreCame → HeldMoreThan most_input_bytes held) → (fault ≡ ReadFault → Rose before now)
     → unread_of fault ≡ Some outcome → Comes command held before now outcome
 comes_unread command held left before now MoreCame outcome reads gave more rose is =
     let same : TooLong ≡ outcome = cc in

@@ -1,6 +1,6 @@
 //! Configurations with one fault each, and its text.
 use crate::tests::read;
-use std::alloc::Global;
+use std::alloc::{AllocError, Global};
 use std::test::Fail;
 
 // Before the member that a table is about, and behind it.
@@ -12,14 +12,19 @@ static WHAT: &str = r#""limits":[{"name":"l","type":"pass-fail"}],"#;
 static USES: &str =
     r#","applications":[{"classifier":"c","apply":[{"require":"all","limits":["l"]}]}]}"#;
 
+/// The fault's text. What was read, and the fault, are let go here.
+fn told(alloc: Global, text: &str) -> Result<String, AllocError> {
+    match read(alloc, text) {
+        Ok(_read) => String::from_str(alloc, "none"),
+        Err(fault) => format!(in alloc; "{fault}"),
+    }
+}
+
 fn check(alloc: Global, before: &str, cases: &str, after: &str) -> Result<(), Fail> {
     for case in cases.split('\n') {
         let (want, middle) = case.split_once(" <- ").ok_or("no case")?;
         let text = format!(in alloc; "{before}{middle}{after}")?;
-        let told = match read(alloc, text.as_str()) {
-            Ok(_read) => String::from_str(alloc, "none")?,
-            Err(fault) => format!(in alloc; "{fault}")?,
-        };
+        let told = told(alloc, text.as_str())?;
         if told.as_str() != want {
             return Err(Fail::new(format_args!("{middle} is told {told}")));
         }
