@@ -4,8 +4,6 @@
 mod gate;
 mod kept;
 mod plays;
-#[cfg(test)]
-mod tests;
 mod turn;
 mod view;
 

@@ -6,7 +6,7 @@ mod log;
 
 use crate::tests::counter::{Ask, Counter};
 use crate::tests::log::{Entry, Log};
-use host_gate::{Front, Gate, Pass};
+use host_gate::{Front, Gate, Pass, Spent};
 use std::alloc::Global;
 use std::process::Abort;
 use std::sync::Wait;
@@ -151,5 +151,22 @@ fn four_threads_write_one_log(rt: HostRuntime) -> Result<(), Fail> {
     check_places(&rt, &log, 1, b.places.as_slice());
     check_places(&rt, &log, 2, c.places.as_slice());
     check_places(&rt, &log, 3, d.places.as_slice());
+    Ok(())
+}
+
+// At ticket 2^63 calls are over, and the gate still closes.
+#[test]
+fn a_gate_without_tickets_answers_spent(rt: HostRuntime) -> Result<(), Fail> {
+    let last = 1 << 63;
+    let (gate, mut pass) = Gate::starting_at(rt.alloc(), Counter { count: 7 }, last - 1).map_err(
+        |_| "memory",
+    )?;
+    assert_eq!(rt; gate.call(&rt, &mut pass, Ask::Add), Ok((8, Front(1))));
+    assert_eq!(rt;
+        gate.call(&rt, &mut pass, Ask::Add),
+        Err(Spent { ticket: last })
+    );
+    let (counter, front) = gate.close(&rt, pass);
+    assert_eq!(rt; (counter.count, front), (8, Front(1)));
     Ok(())
 }
