@@ -1,10 +1,12 @@
 //! The calls of the system on folders and on files by their names.
-ghost use Rattle.std.specs.Prelude.{◌≡◌, [], ◌∷◌, List, Option, OnOk};
+ghost use Rattle.std.specs.Prelude.{◌≡◌, [], ◌∷◌, List, Option, IfOk, OnOk};
 ghost use Rattle.ps_ports.specs.FileCalls.{Adds};
+ghost use Rattle.ps_ports.specs.PairSteps.{AddsSuch, Closes, IsUntouched};
 ghost use Rattle.ps_ports.specs.declared.folder_calls.Step.{Step as Made};
 ghost use Rattle.ps_ports.specs.declared.folder_calls.Step.TheVariants.{CreateFolder, CreateFile, Lock, RemoveFolder, Rename, SyncFolder};
 
-use crate::file_calls::FileCalls;
+use crate::file_calls::{FileCalls, MadeCall};
+use ps_time::items::Items;
 use ps_time::text::Text;
 use std::alloc::Global;
 use std::fs::{File, OpenFile, OpenOptions};
@@ -15,6 +17,8 @@ use std::{fs, io};
 pub enum Step {
     CreateFolder(Text),
     CreateFile(Text),
+    /// All calls that were made on the file.
+    CloseFile(Items<MadeCall>),
     /// With all that is in it.
     RemoveFolder(Text),
     /// From one name to the other.
@@ -28,6 +32,7 @@ impl Drop for Step {
         match self {
             Step::CreateFolder(_) => {}
             Step::CreateFile(_) => {}
+            Step::CloseFile(_) => {}
             Step::RemoveFolder(_) => {}
             Step::Rename(_, _) => {}
             Step::SyncFolder(_) => {}
@@ -51,7 +56,12 @@ pub trait FolderCalls {
 
     /// Makes a new file, to be written.
     fn create_file(&mut self, path: &str) -> io::Result<Self::File>
-        ensures steps { OnOk result (Adds (steps self.old) (steps self.new) (CreateFile path.now ∷ [])) };
+        ensures steps { OnOk result (Adds (steps self.old) (steps self.new) (CreateFile path.now ∷ [])) }
+        ensures untouched { IfOk result (λ file. IsUntouched (Self.File.made file)) };
+
+    /// Gives a file back to the system.
+    fn close_file(&mut self, file: Self::File)
+        ensures steps { AddsSuch (steps self.old) (steps self.new) (Closes (Self.File.made file)) };
 
     /// Opens a file that is there, to be read and written.
     fn open_file(&mut self, path: &str) -> io::Result<Self::File>
@@ -104,6 +114,10 @@ impl<R: Files<File = File>> FolderCalls for SystemFolders<R> {
 
     fn create_file(&mut self, path: &str) -> io::Result<File> {
         File::create_new(&self.rt, path)
+    }
+
+    fn close_file(&mut self, file: File) {
+        drop(file);
     }
 
     fn open_file(&mut self, path: &str) -> io::Result<File> {

@@ -1,9 +1,9 @@
 //! A rack over folders of the file system.
-ghost use Rattle.std.specs.Prelude.{◌≡◌, [], ◌∷◌, ◌++◌, Bool, ◌<◌, ◌≤◌, ◌^◌, length, IfOk, IsErrOf, OnOk, if◌then◌else◌};
+ghost use Rattle.std.specs.Prelude.{◌≡◌, [], ◌∷◌, ◌++◌, Bool, ◌<◌, ◌≤◌, ◌^◌, length, IfOk, IsErrOf, OnOk};
 ghost use Rattle.ps_ports.specs.Causes.{counted, raised};
 ghost use Rattle.ps_ports.specs.FileCalls.{Adds};
-ghost use Rattle.ps_ports.specs.PairSteps.{IsWritten, OpensFolder, made_steps, pair_steps, swept};
-ghost use Rattle.ps_ports.specs.declared.folder_calls.Step.TheVariants.{CreateFile, Lock};
+ghost use Rattle.ps_ports.specs.PairSteps.{AddsSuch, BringsPair, MakesFile, MakesMissing, MakesPair, OpensFolder, swept};
+ghost use Rattle.ps_ports.specs.declared.folder_calls.Step.TheVariants.{Lock};
 ghost use Rattle.ps_ports.specs.declared.rack.RackFault.TheVariants.{Failed as rack_failed};
 
 use crate::disk::Disk;
@@ -162,7 +162,7 @@ fn open_in<C: FolderCalls>(
 
 // The folder above is synced also for a pair that was there: whoever renamed it may have ended before.
 fn make_pair<C: FolderCalls>(calls: &mut C, alloc: Global, folder: &str) -> Result<(), RackFault>
-    ensures { OnOk result ((left : Bool) × (there : Bool) × Adds (C.steps calls.old) (C.steps calls.new) (pair_steps left there folder.now)) }
+    ensures { OnOk result (AddsSuch (C.steps calls.old) (C.steps calls.new) (BringsPair folder.now)) }
 {
     let made = join(alloc, folder, "/pair.new")?;
     let pair = join(alloc, folder, "/pair")?;
@@ -186,12 +186,12 @@ fn make_missing<C: FolderCalls>(
     made: &str,
     pair: &str,
 ) -> Result<(), RackFault>
-    ensures { OnOk result ((there : Bool) × Adds (C.steps calls.old) (C.steps calls.new) (if there then [] else made_steps made.now pair.now)) }
+    ensures { OnOk result ((there : Bool) × AddsSuch (C.steps calls.old) (C.steps calls.new) (MakesMissing there made.now pair.now)) }
 {
-    if !calls.exists(pair)? {
-        make_new(calls, alloc, made, pair)?;
+    if calls.exists(pair)? {
+        return Ok(());
     }
-    Ok(())
+    make_new(calls, alloc, made, pair)
 }
 
 fn make_new<C: FolderCalls>(
@@ -200,7 +200,7 @@ fn make_new<C: FolderCalls>(
     made: &str,
     pair: &str,
 ) -> Result<(), RackFault>
-    ensures { OnOk result (Adds (C.steps calls.old) (C.steps calls.new) (made_steps made.now pair.now)) }
+    ensures { OnOk result (AddsSuch (C.steps calls.old) (C.steps calls.new) (MakesPair made.now pair.now)) }
 {
     calls.create_folder(made)?;
     write_new(calls, alloc, made, "/first", &FRESH_FIRST)?;
@@ -209,21 +209,20 @@ fn make_new<C: FolderCalls>(
     Ok(calls.rename(made, pair)?)
 }
 
-// The new file, written and synced.
 fn write_new<C: FolderCalls>(
     calls: &mut C,
     alloc: Global,
     folder: &str,
     name: &str,
     bytes: &[u8],
-) -> Result<C::File, RackFault>
+) -> Result<(), RackFault>
     requires { length bytes.now < 2 ^ 64 }
-    ensures file { IfOk result (λ file. IsWritten bytes.now (C.File.made file)) }
-    ensures steps { OnOk result (Adds (C.steps calls.old) (C.steps calls.new) (CreateFile (folder.now ++ name.now) ∷ [])) }
+    ensures { OnOk result (AddsSuch (C.steps calls.old) (C.steps calls.new) (MakesFile (folder.now ++ name.now) bytes.now)) }
 {
     let path = join(alloc, folder, name)?;
     let mut file = calls.create_file(path.as_str())?;
     write_whole(&mut file, 0, bytes)?;
     file.sync_all()?;
-    Ok(file)
+    calls.close_file(file);
+    Ok(())
 }

@@ -56,6 +56,24 @@ impl MemoryFile {
         &self.made
     }
 
+    /// The calls so far, moved out; none where memory was wanting.
+    pub fn into_made(self) -> Option<Items<MadeCall>>
+        ensures { result ≡ ⟦<MemoryFile as FileCalls>⟧.made self }
+    {
+        let MemoryFile {
+            alloc: _,
+            length: _,
+            most: _,
+            calls: _,
+            made,
+            starved,
+        } = self;
+        if starved {
+            return None;
+        }
+        Some(Items::from_vec(made))
+    }
+
     fn note(&mut self, call: FileCall, done: bool)
         ensures { Adds (told_by self.old.starved self.old.made.items) (told_by self.new.starved self.new.made.items) (one call done) }
     {

@@ -12,8 +12,8 @@ use std::io;
 use std::io::ErrorKind;
 
 /// A file system in memory that keeps no names, but its steps. What is asked for by a name that ends in
-/// one of two ways is there or not, as it was made. From a call on that finds no memory it doesn't tell
-/// its steps.
+/// one of two ways is there or not, as it was made. From a call on that finds no memory, or gets back a
+/// file that found none, it doesn't tell its steps.
 pub struct MemoryFolders {
     alloc: Global,
     // A pair that was left over, and a whole one.
@@ -122,6 +122,13 @@ impl FolderCalls for MemoryFolders {
             self.note(Step::CreateFile(name));
         }
         Ok(MemoryFile::new(self.alloc, 0, usize::MAX, Vec::new(self.alloc)))
+    }
+
+    fn close_file(&mut self, file: MemoryFile) {
+        match file.into_made() {
+            Some(calls) => self.note(Step::CloseFile(calls)),
+            None => self.starved = true,
+        }
     }
 
     fn open_file(&mut self, _path: &str) -> io::Result<MemoryFile> {

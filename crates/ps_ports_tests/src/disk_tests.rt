@@ -286,11 +286,22 @@ fn a_file_that_fails(rt: HostRuntime) -> Result<(), Fail> {
     Ok(())
 }
 
+// A write of these bytes to an empty file, and a sync of all.
+fn are_fill(calls: &[MadeCall], bytes: &[u8]) -> bool {
+    calls.len() == 2
+        && is_write(&calls[0], 0, bytes)
+        && is_sync_all(&calls[1])
+        && calls[0].done
+        && calls[1].done
+}
+
+// A closing has the bytes of the file in place of a path.
 fn is_step(step: &Step, kind: &str, path: &str) -> bool {
     match step {
         Step::Lock => kind == "lock" && path.is_empty(),
         Step::CreateFolder(name) => kind == "folder" && name.is(path),
         Step::CreateFile(name) => kind == "file" && name.is(path),
+        Step::CloseFile(calls) => kind == "close" && are_fill(calls.as_slice(), path.as_bytes()),
         Step::RemoveFolder(name) => kind == "remove" && name.is(path),
         Step::Rename(from, to) => kind == "rename" && from.is("host/pair.new") && to.is(path),
         Step::SyncFolder(name) => kind == "sync" && name.is(path),
@@ -305,11 +316,13 @@ fn are_steps(steps: &[Step], wanted: &[(&str, &str)]) -> bool {
     same && steps.len() == wanted.len()
 }
 
-static MAKES: [(&str, &str); 7] = [
+static MAKES: [(&str, &str); 9] = [
     ("lock", ""),
     ("folder", "host/pair.new"),
     ("file", "host/pair.new/first"),
+    ("close", "PSCHJRN1\x01\0\0\0\0\0\0\0\x01\0\0\0\0\0"),
     ("file", "host/pair.new/second"),
+    ("close", "PSCHJRN1\0"),
     ("sync", "host/pair.new"),
     ("rename", "host/pair"),
     ("sync", "host"),
@@ -340,12 +353,12 @@ fn the_steps_of_an_opening(rt: HostRuntime) -> Result<(), Fail> {
 }
 
 // The calls are: open the lock, lock, ask for the left pair, ask for the pair, make the folder, the first
-// file, the second, sync the folder, rename it.
+// file, the second, sync the folder, rename it. A closing can't fail.
 #[test]
 fn a_folder_that_is_not_synced_gets_no_name(rt: HostRuntime) -> Result<(), Fail> {
     let alloc = rt.alloc();
     let mut rack = folder_rack(alloc, false, false, &[8])?;
     assert!(rt; rack.open_pair(alloc, "host").is_err() && rack.faults() == 1);
-    assert!(rt; are_steps(rack.calls().steps(), &MAKES[..4]));
+    assert!(rt; are_steps(rack.calls().steps(), &MAKES[..6]));
     Ok(())
 }
