@@ -1,6 +1,6 @@
 -- What the loop over the writes of a file keeps.
 use Rattle.std.proofs.Common.{◌≡◌, ◌≤◌, ◌-◌, ℕ, ◌+◌, true, List, [], ◌∷◌, ◌++◌, length, take, drop, refl, sym, ap, subst, ◌∙◌, arith, append_assoc, length-append, length-take, take-append-drop}
-use Rattle.std.specs.Prelude.{Option, Some, None, IfSome}
+use Rattle.std.specs.Prelude.{Option, Some, None}
 use Rattle.std.proofs.lemmas.List.{append-nil, take_rest}
 use Rattle.ps_ports.specs.FileCalls.{Adds, ArePieces, WroteWhole}
 use Rattle.ps_ports.specs.declared.file_calls.FileCall.TheVariants.{WriteAt}

@@ -1,13 +1,13 @@
 -- Calls in a row, as the rack makes them.
 use Rattle.std.proofs.Common.{◌≡◌, ℕ, Bool, true, List, [], ◌∷◌, ◌++◌, codes, ap, refl, subst, sym, ◌∙◌, append_assoc}
 use Rattle.std.specs.Prelude.{Option, Some, None}
-use Rattle.ps_ports.specs.FileCalls.{Adds, ArePieces, WroteWhole, one}
+use Rattle.ps_ports.specs.FileCalls.{Adds, WroteWhole, one}
 use Rattle.ps_ports.specs.PairSteps.{AddsSuch, BringsPair, Closes, IsUntouched, IsWritten, MakesFile, MakesMissing, MakesPair, OpensFolder, new_pair, swept, whole_pair}
 use Rattle.ps_ports.specs.Rack.{fresh_first, fresh_second}
 use Rattle.ps_ports.specs.declared.file_calls.FileCall.TheVariants.{SyncAll}
 use Rattle.ps_ports.specs.declared.file_calls.MadeCall.{MadeCall}
 use Rattle.ps_ports.specs.declared.folder_calls.Step.{Step}
-use Rattle.ps_ports.specs.declared.folder_calls.Step.TheVariants.{CloseFile, CreateFile, CreateFolder, Lock, Rename, SyncFolder}
+use Rattle.ps_ports.specs.declared.folder_calls.Step.TheVariants.{CreateFile, CreateFolder, Lock, Rename, SyncFolder}
 
 module _ {X : Type 0} where
   -- some calls, and then more

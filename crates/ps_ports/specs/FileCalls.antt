@@ -1,7 +1,7 @@
 -- The calls on an open file, and which of them a disk over it makes.
 use Rattle.std.specs.Prelude.{◌≡◌, ℕ, ◌+◌, Bool, true, if◌then◌else◌, nat_le, List, [], ◌∷◌, ◌++◌, length, take, Option, IfSome, None, Some, Result, Ok, Err}
 use Rattle.ps_ports.specs.declared.file_calls.FileCall.{FileCall}
-use Rattle.ps_ports.specs.declared.file_calls.FileCall.TheVariants.{ReadAt, WriteAt, Length, SetLength, SyncData, SyncAll}
+use Rattle.ps_ports.specs.declared.file_calls.FileCall.TheVariants.{WriteAt, Length, SetLength, SyncData, SyncAll}
 use Rattle.ps_ports.specs.declared.file_calls.MadeCall.{MadeCall}
 
 -- where calls are told, those before were told, and these are more

@@ -1,4 +1,4 @@
-use Rattle.std.proofs.Common.{◌≡◌, ◌<◌, ◌+◌, ◌^◌, length}
+use Rattle.std.proofs.Common.{◌<◌, ◌+◌, ◌^◌, length}
 use Rattle.ps_ports.proofs.FileLemmas.{Writing}
 use Rattle.ps_ports.proofs.file_disk.write_whole.Given as goal
 

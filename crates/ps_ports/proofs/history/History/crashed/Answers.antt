@@ -1,6 +1,6 @@
 use Rattle.std.proofs.Common.{◌≡◌, rules, arith, subst, sym, IfOk}
 use Rattle.std.proofs.lemmas.Result.{IfOk-weaker}
-use Rattle.ps_ports.specs.History.{IsImage, LeftSince, first_calls, image_bytes}
+use Rattle.ps_ports.specs.History.{IsImage, first_calls, image_bytes}
 use Rattle.ps_ports.proofs.ImageLemmas.{image_is_image}
 use Rattle.ps_ports.proofs.history.History.crashed.Goals as goal
 
