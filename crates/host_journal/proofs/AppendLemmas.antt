@@ -4,8 +4,8 @@ use Rattle.std.specs.Int.{w32, to_be_bytes}
 use Rattle.std.proofs.lemmas.List.{take_at, drop_at, drop_more, take-take}
 use Rattle.std.proofs.lemmas.Bool.{cases_eq}
 use Rattle.std.proofs.lemmas.Nat.{from_be_bytes-to_be_bytes_4}
-use Rattle.ps_ports.specs.Disk.{written, Torn, Shortened}
-use Rattle.ps_ports.proofs.DiskLemmas.{written_within, torn_front}
+use Rattle.ps_disks.specs.Disk.{written, Torn, Shortened}
+use Rattle.ps_disks.proofs.DiskLemmas.{written_within, torn_front}
 use Rattle.host_journal.specs.State.{IsWhole, IsStaged}
 use Rattle.host_journal.proofs.FrontLemmas.{is_longer_front}
 

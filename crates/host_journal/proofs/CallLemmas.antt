@@ -3,9 +3,9 @@ use Rattle.std.proofs.Common.{◌≡◌, inl, inr, ⊎_elim, ℕ, ◌+◌, ◌�
 use Rattle.std.specs.Prelude.{Option, Some, None, Result, Ok, Err, OnErr}
 use Rattle.std.proofs.lemmas.List.{take_all}
 use Rattle.std.proofs.Math.Seq.{take-add}
-use Rattle.ps_ports.specs.Disk.{Follows, NoMore, Elapses, LeavesOnly, ReadsAt}
-use Rattle.ps_ports.specs.declared.disk.DiskCall.{DiskCall}
-use Rattle.ps_ports.proofs.DiskLemmas.{leaves_at_first, leaves_after_call}
+use Rattle.ps_disks.specs.Disk.{Follows, NoMore, Elapses, LeavesOnly, ReadsAt}
+use Rattle.ps_disks.specs.declared.disk.DiskCall.{DiskCall}
+use Rattle.ps_disks.proofs.DiskLemmas.{leaves_at_first, leaves_after_call}
 use Rattle.host_journal.specs.Calls.{PartAfter, IsRead}
 use Rattle.host_journal.specs.Told.{TellsAll}
 

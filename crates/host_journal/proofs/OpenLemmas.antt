@@ -1,7 +1,7 @@
 -- From what two disks stand for to what each of them is.
 use Rattle.std.proofs.Common.{◌≡◌, inl, inr, ℕ, ◌+◌, Bool, true, false, not, if◌then◌else◌, List, ◌∷◌, length, drop, Result, Ok, Err, Option, Some, None, refl, sym, ◌∙◌, ap, subst}
 use Rattle.std.specs.Prelude.{nat_le, ◌==◌}
-use Rattle.ps_ports.specs.Disk.{Only}
+use Rattle.ps_disks.specs.Disk.{Only}
 use Rattle.host_journal.specs.Format.{magic, agreeing, stands, Body, body_of, record_bytes, records_of}
 use Rattle.host_journal.specs.Pair.{gates_at, with_records, counted, need_body, unless_at, need_head, greater, pair_by, pair_of}
 use Rattle.host_journal.specs.State.{IsClosed, IsAside, IsBelow, IsWhole, IsSound}

@@ -1,7 +1,7 @@
 -- What holds at each exit of a call that adds a record, or cuts what lies behind the last.
 use Rattle.std.proofs.Common.{◌≡◌, ◌≢◌, ◌⊎◌, inl, inr, ℕ, ◌+◌, ◌≤◌, Bool, true, false, List, [], ◌∷◌, ◌++◌, length, Result, refl, sym, ◌∙◌, ap, subst, arith, length-append}
 use Rattle.std.specs.Int.{w32, to_be_bytes}
-use Rattle.ps_ports.specs.Disk.{written, Torn, Shortened, Follows, Only, LeavesOnly}
+use Rattle.ps_disks.specs.Disk.{written, Torn, Shortened, Follows, Only, LeavesOnly}
 use Rattle.host_journal.specs.Calls.{PartAfter}
 use Rattle.host_journal.specs.State.{State, is_ready, stored, with_record, has_record, which, EachImage, EachSince, IsWhole, IsSound}
 use Rattle.host_journal.specs.declared.pending.Pending.{Pending}

@@ -2,7 +2,7 @@
 use Rattle.std.proofs.Common.{◌≡◌, ◌≢◌, ℕ, ◌+◌, Bool, true, false, not, if◌then◌else◌, List, [], ◌∷◌, ◌++◌, get_or, refl, sym, ◌∙◌, ap, subst, arith}
 use Rattle.std.specs.Prelude.{◌==◌}
 use Rattle.std.proofs.Math.Seq.{get_or-append_seam}
-use Rattle.ps_ports.specs.Disk.{Only}
+use Rattle.ps_disks.specs.Disk.{Only}
 use Rattle.host_journal.specs.Reload.{stood_of}
 use Rattle.host_journal.specs.State.{State, stored, has_record, IsClosed, IsAside, IsWhole, IsStaged, IsImage, Counting, Beside, IsSound}
 use Rattle.host_journal.specs.declared.pending.Pending.{Pending}

@@ -1,8 +1,8 @@
 -- What a cut behind the head, and a write there, leave of a disk: its head.
 use Rattle.std.proofs.Common.{ℕ, ◌≤◌, List, length, take, refl, sym, ◌∙◌, ap, arith}
 use Rattle.std.proofs.lemmas.List.{take-take}
-use Rattle.ps_ports.specs.Disk.{Torn, Shortened, Follows, NoMore, Elapses, LeavesOnly}
-use Rattle.ps_ports.proofs.DiskLemmas.{torn_front, leaves_after_call}
+use Rattle.ps_disks.specs.Disk.{Torn, Shortened, Follows, NoMore, Elapses, LeavesOnly}
+use Rattle.ps_disks.proofs.DiskLemmas.{torn_front, leaves_after_call}
 use Rattle.host_journal.specs.Calls.{PartAfter, KeepsHead}
 use Rattle.host_journal.proofs.CallLemmas.{after_part}
 

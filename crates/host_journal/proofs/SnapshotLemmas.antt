@@ -5,8 +5,8 @@ use Rattle.std.proofs.lemmas.List.{drop_more}
 use Rattle.std.proofs.lemmas.Bool.{cases_eq}
 use Rattle.std.proofs.lemmas.Bool.Decides.{nat_tests}
 use Rattle.std.proofs.lemmas.Nat.{from_be_bytes-to_be_bytes_4, from_be_bytes-to_be_bytes_8}
-use Rattle.ps_ports.specs.Disk.{written, Torn}
-use Rattle.ps_ports.proofs.DiskLemmas.{written_within, written_behind, torn_front}
+use Rattle.ps_disks.specs.Disk.{written, Torn}
+use Rattle.ps_disks.proofs.DiskLemmas.{written_within, written_behind, torn_front}
 use Rattle.host_journal.specs.Calls.{KeepsHead}
 use Rattle.host_journal.specs.Format.{magic, open_head}
 use Rattle.host_journal.specs.Pair.{gates_at}

@@ -1,7 +1,7 @@
 -- A journal's calls, from what they leave of the disk that counts.
 use Rattle.std.proofs.Common.{◌≡◌, ◌⊎◌, inl, inr, ⊎_elim, ℕ, ◌+◌, ◌<◌, ◌^◌, Bool, true, false, if◌then◌else◌, List, [], ◌∷◌, ◌++◌, length, Result, refl, sym, ◌∙◌, ap, subst}
 use Rattle.std.specs.Int.{w32, to_be_bytes}
-use Rattle.ps_ports.specs.Disk.{written, Torn, Follows, Only, LeavesOnly}
+use Rattle.ps_disks.specs.Disk.{written, Torn, Follows, Only, LeavesOnly}
 use Rattle.host_journal.specs.Calls.{PartAfter}
 use Rattle.host_journal.specs.Pair.{pair_of}
 use Rattle.host_journal.specs.State.{State, is_ready, pair_in, stored, with_record, IsAside, IsBelow, IsWhole, IsStaged, Counting, Beside, IsSound}

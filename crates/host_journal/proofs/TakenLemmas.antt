@@ -1,6 +1,6 @@
 -- A journal over two disks of which a crash leaves nothing but what they read, and what a snapshot or a `reload` has made of their order.
 use Rattle.std.proofs.Common.{◌≡◌, ℕ, Bool, List, refl, sym, ◌∙◌, ap, subst}
-use Rattle.ps_ports.specs.Disk.{Only}
+use Rattle.ps_disks.specs.Disk.{Only}
 use Rattle.host_journal.specs.State.{State, pair_in, stored, EachImage, IsAt, IsAside, IsWhole, Counting, Beside, IsSound}
 use Rattle.host_journal.specs.declared.pending.Pending.{Pending}
 use Rattle.host_journal.specs.declared.pending.Pending.TheVariants.{Nothing}

@@ -4,8 +4,8 @@ use Rattle.std.specs.Prelude.{Option}
 use Rattle.std.specs.Int.{w32, to_be_bytes}
 use Rattle.std.proofs.lemmas.List.{take-append-le}
 use Rattle.std.proofs.Math.Seq.{take-append-add}
-use Rattle.ps_ports.specs.declared.disk.DiskCall.{DiskCall}
-use Rattle.ps_ports.specs.declared.disk.DiskCall.TheVariants.{Write, Sync}
+use Rattle.ps_disks.specs.declared.disk.DiskCall.{DiskCall}
+use Rattle.ps_disks.specs.declared.disk.DiskCall.TheVariants.{Write, Sync}
 use Rattle.host_journal.specs.State.{State, append_calls}
 use Rattle.host_journal.specs.Told.{TellsAll, TellsFirst}
 use Rattle.host_journal.proofs.CallLemmas.{tells_on}

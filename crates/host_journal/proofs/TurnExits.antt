@@ -2,9 +2,9 @@
 use Rattle.std.proofs.Common.{◌≡◌, ◌⊎◌, inl, inr, ℕ, ◌+◌, ◌<◌, ◌^◌, Bool, true, false, not, List, [], ◌∷◌, ◌++◌, length, take, refl, sym, ◌∙◌, ap, subst, arith, length-append}
 use Rattle.std.specs.Prelude.{Option}
 use Rattle.std.specs.Int.{w32, w64, to_be_bytes}
-use Rattle.ps_ports.specs.Disk.{written, Torn, Follows, Only, LeavesOnly}
-use Rattle.ps_ports.specs.declared.disk.DiskCall.{DiskCall}
-use Rattle.ps_ports.specs.declared.disk.DiskCall.TheVariants.{Write, Cut, Sync}
+use Rattle.ps_disks.specs.Disk.{written, Torn, Follows, Only, LeavesOnly}
+use Rattle.ps_disks.specs.declared.disk.DiskCall.{DiskCall}
+use Rattle.ps_disks.specs.declared.disk.DiskCall.TheVariants.{Write, Cut, Sync}
 use Rattle.host_journal.specs.Calls.{PartAfter, KeepsHead}
 use Rattle.host_journal.specs.Pair.{gates_at}
 use Rattle.host_journal.specs.State.{State, is_ready, stored, snapshot_of, snapshot_calls, image_bytes, closing, EachImage, IsClosed, IsSound}

@@ -1,6 +1,6 @@
 -- A snapshot, from what its calls leave of the disk that doesn't count.
 use Rattle.std.proofs.Common.{◌≡◌, ◌⊎◌, inl, inr, ⊎_elim, ℕ, ◌+◌, ◌<◌, ◌^◌, Bool, true, false, not, if◌then◌else◌, List, [], ◌∷◌, length, take, Result, refl, sym, ◌∙◌, ap, subst}
-use Rattle.ps_ports.specs.Disk.{written, Torn, Follows, Only, LeavesOnly}
+use Rattle.ps_disks.specs.Disk.{written, Torn, Follows, Only, LeavesOnly}
 use Rattle.host_journal.specs.Calls.{PartAfter, KeepsHead}
 use Rattle.host_journal.specs.Pair.{gates_at, pair_of}
 use Rattle.host_journal.specs.State.{State, pair_in, stored, snapshot_of, image_bytes, closing, EachImage, EachSince, IsClosed, IsAside, IsBelow, IsWhole, IsImage, IsSound}

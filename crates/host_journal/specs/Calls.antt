@@ -1,6 +1,6 @@
 -- What a run of calls on one disk leaves.
 use Rattle.std.specs.Prelude.{◌≡◌, ℕ, ◌≤◌, List, length, take}
-use Rattle.ps_ports.specs.Disk.{NoMore, LeavesOnly}
+use Rattle.ps_disks.specs.Disk.{NoMore, LeavesOnly}
 
 -- an image, or what a part of a call makes of one
 abbrev pub PartAfter : (List ℕ → List ℕ → Type 0) → (List ℕ → Type 0) → List ℕ → Type 0

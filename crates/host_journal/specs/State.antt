@@ -1,9 +1,9 @@
 -- What a journal holds, and what its disks may leave.
 use Rattle.std.specs.Prelude.{⊤, ◌≡◌, ◌≢◌, ◌⊎◌, ◌≤◌, ◌<◌, ◌^◌, ℕ, ◌+◌, ◌==◌, Bool, true, false, not, if◌then◌else◌, nat_le, List, [], ◌∷◌, ◌++◌, length, drop, Some, Result, Ok, Err}
-use Rattle.ps_ports.specs.Disk.{Only}
+use Rattle.ps_disks.specs.Disk.{Only}
 use Rattle.std.specs.Int.{w32, w64, to_be_bytes}
-use Rattle.ps_ports.specs.declared.disk.DiskCall.{DiskCall}
-use Rattle.ps_ports.specs.declared.disk.DiskCall.TheVariants.{Write, Cut, Sync}
+use Rattle.ps_disks.specs.declared.disk.DiskCall.{DiskCall}
+use Rattle.ps_disks.specs.declared.disk.DiskCall.TheVariants.{Write, Cut, Sync}
 use Rattle.host_journal.specs.Format.{magic, agreeing, stands, Body, body_of, record_bytes, records_of, joined}
 use Rattle.host_journal.specs.Pair.{gates_at, pair_of}
 use Rattle.host_journal.specs.declared.reading.Counted.{Counted}

@@ -1,7 +1,7 @@
 -- The calls that disks tell.
 use Rattle.std.specs.Prelude.{◌≡◌, ◌⊎◌, ◌≤◌, ℕ, List, [], ◌∷◌, ◌++◌, length, take, Option, IfSome, Some}
-use Rattle.ps_ports.specs.declared.disk.DiskCall.{DiskCall}
-use Rattle.ps_ports.specs.declared.disk.DiskCall.TheVariants.{Sync}
+use Rattle.ps_disks.specs.declared.disk.DiskCall.{DiskCall}
+use Rattle.ps_disks.specs.declared.disk.DiskCall.TheVariants.{Sync}
 
 -- where the disk tells its calls it told those before, and then these
 abbrev pub TellsAll : Option (List DiskCall) → Option (List DiskCall) → List DiskCall → Type 0

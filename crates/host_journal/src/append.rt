@@ -2,7 +2,7 @@
 ghost use Rattle.std.specs.Prelude.{◌≡◌, ◌⊎◌, ◌+◌, ◌≤◌, ◌<◌, ◌^◌, ◌∷◌, ◌++◌, [], false, IsTrue, length, OnOk, OnErr, vec_capacity};
 ghost use Rattle.std.specs.Int.{w32, to_be_bytes};
 ghost use Rattle.ps_ports.specs.Causes.{Rose};
-ghost use Rattle.ps_ports.specs.declared.disk.DiskCall.TheVariants.{Cut, Sync};
+ghost use Rattle.ps_disks.specs.declared.disk.DiskCall.TheVariants.{Cut, Sync};
 ghost use Rattle.host_journal.specs.State.{is_ready, stored, with_record, EachImage, EachSince, KeepsPlace, append_calls, which, has_record};
 ghost use Rattle.host_journal.specs.Told.{TellsAll, TellsFirst};
 
@@ -10,7 +10,7 @@ use crate::disk_calls::{cut_and_sync, write_and_sync};
 use crate::fault::DiskFault;
 use crate::journal::Journal;
 use crate::pending::Pending;
-use ps_ports::disk::Disk;
+use ps_disks::disk::Disk;
 
 impl<D: Disk> Journal<D> {
     /// Adds a record. Takes no memory.

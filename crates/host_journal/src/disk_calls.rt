@@ -1,13 +1,13 @@
 //! Runs of calls on one disk, or on both.
 ghost use Rattle.std.specs.Prelude.{◌≡◌, ◌+◌, ◌≤◌, ◌<◌, ◌^◌, ◌∷◌, [], ◌⊎◌, ◌==◌, slice_index_or, length, take, IfOk, OnOk, OnErr, IsErrOf};
-ghost use Rattle.ps_ports.specs.Disk.{written, Torn, Shortened, Follows, Only, LeavesOnly};
+ghost use Rattle.ps_disks.specs.Disk.{written, Torn, Shortened, Follows, Only, LeavesOnly};
 ghost use Rattle.ps_ports.specs.Causes.{Rose};
-ghost use Rattle.ps_ports.specs.declared.disk.DiskCall.TheVariants.{Write, Cut, Sync};
+ghost use Rattle.ps_disks.specs.declared.disk.DiskCall.TheVariants.{Write, Cut, Sync};
 ghost use Rattle.host_journal.specs.Told.{TellsAll, TellsFirst, TellsSyncs};
 ghost use Rattle.host_journal.specs.Calls.{PartAfter, KeepsHead, IsRead};
 
 use crate::fault::{DiskFault, OpenReason};
-use ps_ports::disk::Disk;
+use ps_disks::disk::Disk;
 use std::alloc::Global;
 
 /// Writes a piece, and makes sure of it.

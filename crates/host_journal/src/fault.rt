@@ -1,7 +1,7 @@
 //! Why a call on a journal failed.
 
 use crate::reading::Place;
-use ps_ports::disk::Disk;
+use ps_disks::disk::Disk;
 use ps_ports::fault::Failed;
 use ps_time::memory::Memory;
 

@@ -1,9 +1,9 @@
 //! A journal on two disks.
 ghost use Rattle.std.specs.Prelude.{◌≡◌, ◌⊎◌, ◌+◌, ◌-◌, ◌≤◌, ◌<◌, ◌^◌, not, if◌then◌else◌, IsTrue, Ok, Err, length, IfOk, IfErr, OnOk, OnErr, IsErrOf, ◌∷◌, []};
 ghost use Rattle.ps_ports.specs.Causes.{Rose};
-ghost use Rattle.ps_ports.specs.Disk.{Only};
-ghost use Rattle.ps_ports.specs.MemoryDisk.{armed, armed_number};
-ghost use Rattle.ps_ports.specs.declared.disk.DiskCall.TheVariants.{Sync};
+ghost use Rattle.ps_disks.specs.Disk.{Only};
+ghost use Rattle.ps_disks.specs.MemoryDisk.{armed, armed_number};
+ghost use Rattle.ps_disks.specs.declared.disk.DiskCall.TheVariants.{Sync};
 ghost use Rattle.host_journal.specs.Calls.{IsRead};
 ghost use Rattle.host_journal.specs.Format.{stands};
 ghost use Rattle.host_journal.specs.Pair.{pair_of};
@@ -14,8 +14,8 @@ use crate::disk_calls::read_whole;
 use crate::fault::{OpenFault, OpenReason};
 use crate::pending::Pending;
 use crate::reading::{Counted, is_standing, read_pair};
-use ps_ports::disk::Disk;
-use ps_ports::memory_disk::MemoryDisk;
+use ps_disks::disk::Disk;
+use ps_disks::memory_disk::MemoryDisk;
 use ps_time::items::Items;
 use ps_time::memory::Memory;
 use std::alloc::Global;

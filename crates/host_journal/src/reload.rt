@@ -1,8 +1,8 @@
 //! Taking a journal up after a call that failed.
 ghost use Rattle.std.specs.Prelude.{◌≡◌, ◌⊎◌, ◌∷◌, [], ◌≤◌, false, if◌then◌else◌, IsTrue, IfOk, OnOk, OnErr};
 ghost use Rattle.ps_ports.specs.Causes.{Rose};
-ghost use Rattle.ps_ports.specs.Disk.{Only};
-ghost use Rattle.ps_ports.specs.declared.disk.DiskCall.TheVariants.{Sync};
+ghost use Rattle.ps_disks.specs.Disk.{Only};
+ghost use Rattle.ps_disks.specs.declared.disk.DiskCall.TheVariants.{Sync};
 ghost use Rattle.host_journal.specs.Calls.{IsRead};
 ghost use Rattle.host_journal.specs.Reload.{stood_of, IsOf};
 ghost use Rattle.host_journal.specs.State.{is_ready, stored, has_record, EachImage, IsAt, first_disk, second_disk};
@@ -13,7 +13,7 @@ use crate::fault::DiskFault;
 use crate::journal::Journal;
 use crate::pending::Pending;
 use crate::snapshot::HEAD_GATE;
-use ps_ports::disk::Disk;
+use ps_disks::disk::Disk;
 use std::mem;
 
 // Which gate stands open.

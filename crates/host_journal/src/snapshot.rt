@@ -1,8 +1,8 @@
 //! Putting a snapshot on the disk that doesn't count.
 ghost use Rattle.std.specs.Prelude.{◌≡◌, ◌⊎◌, ◌+◌, ◌-◌, ◌≤◌, ◌<◌, ◌^◌, ◌∷◌, [], false, not, IsTrue, length, OnOk, OnErr, vec_capacity};
 ghost use Rattle.ps_ports.specs.Causes.{Rose};
-ghost use Rattle.ps_ports.specs.Disk.{written, Torn, Follows, Only, LeavesOnly};
-ghost use Rattle.ps_ports.specs.declared.disk.DiskCall.TheVariants.{Write, Sync};
+ghost use Rattle.ps_disks.specs.Disk.{written, Torn, Follows, Only, LeavesOnly};
+ghost use Rattle.ps_disks.specs.declared.disk.DiskCall.TheVariants.{Write, Sync};
 ghost use Rattle.host_journal.specs.Calls.{PartAfter};
 ghost use Rattle.host_journal.specs.State.{is_ready, stored, snapshot_of, snapshot_calls, image_bytes, closing, EachImage, EachSince};
 ghost use Rattle.host_journal.specs.Told.{TellsAll, TellsFirst};
@@ -11,7 +11,7 @@ use crate::disk_calls::{replace_rest, write_and_sync};
 use crate::fault::DiskFault;
 use crate::journal::Journal;
 use crate::pending::Pending;
-use ps_ports::disk::Disk;
+use ps_disks::disk::Disk;
 use std::mem;
 
 /// The place of a disk's head gate.

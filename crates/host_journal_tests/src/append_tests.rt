@@ -2,9 +2,9 @@
 //! each of them.
 use crate::calls::{ONE_RECORD, Pair, add, found, gives_back, journal_on, stands_for};
 use host_journal::journal::Journal;
-use ps_ports::image::Image;
-use ps_ports::memory_disk::MemoryDisk;
-use ps_ports::rack::{FRESH_FIRST, FRESH_SECOND};
+use ps_disks::image::Image;
+use ps_disks::memory_disk::MemoryDisk;
+use ps_disks::rack::{FRESH_FIRST, FRESH_SECOND};
 use ps_time::memory::Memory;
 use std::alloc::Global;
 use std::process::Abort;

@@ -1,6 +1,6 @@
 //! Pairs of disks in memory, and calls on the journals over them.
 use host_journal::journal::Journal;
-use ps_ports::memory_disk::MemoryDisk;
+use ps_disks::memory_disk::MemoryDisk;
 use ps_time::items::Items;
 use ps_time::memory::Memory;
 use std::alloc::{AllocError, Global};

@@ -3,8 +3,8 @@ use crate::calls::{ONE_RECORD, Pair, SNAPSHOT, add, gives_back, opened, pair_of}
 use host_journal::fault::OpenReason;
 use host_journal::journal::Journal;
 use host_journal::reading::Place;
-use ps_ports::memory_disk::MemoryDisk;
-use ps_ports::rack::{FRESH_FIRST, FRESH_SECOND};
+use ps_disks::memory_disk::MemoryDisk;
+use ps_disks::rack::{FRESH_FIRST, FRESH_SECOND};
 use ps_time::memory::Memory;
 use std::alloc::Global;
 use std::process::Abort;

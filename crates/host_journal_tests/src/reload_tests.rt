@@ -2,8 +2,8 @@
 //! append.
 use crate::calls::{OLDER, ONE_RECORD, add, goes_on, journal_on, snap};
 use host_journal::journal::Journal;
-use ps_ports::memory_disk::MemoryDisk;
-use ps_ports::rack::FRESH_FIRST;
+use ps_disks::memory_disk::MemoryDisk;
+use ps_disks::rack::FRESH_FIRST;
 use ps_time::memory::Memory;
 use std::alloc::Global;
 use std::test::Fail;

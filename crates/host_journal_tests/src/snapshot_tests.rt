@@ -1,9 +1,9 @@
 //! Snapshots: bytes worked out by hand, and stops at each disk call.
 use crate::calls::{OLDER, ONE_RECORD, Pair, SNAPSHOT, gives_back, journal_on, snap, stands_for};
 use host_journal::journal::Journal;
-use ps_ports::image::Image;
-use ps_ports::memory_disk::MemoryDisk;
-use ps_ports::rack::{FRESH_FIRST, FRESH_SECOND};
+use ps_disks::image::Image;
+use ps_disks::memory_disk::MemoryDisk;
+use ps_disks::rack::{FRESH_FIRST, FRESH_SECOND};
 use ps_time::memory::Memory;
 use std::alloc::Global;
 use std::test::Fail;

@@ -1,8 +1,1 @@
 mod AllLemmas
-pub mod DiskLemmas
-mod FileLemmas
-mod FolderLemmas
-mod HistoryLemmas
-mod ImageLemmas
-mod MemoryDiskLemmas
-mod RackLemmas

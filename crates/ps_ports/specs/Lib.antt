@@ -1,10 +1,3 @@
 pub mod All
 pub mod Causes
-pub mod Disk
-pub mod FileCalls
-pub mod History
-pub mod Images
 pub mod Memory
-pub mod MemoryDisk
-pub mod PairSteps
-pub mod Rack

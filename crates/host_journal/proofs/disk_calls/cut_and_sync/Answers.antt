@@ -1,6 +1,6 @@
 use Rattle.std.proofs.Common.{[], ◌∷◌, arith}
-use Rattle.ps_ports.specs.Images.{nothing_is_part}
-use Rattle.ps_ports.specs.declared.disk.DiskCall.TheVariants.{Cut, Sync}
+use Rattle.ps_disks.specs.Images.{nothing_is_part}
+use Rattle.ps_disks.specs.declared.disk.DiskCall.TheVariants.{Cut, Sync}
 use Rattle.host_journal.proofs.CallLemmas.{after_part, after_sync, on_err, tells_on}
 use Rattle.host_journal.proofs.disk_calls.cut_and_sync.Goals as goal
 

@@ -1,5 +1,5 @@
 use Rattle.std.proofs.Common.{[], ◌∷◌, length, arith}
-use Rattle.ps_ports.specs.declared.disk.DiskCall.TheVariants.{Write, Cut, Sync}
+use Rattle.ps_disks.specs.declared.disk.DiskCall.TheVariants.{Write, Cut, Sync}
 use Rattle.host_journal.proofs.CallLemmas.{on_err, tells_on}
 use Rattle.host_journal.proofs.RestLemmas.{cut_moments, behind_images, behind_moments, sure_images, sure_moments}
 use Rattle.host_journal.proofs.disk_calls.replace_rest.Goals as goal

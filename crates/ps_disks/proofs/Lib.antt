@@ -1,0 +1,5 @@
+pub mod DiskLemmas
+mod HistoryLemmas
+mod ImageLemmas
+mod MemoryDiskLemmas
+mod RackLemmas

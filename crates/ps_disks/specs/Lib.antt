@@ -1,0 +1,5 @@
+pub mod Disk
+pub mod History
+pub mod Images
+pub mod MemoryDisk
+pub mod Rack
