@@ -112,7 +112,7 @@ impl<C: FolderCalls> Rack for FolderRack<C> {
     ghost rack_faults_fit = { λ r. counted_fits r.faults };
 }
 
-#[tactic(auto, using(ps_ports::proofs::FolderLemmas::folder_opened))]
+#[tactic(auto, using(crate::proofs::FolderLemmas::folder_opened))]
 fn open_files<C: FolderCalls>(
     calls: &mut C,
     alloc: Global,
@@ -195,7 +195,7 @@ fn make_missing<C: FolderCalls>(
     make_new(calls, alloc, made, pair)
 }
 
-#[tactic(auto, using(ps_ports::proofs::FolderLemmas::pair_made))]
+#[tactic(auto, using(crate::proofs::FolderLemmas::pair_made))]
 fn make_new<C: FolderCalls>(
     calls: &mut C,
     alloc: Global,
