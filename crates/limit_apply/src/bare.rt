@@ -5,6 +5,7 @@ ghost use Rattle.ps_json.specs.Fields.{is_comment};
 ghost use Rattle.ps_json.specs.Tree.{tree_of};
 ghost use Rattle.limit_apply.specs.Bare.{bare, bare_items, bare_members, with_plain, bare_text};
 
+use ps_json::fields::is_comment;
 use ps_json::shape::{is_deeper, is_whole};
 use ps_json::tree::{MAX_DEPTH, write_text};
 use ps_time::memory::Memory;
@@ -64,12 +65,6 @@ fn put_plain(
     }
     put(copies, alloc, name, value)?;
     Ok(())
-}
-
-fn is_comment(name: &str) -> bool
-    ensures { result ≡ is_comment name.now }
-{
-    matches!(name.as_bytes(), [b'#', ..])
 }
 
 /// The compact text of the tree without its comments. One that is then deeper than 64 levels, or has a number
