@@ -13,3 +13,4 @@ pub mod Picture
 pub mod Sorted
 pub mod Span
 pub mod Start
+pub mod Starts

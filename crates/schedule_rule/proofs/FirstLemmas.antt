@@ -5,7 +5,8 @@ use Rattle.schedule_rule.specs.Rule.{first_from, IsLeast, HoldsNowhere}
 
 steps : (test : ℕ → Bool) (n more : ℕ) (b : Bool) → test n ≡ b → first_from test n (suc more) ≡ (if b then Some n else first_from test (suc n) more)
 unfolding first_from
-steps test n more b is = rw is refl
+steps test n more true is = rw (first_from, is) refl
+steps test n more false is = rw (first_from, is) refl
 
 none_from : (test : ℕ → Bool) (n more : ℕ) → HoldsNowhere test → first_from test n more ≡ None
 unfolding first_from

@@ -8,7 +8,7 @@ use Rattle.std.proofs.lemmas.Grind.{div_ceil_times}
 use Rattle.std.proofs.lemmas.Nat.{mul-le}
 use Rattle.schedule_rule.proofs.FirstLemmas.{found}
 use Rattle.ps_time.specs.Numbers.{greatest_moment, greatest_length}
-use Rattle.schedule_rule.specs.Rule.{Schedule, IsRule, has_number, nominal_start, latest_start, last_start, window_of, window_reaches, reaches_from, next_of, IsLeast, HoldsNowhere}
+use Rattle.schedule_rule.specs.Rule.{Schedule, IsRule, has_number, nominal_start, latest_start, last_start, window_of, window_reaches, reaches_from, next_of, numbers_of, IsLeast, HoldsNowhere}
 
 -- a number below a quotient that is rounded up
 pub short : (a r j : ℕ) → 0 < r → j < a / r + min 1 (a % r) → j * r < a
@@ -69,6 +69,13 @@ least_reaches rule from first reach early here = record {
       ];
 }
 
+-- a number that reaches is one of those that there are
+number_within : (anchor slip : ℕ) (repeat until max_runs : Option ℕ) (from n reach : ℕ) → let rule : Schedule = record { anchor = anchor; slip = slip; repeat = repeat; until = until; max_runs = max_runs } in n < 2 ^ 32 → reaches_from rule from reach n ≡ true → n < numbers_of rule
+number_within anchor slip None until None from n reach small here = grind (arith, nat_tests)
+number_within anchor slip None until (Some runs) from n reach small here = grind (arith, nat_tests)
+number_within anchor slip (Some r) until None from n reach small here = small
+number_within anchor slip (Some r) until (Some runs) from n reach small here = grind (arith, nat_tests)
+
 -- what is said of the next number
 pub record IsNext (rule : Schedule) (from reach : ℕ) (r : Option ℕ) : Type 0 where
   pub value : r ≡ next_of rule from reach
@@ -80,14 +87,14 @@ jumped : (rule : Schedule) (from first reach : ℕ) (b : Bool) → ((j : ℕ) �
 jumped rule from first reach true early lasts small is =
     let least = least_reaches rule from first reach early is in
     record {
-      value = found (reaches_from rule from reach) (2 ^ 32) (Some (max from first)) small least (λ no m. cc);
+      value = found (reaches_from rule from reach) (numbers_of rule) (Some (max from first)) (number_within rule.anchor rule.slip rule.repeat rule.until rule.max_runs from (max from first) reach small least.holds) least (λ no m. cc);
       least = least;
       none = ((λ no m. cc), (λ nowhere. cc (least.holds, nowhere (max from first))));
     }
 jumped rule from first reach false early lasts small is =
     let nowhere = none_reaches rule from first reach early lasts is in
     record {
-      value = found (reaches_from rule from reach) (2 ^ 32) None tt tt (λ no. nowhere);
+      value = found (reaches_from rule from reach) (numbers_of rule) None tt tt (λ no. nowhere);
       least = tt;
       none = ((λ no. nowhere), (λ nowhere. refl));
     }

@@ -59,10 +59,6 @@ range_of exists first last = if exists && nat_le first last then Some (record { 
 abbrev pub window_of : Schedule → ℕ → Option Range
 window_of rule k = range_of (has_number rule k) (nominal_start rule k) (min (latest_start rule k) (last_start rule))
 
--- a moment lies in a window
-abbrev pub is_within : Range → ℕ → Bool
-is_within w s = nat_le w.first s && nat_le s w.last
-
 -- a window reaches a moment where its last start isn't before it
 abbrev pub window_reaches : Option Range → ℕ → Bool
 window_reaches None moment = false
@@ -75,11 +71,20 @@ reaches_from rule from moment k = nat_le from k && window_reaches (window_of rul
 -- the first of so many numbers from n on for which a test holds
 unfoldable pub first_from : (ℕ → Bool) → ℕ → ℕ → Option ℕ
 first_from test n zero = None
-first_from test n (suc more) = if test n then Some n else first_from test (suc n) more
+first_from test n (suc more) = elim (test n) [ true ↦ Some n | false ↦ first_from test (suc n) more ]
+
+-- how many numbers of 32 bits there are: one without a repeat
+abbrev pub numbers_with : Option ℕ → Option ℕ → ℕ
+numbers_with None max_runs = 1
+numbers_with (Some repeat) None = 2 ^ 32
+numbers_with (Some repeat) (Some runs) = runs
+
+abbrev pub numbers_of : Schedule → ℕ
+numbers_of rule = numbers_with rule.repeat rule.max_runs
 
 -- the first such number of 32 bits: `next_number` shows that no greater one reaches a moment
 abbrev pub next_of : Schedule → ℕ → ℕ → Option ℕ
-next_of rule from moment = first_from (reaches_from rule from moment) 0 (2 ^ 32)
+next_of rule from moment = first_from (reaches_from rule from moment) 0 (numbers_of rule)
 
 -- n is the least of the numbers for which the test holds
 pub record IsLeast (test : ℕ → Bool) (n : ℕ) : Type 0 where

@@ -1,6 +1,7 @@
 //! A rule, the windows of its numbers, and the jump to the next number.
 ghost use Rattle.std.specs.Prelude.{◌≡◌, ◌+◌, ◌*◌, ◌≤◌, ◌<◌, ◌↔◌, ℕ, IsNone, IsSome, IfSome, IfNone, IsTrue};
-ghost use Rattle.schedule_rule.specs.Rule.{has_number, nominal_start, latest_start, last_start, is_allowed, is_within, window_of, window_reaches, reaches_from, next_of, IsLeast, IsGreatest, HoldsNowhere};
+ghost use Rattle.ps_time.specs.Starts.{is_within};
+ghost use Rattle.schedule_rule.specs.Rule.{has_number, nominal_start, latest_start, last_start, is_allowed, window_of, window_reaches, reaches_from, next_of, IsLeast, IsGreatest, HoldsNowhere};
 
 use ps_time::duplicate::Duplicate;
 use ps_time::interval::Window;

@@ -1,11 +1,11 @@
-use Rattle.std.proofs.Common.{◌^◌}
 use Rattle.schedule_rule.proofs.FirstLemmas.{found}
 use Rattle.schedule_rule.proofs.JumpLemmas.{none_in_time, next_is, if_given}
+use Rattle.schedule_rule.specs.Rule.{numbers_of}
 use Rattle.schedule_rule.proofs.rule.next_number.Goals as goal
 
 pub returns-in_err-first_reaching-clause-value : goal.returns-in_err-first_reaching-clause-value
 returns-in_err-first_reaching-clause-value c =
-    rw c.from_residual.ensures (found _ (2 ^ 32) _ tt tt (λ _. none_in_time c.args.rule.now c.args.from c.args.reach c.in_err-first_reaching.ensures.none))
+    rw c.from_residual.ensures (found _ (numbers_of c.args.rule.now) _ tt tt (λ _. none_in_time c.args.rule.now c.args.from c.args.reach c.in_err-first_reaching.ensures.none))
 
 pub returns : goal.returns
 returns c =
