@@ -28,7 +28,7 @@ pub struct FileDisk<F> {
 
 impl<F: FileCalls> FileDisk<F> {
     /// A disk over an open file. `lock` is held as long as the disk is.
-    pub fn new(file: F, lock: Option<F>) -> FileDisk<F>
+    pub(crate) fn new(file: F, lock: Option<F>) -> FileDisk<F>
         ensures { ⟦<FileDisk<F> as Disk>⟧.disk_faults result ≡ 0 }
     {
         FileDisk {

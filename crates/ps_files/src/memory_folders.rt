@@ -20,6 +20,10 @@ pub struct MemoryFolders {
     left: bool,
     there: bool,
     calls: FailingCalls,
+    // What an opened file is like: its length, what one write takes at most, which of its calls fail.
+    length: u64,
+    most: usize,
+    failing: Vec<u64>,
     steps: Vec<Step>,
     starved: bool,
 }
@@ -31,6 +35,9 @@ impl Drop for MemoryFolders {
             left: _,
             there: _,
             calls: _,
+            length: _,
+            most: _,
+            failing: _,
             steps: _,
             starved: _,
         } = self;
@@ -48,6 +55,27 @@ impl MemoryFolders {
             left,
             there,
             calls: FailingCalls::new(failing),
+            length: 0,
+            most: usize::MAX,
+            failing: Vec::new(alloc),
+            steps: Vec::new(alloc),
+            starved: false,
+        }
+    }
+
+    /// A file system with a whole pair, of whose opened files each has this length and takes at most
+    /// `most` bytes in a write. `failing` has the numbers of the calls of a file that are to fail.
+    pub fn of_files(alloc: Global, length: u64, most: usize, failing: Vec<u64>) -> MemoryFolders
+        ensures { ⟦<MemoryFolders as FolderCalls>⟧.steps result ≡ Some [] }
+    {
+        MemoryFolders {
+            alloc,
+            left: false,
+            there: true,
+            calls: FailingCalls::new(Vec::new(alloc)),
+            length,
+            most,
+            failing,
             steps: Vec::new(alloc),
             starved: false,
         }
@@ -133,7 +161,10 @@ impl FolderCalls for MemoryFolders {
 
     fn open_file(&mut self, _path: &str) -> io::Result<MemoryFile> {
         self.next()?;
-        Ok(MemoryFile::new(self.alloc, 0, usize::MAX, Vec::new(self.alloc)))
+        let Ok(failing) = self.failing.as_slice().to_vec(self.alloc) else {
+            return Err(ErrorKind::OutOfMemory.into());
+        };
+        Ok(MemoryFile::new(self.alloc, self.length, self.most, failing))
     }
 
     fn open_or_create_file(&mut self, _path: &str) -> io::Result<MemoryFile> {

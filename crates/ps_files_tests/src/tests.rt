@@ -84,10 +84,12 @@ fn is_write(made: &MadeCall, at: u64, piece: &[u8]) -> bool {
     }
 }
 
-// A write takes at most 3 bytes.
-fn file_disk(alloc: Global, failing: &[u64]) -> Result<FileDisk<MemoryFile>, AllocError> {
+// The first disk of a pair. Its file has 9 bytes, and a write takes at most 3.
+fn file_disk(alloc: Global, failing: &[u64]) -> Result<FileDisk<MemoryFile>, Fail> {
     let failing = failing.to_vec(alloc)?;
-    Ok(FileDisk::new(MemoryFile::new(alloc, 9, 3, failing), None))
+    let mut rack = FolderRack::over(MemoryFolders::of_files(alloc, 9, 3, failing));
+    let (first, _second) = rack.open_pair(alloc, "host")?;
+    Ok(first)
 }
 
 #[test]
