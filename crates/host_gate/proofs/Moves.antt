@@ -58,7 +58,7 @@ module _ {K : Type 0} (grown : K → K → Type 0) (grown_refl : (x : K) → gro
   pub reads : (slots id : ℕ) (me : Sat K) → me.0.stage ≡ Outside → Allows Rule slots id me 0 (λ n. n) (read (step slots 0 0 0 none) me)
   reads slots id me outside s r homes at small =
       let calm = outside_calm me.0 outside in
-      (record me.0 { read = slice_index s.words 0 }, keeps, tt, loads s 0 id me.0 _ r at calm calm (le_refl _) (λ t h. h) (λ m h. (id, me.0, at, h)), refl)
+      (record me.0 { read = slice_index s.words 0 }, keeps, tt, loads s 0 id me.0 _ r at calm calm (le_refl _) (λ t h. h) (λ m h. (id, me.0, at, h)), (r.turns.read id me.0 at, refl))
 
   pub draws : (slots id : ℕ) (me : Sat K) (t : ℕ) → me.0.stage ≡ Outside → t ≤ 2 ^ 63 → Allows Rule slots id me 0 (λ n. either (n == t) (t + 1) n) (drawn (step slots 0 t (t + 1) none) me)
   draws slots id me t outside room s r homes at small =

@@ -21,9 +21,9 @@ module _ {K : Type 0} where
   abbrev pub leaving : View K → ℕ → K → ℕ → View K
   leaving v t y n = record v { stage = Leaves t (mark y n); seen = Some (mark y n) }
 
-  -- the next ticket was read
+  -- the next ticket was read, which is no less than the one read before
   abbrev pub read : Of K → Sat K → ℕ → Sat K → Type 0
-  read st me n after = after ≡ (record me.0 { read = n }, me.1)
+  read st me n after = (me.0.read ≤ n) × (after ≡ (record me.0 { read = n }, me.1))
 
   -- the ticket was drawn where it was the next one
   abbrev pub drawn : Of K → Sat K → ℕ → Sat K → Type 0

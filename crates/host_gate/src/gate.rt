@@ -7,7 +7,7 @@ ghost use Rattle.host_gate.specs.Calls.{Standing, Stepped};
 
 use crate::kept::Kept;
 use crate::plays::Splits;
-use crate::turn::{LAST_TURN, Place, enter, enter_last, join, serve, take, wait};
+use crate::turn::{LAST_TURN, PassSeat, enter, enter_last, join, serve, take, wait};
 use crate::view::{Turns, View};
 use atomic_table::{Refused, Table};
 use std::alloc::Global;
@@ -54,7 +54,7 @@ impl<K: Kept> Model for Gate<K> {
 /// use at any other gate.
 #[derive(Drop)]
 pub struct Pass<K> {
-    seat: Place<K>,
+    seat: PassSeat<K>,
     front: u64,
 }
 
@@ -137,6 +137,7 @@ impl<K: Kept> Gate<K> {
         ensures drawn { IfOk result (λ _. pass.new.read < 2 ^ 63) }
         ensures spent { IfErr result (λ s. (s.ticket ≡ pass.new.read) × (2 ^ 63 ≤ pass.new.read)) }
         ensures unmoved { IfErr result (λ _. pass.new.seen ≡ pass.old.seen) }
+        ensures later { pass.old.read ≤ pass.new.read }
     {
         let board = &self.table.shared;
         match enter(rt, board, &mut pass.seat, LAST_TURN - 1) {

@@ -15,23 +15,24 @@ use std::sync::Wait;
 
 pub type Board<K> = Shared<Option<K>, View<K>, Snapshot<K>, Turns>;
 
-pub type Place<K> = Seat<Option<K>, View<K>>;
+pub type PassSeat<K> = Seat<Option<K>, View<K>>;
 
 /// The ticket of the turn that closes a gate. Calls draw those below it.
 pub(crate) const LAST_TURN: u64 = 1 << 63;
 
 /// Reads the next ticket.
-pub(crate) fn read_ticket<K: Kept>(board: &Board<K>, seat: &mut Place<K>) -> u64
+pub(crate) fn read_ticket<K: Kept>(board: &Board<K>, seat: &mut PassSeat<K>) -> u64
     requires table { (seat.old.table_id ≡ board.now.table_id) × (board.now.table_id.words ≡ 3) }
     requires outside { seat.old.me.0.stage ≡ Outside }
     ensures table { seat.new.table_id ≡ seat.old.table_id }
     ensures read { seat.new.me ≡ (record seat.old.me.0 { read = result }, seat.old.me.1) }
+    ensures later { seat.old.me.0.read ≤ result }
 {
     board.load::<Reads>(seat, 0)
 }
 
 /// Tries to draw the ticket that was read. It isn't drawn where another pass drew it.
-pub(crate) fn draw<K: Kept>(board: &Board<K>, seat: &mut Place<K>, ticket: u64) -> bool
+pub(crate) fn draw<K: Kept>(board: &Board<K>, seat: &mut PassSeat<K>, ticket: u64) -> bool
     requires table { (seat.old.table_id ≡ board.now.table_id) × (board.now.table_id.words ≡ 3) }
     requires outside { seat.old.me.0.stage ≡ Outside }
     requires bound { ticket ≤ 2 ^ 63 }
@@ -43,7 +44,7 @@ pub(crate) fn draw<K: Kept>(board: &Board<K>, seat: &mut Place<K>, ticket: u64) 
 }
 
 /// Looks which ticket is served. Where it is the seat's own, the seat has its turn, and the state.
-pub(crate) fn look<K: Kept>(board: &Board<K>, seat: &mut Place<K>, ticket: u64) -> u64
+pub(crate) fn look<K: Kept>(board: &Board<K>, seat: &mut PassSeat<K>, ticket: u64) -> u64
     requires table { (seat.old.table_id ≡ board.now.table_id) × (board.now.table_id.words ≡ 3) }
     requires waits { seat.old.me.0.stage ≡ Waits ticket }
     ensures table { seat.new.table_id ≡ seat.old.table_id }
@@ -56,7 +57,7 @@ pub(crate) fn look<K: Kept>(board: &Board<K>, seat: &mut Place<K>, ticket: u64) 
 /// Makes one step of the state that the seat has taken, and puts back the state that it leaves.
 pub(crate) fn step<K: Kept>(
     board: &Board<K>,
-    seat: &mut Place<K>,
+    seat: &mut PassSeat<K>,
     call: K::Call,
 ) -> (K::Reply, bool)
     requires table { seat.old.table_id ≡ board.now.table_id }
@@ -76,7 +77,7 @@ pub(crate) fn step<K: Kept>(
 }
 
 /// Counts the step where it changed the state. Answers the front of the state that is left.
-pub(crate) fn count<K: Kept>(board: &Board<K>, seat: &mut Place<K>, changed: bool) -> u64
+pub(crate) fn count<K: Kept>(board: &Board<K>, seat: &mut PassSeat<K>, changed: bool) -> u64
     requires table { (seat.old.table_id ≡ board.now.table_id) × (board.now.table_id.words ≡ 3) }
     requires left { (t : ℕ) × (m : Mark K) × (y : K) × (seat.old.me.0.stage ≡ Holds t m) × (seat.old.me.1 ≡ (0, Some y) ∷ []) × K.grown m.state y × (changed ≡ false → y ≡ m.state) }
     ensures table { seat.new.table_id ≡ seat.old.table_id }
@@ -88,7 +89,7 @@ pub(crate) fn count<K: Kept>(board: &Board<K>, seat: &mut Place<K>, changed: boo
 }
 
 /// Ends the turn. The state that was left is at home again.
-pub(crate) fn end<K: Kept>(board: &Board<K>, seat: &mut Place<K>)
+pub(crate) fn end<K: Kept>(board: &Board<K>, seat: &mut PassSeat<K>)
     requires table { (seat.old.table_id ≡ board.now.table_id) × (board.now.table_id.words ≡ 3) }
     requires left { (t : ℕ) × (m : Mark K) × (seat.old.me.0.stage ≡ Leaves t m) × (seat.old.me.1 ≡ (0, Some m.state) ∷ []) }
     ensures table { seat.new.table_id ≡ seat.old.table_id }
@@ -102,7 +103,7 @@ pub(crate) fn end<K: Kept>(board: &Board<K>, seat: &mut Place<K>)
 pub(crate) fn enter<K: Kept, R: Wait>(
     rt: &R,
     board: &Board<K>,
-    seat: &mut Place<K>,
+    seat: &mut PassSeat<K>,
     most: u64,
 ) -> Result<u64, u64>
     requires table { (seat.old.table_id ≡ board.now.table_id) × (board.now.table_id.words ≡ 3) }
@@ -111,6 +112,7 @@ pub(crate) fn enter<K: Kept, R: Wait>(
     ensures table { seat.new.table_id ≡ seat.old.table_id }
     ensures drawn { IfOk result (λ t. (t ≤ most) × (seat.new.me ≡ (record seat.old.me.0 { read = t; stage = Waits t }, seat.old.me.1))) }
     ensures beyond { IfErr result (λ t. (most < t) × (seat.new.me ≡ (record seat.old.me.0 { read = t }, seat.old.me.1))) }
+    ensures later { seat.old.me.0.read ≤ seat.new.me.0.read }
 {
     for _ in rt.forever() {
         let ticket = read_ticket(board, seat);
@@ -125,7 +127,7 @@ pub(crate) fn enter<K: Kept, R: Wait>(
 }
 
 /// Draws the ticket of the last turn. Where another has it this never returns, which no gate meets that is closed once.
-pub(crate) fn enter_last<K: Kept, R: Wait>(rt: &R, board: &Board<K>, seat: &mut Place<K>) -> u64
+pub(crate) fn enter_last<K: Kept, R: Wait>(rt: &R, board: &Board<K>, seat: &mut PassSeat<K>) -> u64
     requires table { (seat.old.table_id ≡ board.now.table_id) × (board.now.table_id.words ≡ 3) }
     requires outside { seat.old.me.0.stage ≡ Outside }
     ensures table { seat.new.table_id ≡ seat.old.table_id }
@@ -141,7 +143,7 @@ pub(crate) fn enter_last<K: Kept, R: Wait>(rt: &R, board: &Board<K>, seat: &mut 
 }
 
 /// Waits until the ticket is served.
-pub(crate) fn wait<K: Kept, R: Wait>(rt: &R, board: &Board<K>, seat: &mut Place<K>, ticket: u64)
+pub(crate) fn wait<K: Kept, R: Wait>(rt: &R, board: &Board<K>, seat: &mut PassSeat<K>, ticket: u64)
     requires table { (seat.old.table_id ≡ board.now.table_id) × (board.now.table_id.words ≡ 3) }
     requires waits { seat.old.me.0.stage ≡ Waits ticket }
     ensures table { seat.new.table_id ≡ seat.old.table_id }
@@ -161,7 +163,7 @@ pub(crate) fn wait<K: Kept, R: Wait>(rt: &R, board: &Board<K>, seat: &mut Place<
 pub(crate) fn serve<K: Kept, R: Wait>(
     rt: &R,
     board: &Board<K>,
-    seat: &mut Place<K>,
+    seat: &mut PassSeat<K>,
     ticket: u64,
     call: K::Call,
 ) -> (K::Reply, u64)
@@ -181,7 +183,7 @@ pub(crate) fn serve<K: Kept, R: Wait>(
 }
 
 /// Joins another seat to this one, which keeps the later of what the two have seen.
-pub(crate) fn join<K: Kept>(board: &Board<K>, seat: &mut Place<K>, other: Place<K>)
+pub(crate) fn join<K: Kept>(board: &Board<K>, seat: &mut PassSeat<K>, other: PassSeat<K>)
     requires table { (seat.old.table_id ≡ board.now.table_id) × (other.table_id ≡ board.now.table_id) × (board.now.table_id.words ≡ 3) }
     requires outside { (seat.old.me.0.stage ≡ Outside) × (other.me.0.stage ≡ Outside) }
     requires alone { (seat.old.me.0.met ≡ None) × (other.me.0.met ≡ None) × (other.me.1 ≡ []) }
@@ -195,7 +197,7 @@ pub(crate) fn join<K: Kept>(board: &Board<K>, seat: &mut Place<K>, other: Place<
 }
 
 /// Takes the last turn, and the state for good. Answers it with its front.
-pub(crate) fn take<K: Kept>(board: &Board<K>, seat: &mut Place<K>) -> (K, u64)
+pub(crate) fn take<K: Kept>(board: &Board<K>, seat: &mut PassSeat<K>) -> (K, u64)
     requires table { (seat.old.table_id ≡ board.now.table_id) × (board.now.table_id.words ≡ 3) }
     requires holds { (t : ℕ) × (m : Mark K) × (seat.old.me.0.stage ≡ Holds t m) × (seat.old.me.1 ≡ (0, Some m.state) ∷ []) }
     ensures { (t : ℕ) (m : Mark K) → seat.old.me.0.stage ≡ Holds t m → m ≡ mark result.0 result.1 }

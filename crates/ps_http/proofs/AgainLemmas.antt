@@ -1,11 +1,11 @@
 -- Requests are read again as they were written.
-use Rattle.std.proofs.Common.{◌≡◌, ◌≤◌, ◌<◌, ◌+◌, ◌^◌, ◌⊎◌, inl, inr, ◌==◌, ℕ, true, false, Bool, ◌&&◌, ◌||◌, not, nat_le, nat_lt, List, [], ◌∷◌, ◌++◌, length, map, reverse, refl, sym, ap, subst, ◌∙◌, arith, append_assoc, append-nil, length-append, All, Option, Some, None, Ok, Err, take, drop}
+use Rattle.std.proofs.Common.{◌≡◌, ◌≤◌, ◌<◌, ◌+◌, ◌^◌, ◌⊎◌, inl, inr, ◌==◌, ℕ, true, false, Bool, ◌&&◌, not, nat_le, nat_lt, List, [], ◌∷◌, ◌++◌, length, map, reverse, refl, sym, ap, subst, ◌∙◌, arith, append_assoc, append-nil, length-append, All, Option, Some, None, Ok, Err, take, drop}
 use Rattle.std.specs.Prelude.{codes, IsTrue, IsUtf8, IfSome, if◌then◌else◌}
 use Rattle.std.specs.Fmt.{decimal}
 use Rattle.std.specs.Option.{unwrap_or}
 use Rattle.std.specs.Char.{is_ascii_digit, is_ascii_alphanumeric}
 use Rattle.std.specs.Str.{all_ascii_digits}
-use Rattle.std.specs.List.{slice_get, flat_map, list_all, before_first, after_first, position_or_len}
+use Rattle.std.specs.List.{slice_get, flat_map, list_all, before_first, position_or_len}
 use Rattle.std.proofs.lemmas.Bool.Decides.{nat_tests}
 use Rattle.std.proofs.lemmas.Bool.{and_parts, and_from, eq-eqb, lt-ltb, le-ltb, le-leb, ltb-true, false≢true}
 use Rattle.std.proofs.lemmas.List.{reverse-append, map-append, length-reverse, take_at, take_all, drop_at}
@@ -18,7 +18,7 @@ use Rattle.std.proofs.lemmas.List.Concat.{flat_map-append}
 use Rattle.std.proofs.lemmas.List.Elements.{All-head, All-tail, All-cons, All-nil, All-append, All-weaker}
 use Rattle.std.proofs.lemmas.List.Sums.{AllPass-from_list_all}
 use Rattle.std.proofs.lemmas.Fmt.{digits_decimal, decimal_nonempty, length-decimal-le}
-use Rattle.httparse.specs.Grammar.{AllPass, IsToken, is_token, is_token_byte, is_uri_byte, is_value_byte, is_ows, skip_ows, trim_ows, field_value, crlf, Field, IsField, print_field, print_section, RequestHead, IsRequestHead, print_request, ReadsRequest}
+use Rattle.httparse.specs.Grammar.{AllPass, is_token, is_token_byte, is_uri_byte, is_value_byte, is_ows, skip_ows, crlf, Field, IsField, print_field, print_section, RequestHead, print_request}
 use Rattle.httparse.specs.Spans.{name_and_value}
 use Rattle.httparse.proofs.TrimLemmas.{trim_ows_space, AllPass-reverse}
 use Rattle.httparse.proofs.GrammarLemmas.{print_request-append}
@@ -26,9 +26,9 @@ use Rattle.ps_time.proofs.NumberLemmas.{decimal_of-decimal}
 use Rattle.std.specs.Str.Parse.{digits_value}
 use Rattle.std.proofs.lemmas.Str.Parse.{IsNumeralModel, numerals_by_value, tells_all_ascii_digits}
 use Rattle.ps_http.specs.Fields.{values_of, cuts_at, behind, is_key, asks_close, peer_of, mark_of, are_peers, first_peer, length_of}
-use Rattle.ps_http.specs.Message.{wants_length, request_length, request_of, body_length, length_or_bad, fits_request}
+use Rattle.ps_http.specs.Message.{wants_length, body_length, length_or_bad, fits_request}
 use Rattle.ps_http.specs.Sendable.{IsValue, IsMark, IsQuery, IsSendable, is_path_byte}
-use Rattle.ps_http.specs.Written.{field_text, query_text, mark_text, peer_text, request_line, request_length_text, request_fields_text, request_text, length_text, close_text, line_end}
+use Rattle.ps_http.specs.Written.{field_text, query_text, mark_text, peer_text, request_line, request_fields_text, request_text, length_text, close_text, line_end}
 use Rattle.ps_http.specs.declared.message.HttpLimits.{HttpLimits}
 use Rattle.ps_http.specs.declared.message.PeerMark.{PeerMark}
 use Rattle.ps_http.specs.declared.message.Request.{Request}

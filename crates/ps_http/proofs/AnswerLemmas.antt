@@ -61,7 +61,7 @@ module _ {H M : Type 0} (kind : Kind H M) (lawful : Lawful kind) (limits : HttpL
   abbrev front : List ℕ
   front = take limits.head held
 
-  longer_head : (head : H) (rest more : List ℕ) → kind.Reads front head rest → (after : List ℕ) × kind.Reads (take limits.head (held ++ more)) head after
+  pub longer_head : (head : H) (rest more : List ℕ) → kind.Reads front head rest → (after : List ℕ) × kind.Reads (take limits.head (held ++ more)) head after
   longer_head head rest more reads =
       let added = take (limits.head - length held) more in
       (rest ++ added, subst (λ l. kind.Reads l head (rest ++ added)) (sym (take_more limits.head held more)) (lawful.longer front head rest added reads))
@@ -107,7 +107,7 @@ module _ {H M : Type 0} (kind : Kind H M) (lawful : Lawful kind) (limits : HttpL
   -- ---- what a whole head and its body are
 
   -- behind the head's bytes
-  behind_head : (head : H) (rest : List ℕ) → kind.Reads front head rest → held ≡ kind.text head ++ drop (length (kind.text head)) held
+  pub behind_head : (head : H) (rest : List ℕ) → kind.Reads front head rest → held ≡ kind.text head ++ drop (length (kind.text head)) held
   behind_head head rest reads =
       let text = kind.text head in
       let all : held ≡ text ++ (rest ++ drop limits.head held) =
@@ -116,7 +116,7 @@ module _ {H M : Type 0} (kind : Kind H M) (lawful : Lawful kind) (limits : HttpL
       let cut : drop (length text) held ≡ rest ++ drop limits.head held = ap (drop (length text)) all ∙ drop_at text (rest ++ drop limits.head held) (length text) refl in
       all ∙ ap (λ l. text ++ l) (sym cut)
 
-  head_fits : (head : H) (rest : List ℕ) → kind.Reads front head rest → length (kind.text head) ≤ limits.head
+  pub head_fits : (head : H) (rest : List ℕ) → kind.Reads front head rest → length (kind.text head) ≤ limits.head
   head_fits head rest reads =
       omega (arith, ap length (lawful.split front head rest reads), length-append (kind.text head) rest, length-take limits.head held)
 
@@ -146,7 +146,7 @@ module _ {H M : Type 0} (kind : Kind H M) (lawful : Lawful kind) (limits : HttpL
 
   -- ---- where the body isn't whole
 
-  body_short : (message : M) (size n : ℕ) (more : List ℕ) → IsHeaded kind limits front message size n → length held + length more < size + n
+  pub body_short : (message : M) (size n : ℕ) (more : List ℕ) → IsHeaded kind limits front message size n → length held + length more < size + n
       → EndsInBody kind limits (held ++ more)
   body_short message size n more h short =
       let l = longer_head h.head h.rest more h.reads in

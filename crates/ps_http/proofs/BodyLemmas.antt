@@ -74,6 +74,7 @@ filled size whole ready old front body left rest fits is front_len len same f = 
   consumed = f.consumed;
   len = len;
   split = by_order (cases_lt ready whole);
+  wanted = by_room (cases_lt ready whole);
 }
   where
     held : List ℕ
@@ -85,10 +86,17 @@ filled size whole ready old front body left rest fits is front_len len same f = 
     count : whole ≡ ready + length f.came
     count = omega (arith, ap length body_is, len, length-append (take ready held) f.came, length-take ready held, length-drop size old, is, fits)
 
+    gone : ready < whole → drop (size + ready) old ≡ []
+    gone short = nil_from_length _ (omega (arith, length-drop (size + ready) old, short, fits, is))
+
+    by_room : (ready < whole) ⊎ (whole ≤ ready) → (f.came ≡ []) ⊎ ((drop (size + ready) old ≡ []) × (length old < size + whole))
+    by_room (inl short) = inr (gone short, omega (arith, short, fits, is))
+    by_room (inr enough) = inl (nil_from_length f.came (omega (arith, count, enough)))
+
     by_order : (ready < whole) ⊎ (whole ≤ ready) → held ++ f.came ≡ body ++ drop (size + ready) old
     by_order (inl short) =
         let all : length held ≤ ready = omega (arith, length-drop size old, is, short) in
-        let none : drop (size + ready) old ≡ [] = nil_from_length _ (omega (arith, length-drop (size + ready) old, length-drop size old, all, fits)) in
+        let none = gone short in
         ap (λ l. l ++ f.came) (sym (take_all ready held all)) ∙ sym body_is ∙ sym (append-nil body) ∙ ap (λ l. body ++ l) (sym none)
     by_order (inr enough) =
         let none : f.came ≡ [] = nil_from_length _ (omega (arith, count, enough)) in

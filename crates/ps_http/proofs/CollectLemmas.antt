@@ -1,15 +1,15 @@
 -- What comes from a source, read by read.
-use Rattle.std.proofs.Common.{◌≡◌, ◌≤◌, ℕ, List, [], ◌++◌, length, sym, ap, ◌∙◌, ◌<◌, ◌-◌, ◌⊎◌, inl, inr, append_assoc, append-nil, Option, take, drop, min, arith}
+use Rattle.std.proofs.Common.{◌≡◌, ◌≤◌, ℕ, false, List, [], ◌++◌, length, sym, ap, ◌∙◌, ◌<◌, ◌-◌, ◌⊎◌, inl, inr, append_assoc, append-nil, Option, take, drop, min, arith}
 use Rattle.std.proofs.lemmas.Bool.{cases_lt}
 use Rattle.std.proofs.lemmas.List.{take_all}
 use Rattle.ps_http.specs.Lines.{has_head_end}
-use Rattle.ps_http.specs.Scan.{is_ended, places_after}
-use Rattle.ps_http.specs.declared.lines.Place.{Place}
-use Rattle.ps_http.specs.declared.lines.Place.TheVariants.{Before}
+use Rattle.ps_http.specs.Scan.{is_ended, positions_after}
+use Rattle.ps_http.specs.declared.lines.LinePosition.{LinePosition}
+use Rattle.ps_http.specs.declared.lines.LinePosition.TheVariants.{Before}
 use Rattle.ps_http.proofs.ScanLemmas.{placed_more, scanned_head}
 use Rattle.std.specs.Io.KnownBytes.{Keeps}
 use Rattle.std.proofs.KnownBytes.{Consumes-nil, Consumes-trans, Consumes-kept}
-use Rattle.ps_http.specs.Collected.{Added}
+use Rattle.ps_http.specs.Collected.{Added, IsWanted}
 use Rattle.ps_http.specs.Held.{Came}
 
 pub added_none : (held : List ℕ) (left : Option (List ℕ)) → Added held held left left
@@ -38,11 +38,18 @@ take_upto held most upto is = by_order (cases_lt (length held) most)
     by_order (inr enough) = let same : upto ≡ most = omega (arith, is, enough) in ap (λ n. take n held) same
 
 -- the place behind the bytes that were scanned
-pub scanned_upto : (held line : List ℕ) (place next : Place) (seen upto most : ℕ) → line ≡ held → seen ≤ upto → place ≡ places_after Before (take seen held)
-    → next ≡ places_after place (take (upto - seen) (drop seen line)) → next ≡ places_after Before (take upto held)
+pub scanned_upto : (held line : List ℕ) (place next : LinePosition) (seen upto most : ℕ) → line ≡ held → seen ≤ upto → place ≡ positions_after Before (take seen held)
+    → next ≡ positions_after place (take (upto - seen) (drop seen line)) → next ≡ positions_after Before (take upto held)
 scanned_upto held line place next seen upto most same order placed is =
-    is ∙ ap (λ l. places_after place (take (upto - seen) (drop seen l))) same ∙ placed_more held place seen upto order placed
+    is ∙ ap (λ l. positions_after place (take (upto - seen) (drop seen l))) same ∙ placed_more held place seen upto order placed
 
-pub ended_upto : (held : List ℕ) (next : Place) (most upto : ℕ) → upto ≡ min (length held) most → next ≡ places_after Before (take upto held)
+pub ended_upto : (held : List ℕ) (next : LinePosition) (most upto : ℕ) → upto ≡ min (length held) most → next ≡ positions_after Before (take upto held)
     → is_ended next ≡ has_head_end (take most held)
 ended_upto held next most upto is placed = ap is_ended placed ∙ scanned_head (take upto held) ∙ ap has_head_end (take_upto held most upto is)
+
+-- more came, which was wanted
+pub wanted_more : (most n : ℕ) (old held now : List ℕ) (left rest : Option (List ℕ)) → IsWanted most old held → Came n held now left rest
+    → length held < most → has_head_end held ≡ false → length now ≤ most → IsWanted most old now
+wanted_more most n old held now left rest (inl same) came short unended within =
+    inr (omega (arith, short, ap length same), ap has_head_end (sym same) ∙ unended, within)
+wanted_more most n old held now left rest (inr was) came short unended within = inr (was.0, was.1, within)

@@ -12,13 +12,13 @@ use Rattle.httparse.specs.Pieces.{is_newline}
 use Rattle.httparse.proofs.PieceLemmas.{token_is_no_newline}
 use Rattle.std.proofs.lemmas.Bool.{false≢true, not-true}
 use Rattle.std.specs.Prelude.{Option, Some, None}
-use Rattle.ps_http.proofs.ScanLemmas.{places-append, scanned_head}
+use Rattle.ps_http.proofs.ScanLemmas.{positions-append, scanned_head}
 use Rattle.ps_http.specs.Lines.{has_head_end}
-use Rattle.ps_http.specs.Scan.{is_ended, place_after, places_after}
-use Rattle.ps_http.specs.declared.lines.Place.{Place}
-use Rattle.ps_http.specs.declared.lines.Place.TheVariants.{Before, BeforeCr, Inside, Start, StartCr, Ended}
+use Rattle.ps_http.specs.Scan.{is_ended, position_after, positions_after}
+use Rattle.ps_http.specs.declared.lines.LinePosition.{LinePosition}
+use Rattle.ps_http.specs.declared.lines.LinePosition.TheVariants.{Before, BeforeCr, Inside, Start, StartCr, Ended}
 
-is_ended_there : (place : Place) → is_ended place ≡ true → place ≡ Ended
+is_ended_there : (place : LinePosition) → is_ended place ≡ true → place ≡ Ended
 is_ended_there Ended there = refl
 is_ended_there Before there = absurd (false≢true there)
 is_ended_there BeforeCr there = absurd (false≢true there)
@@ -26,7 +26,7 @@ is_ended_there Inside there = absurd (false≢true there)
 is_ended_there Start there = absurd (false≢true there)
 is_ended_there StartCr there = absurd (false≢true there)
 
-pub ended_stays : (bytes : List ℕ) → places_after Ended bytes ≡ Ended
+pub ended_stays : (bytes : List ℕ) → positions_after Ended bytes ≡ Ended
 ended_stays [] = refl
 ended_stays (b ∷ bytes) = ended_stays bytes
 
@@ -34,51 +34,51 @@ ended_stays (b ∷ bytes) = ended_stays bytes
 abbrev pub IsInLine : List ℕ → Type 0
 IsInLine bytes = All (λ b. is_newline b ≡ false) bytes
 
-pub inside : (bytes : List ℕ) → IsInLine bytes → places_after Inside bytes ≡ Inside
+pub inside : (bytes : List ℕ) → IsInLine bytes → positions_after Inside bytes ≡ Inside
 inside [] plain = refl
 inside (b ∷ bytes) plain =
     let P : ℕ → Type 0 = λ b. is_newline b ≡ false in
     let here : is_newline b ≡ false = All-head P b bytes plain in
-    let next : place_after Inside b ≡ Inside = grind (arith, nat_tests, here) in
-    ap (λ p. places_after p bytes) next ∙ inside bytes (All-tail P b bytes plain)
+    let next : position_after Inside b ≡ Inside = grind (arith, nat_tests, here) in
+    ap (λ p. positions_after p bytes) next ∙ inside bytes (All-tail P b bytes plain)
 
 -- before a line begins
-pub data LineStart : Place → Type 0 where
+pub data LineStart : LinePosition → Type 0 where
   first : LineStart Before
   later : LineStart Start
 
-begins : {place : Place} (b : ℕ) → LineStart place → is_newline b ≡ false → place_after place b ≡ Inside
+begins : {place : LinePosition} (b : ℕ) → LineStart place → is_newline b ≡ false → position_after place b ≡ Inside
 begins b first here = grind (arith, nat_tests, here)
 begins b later here = grind (arith, nat_tests, here)
 
-line : {place : Place} (bytes : List ℕ) → LineStart place → 0 < length bytes → IsInLine bytes → places_after place bytes ≡ Inside
+line : {place : LinePosition} (bytes : List ℕ) → LineStart place → 0 < length bytes → IsInLine bytes → positions_after place bytes ≡ Inside
 line [] at some plain = absurd (omega (arith, some))
 line (b ∷ bytes) at some plain =
     let P : ℕ → Type 0 = λ b. is_newline b ≡ false in
-    ap (λ p. places_after p bytes) (begins b at (All-head P b bytes plain)) ∙ inside bytes (All-tail P b bytes plain)
+    ap (λ p. positions_after p bytes) (begins b at (All-head P b bytes plain)) ∙ inside bytes (All-tail P b bytes plain)
 
-line_end : (e : LineEnd) → places_after Inside (print_end e) ≡ Start
+line_end : (e : LineEnd) → positions_after Inside (print_end e) ≡ Start
 line_end crlf = refl
 line_end lf = refl
 
 -- a line with its end
-whole_line : {place : Place} (bytes : List ℕ) (e : LineEnd) → LineStart place → 0 < length bytes → IsInLine bytes
-    → places_after place (bytes ++ print_end e) ≡ Start
+whole_line : {place : LinePosition} (bytes : List ℕ) (e : LineEnd) → LineStart place → 0 < length bytes → IsInLine bytes
+    → positions_after place (bytes ++ print_end e) ≡ Start
 whole_line {place} bytes e at some plain =
-    places-append place bytes (print_end e) ∙ ap (λ p. places_after p (print_end e)) (line bytes at some plain) ∙ line_end e
+    positions-append place bytes (print_end e) ∙ ap (λ p. positions_after p (print_end e)) (line bytes at some plain) ∙ line_end e
 
-empty_line : (e : LineEnd) → places_after Before (print_end e) ≡ Before
+empty_line : (e : LineEnd) → positions_after Before (print_end e) ≡ Before
 empty_line crlf = refl
 empty_line lf = refl
 
-blank_lines : (ends : List LineEnd) → places_after Before (print_blank ends) ≡ Before
+blank_lines : (ends : List LineEnd) → positions_after Before (print_blank ends) ≡ Before
 blank_lines [] = refl
-blank_lines (e ∷ ends) = places-append Before (print_end e) (print_blank ends) ∙ ap (λ p. places_after p (print_blank ends)) (empty_line e) ∙ blank_lines ends
+blank_lines (e ∷ ends) = positions-append Before (print_end e) (print_blank ends) ∙ ap (λ p. positions_after p (print_blank ends)) (empty_line e) ∙ blank_lines ends
 
 -- a line behind the empty ones
-behind_blank : (ends : List LineEnd) (bytes : List ℕ) → 0 < length bytes → IsInLine bytes → places_after Before (print_blank ends ++ bytes) ≡ Inside
+behind_blank : (ends : List LineEnd) (bytes : List ℕ) → 0 < length bytes → IsInLine bytes → positions_after Before (print_blank ends ++ bytes) ≡ Inside
 behind_blank ends bytes some plain =
-    places-append Before (print_blank ends) bytes ∙ ap (λ p. places_after p bytes) (blank_lines ends) ∙ line bytes first some plain
+    positions-append Before (print_blank ends) bytes ∙ ap (λ p. positions_after p bytes) (blank_lines ends) ∙ line bytes first some plain
 
 -- ---- the bytes of lines
 
@@ -105,16 +105,16 @@ plain_then b front bytes here before after = All-append IsPlain front (b ∷ byt
 
 -- ---- fields
 
-field_line : (f : Field) → IsField f → places_after Start (print_field f) ≡ Start
+field_line : (f : Field) → IsField f → positions_after Start (print_field f) ≡ Start
 field_line f is =
     let plain = plain_then 58 f.name f.raw refl (plain_token f.name is.name.1) (plain_by is_value_byte value_plain f.raw is.raw) in
     whole_line (f.name ++ 58 ∷ f.raw) f.end later (omega (arith, is.name.0, length-append f.name (58 ∷ f.raw))) plain
 
-field_lines : (fields : List Field) → All IsField fields → places_after Start (flat_map print_field fields) ≡ Start
+field_lines : (fields : List Field) → All IsField fields → positions_after Start (flat_map print_field fields) ≡ Start
 field_lines [] all = refl
 field_lines (f ∷ fields) all =
-    places-append Start (print_field f) (flat_map print_field fields)
-    ∙ ap (λ p. places_after p (flat_map print_field fields)) (field_line f (All-head IsField f fields all)) ∙ field_lines fields (All-tail IsField f fields all)
+    positions-append Start (print_field f) (flat_map print_field fields)
+    ∙ ap (λ p. positions_after p (flat_map print_field fields)) (field_line f (All-head IsField f fields all)) ∙ field_lines fields (All-tail IsField f fields all)
 
 -- ---- heads
 
@@ -123,7 +123,7 @@ pub record EndsThere (text : List ℕ) : Type 0 where
   pub front : List ℕ
   pub last : LineEnd
   pub text_is : text ≡ front ++ print_end last
-  pub lines : places_after Before front ≡ Start
+  pub lines : positions_after Before front ≡ Start
 
 version_plain : (minor : ℕ) → minor ≤ 1 → IsInLine (print_version minor)
 version_plain minor low =
@@ -132,15 +132,15 @@ version_plain minor low =
     (AllPass-from_list_all (λ b. not (is_newline b)) (codes "HTTP/1.") refl) in
     All-append IsPlain (codes "HTTP/1.") ((48 + minor) ∷ []) name (All-cons IsPlain (48 + minor) [] digit (All-nil IsPlain))
 
-with_fields : (start : List ℕ) (e : LineEnd) (fields : List Field) (last : LineEnd) → places_after Before start ≡ Inside → All IsField fields
+with_fields : (start : List ℕ) (e : LineEnd) (fields : List Field) (last : LineEnd) → positions_after Before start ≡ Inside → All IsField fields
     → EndsThere (start ++ print_end e ++ print_section fields last)
 with_fields start e fields last at all = record {
   front = (start ++ print_end e) ++ flat_map print_field fields;
   last = last;
   text_is = sym (append_assoc (start ++ print_end e) (flat_map print_field fields) (print_end last));
   lines =
-      places-append Before (start ++ print_end e) (flat_map print_field fields)
-      ∙ ap (λ p. places_after p (flat_map print_field fields)) (places-append Before start (print_end e) ∙ ap (λ p. places_after p (print_end e)) at ∙ line_end e)
+      positions-append Before (start ++ print_end e) (flat_map print_field fields)
+      ∙ ap (λ p. positions_after p (flat_map print_field fields)) (positions-append Before start (print_end e) ∙ ap (λ p. positions_after p (print_end e)) at ∙ line_end e)
       ∙ field_lines fields all;
 }
 
@@ -157,7 +157,7 @@ request_ends h is =
     ap (λ l. l ++ 32 ∷ print_version h.minor) (append_assoc (print_blank h.blank) h.method (32 ∷ h.target))
     ∙ append_assoc (print_blank h.blank) (h.method ++ 32 ∷ h.target) (32 ∷ print_version h.minor) in
     with_fields (print_blank h.blank ++ h.method ++ 32 ∷ h.target ++ 32 ∷ print_version h.minor) h.line_end h.fields h.last
-    (ap (places_after Before) grouped ∙ behind_blank h.blank words some plain) is.fields
+    (ap (positions_after Before) grouped ∙ behind_blank h.blank words some plain) is.fields
 
 reason_plain : (reason : Option (List ℕ)) → AllPass is_value_byte (reason_phrase reason) → IsInLine (print_reason reason)
 reason_plain None pass = All-nil IsPlain
@@ -176,24 +176,24 @@ response_ends h is =
     ap (λ l. l ++ print_reason h.reason) (append_assoc (print_blank h.blank) (print_version h.minor) (32 ∷ h.digits))
     ∙ append_assoc (print_blank h.blank) (print_version h.minor ++ 32 ∷ h.digits) (print_reason h.reason) in
     with_fields (print_blank h.blank ++ print_version h.minor ++ 32 ∷ h.digits ++ print_reason h.reason) h.line_end h.fields h.last
-    (ap (places_after Before) grouped ∙ behind_blank h.blank words some plain) is.fields
+    (ap (positions_after Before) grouped ∙ behind_blank h.blank words some plain) is.fields
 
 -- ---- what ends there has its first end there
 
-ended_by : (e : LineEnd) → places_after Start (print_end e) ≡ Ended
+ended_by : (e : LineEnd) → positions_after Start (print_end e) ≡ Ended
 ended_by crlf = refl
 ended_by lf = refl
 
-ended_text : (text : List ℕ) → EndsThere text → places_after Before text ≡ Ended
+ended_text : (text : List ℕ) → EndsThere text → positions_after Before text ≡ Ended
 ended_text text ends =
-    ap (places_after Before) ends.text_is ∙ places-append Before ends.front (print_end ends.last)
-    ∙ ap (λ p. places_after p (print_end ends.last)) ends.lines ∙ ended_by ends.last
+    ap (positions_after Before) ends.text_is ∙ positions-append Before ends.front (print_end ends.last)
+    ∙ ap (λ p. positions_after p (print_end ends.last)) ends.lines ∙ ended_by ends.last
 
 -- what has ended stays so
 pub ended_longer : (bytes more : List ℕ) → has_head_end bytes ≡ true → has_head_end (bytes ++ more) ≡ true
 ended_longer bytes more ended =
-    let place = is_ended_there (places_after Before bytes) (scanned_head bytes ∙ ended) in
-    sym (scanned_head (bytes ++ more)) ∙ ap is_ended (places-append Before bytes more ∙ ap (λ p. places_after p more) place ∙ ended_stays more)
+    let place = is_ended_there (positions_after Before bytes) (scanned_head bytes ∙ ended) in
+    sym (scanned_head (bytes ++ more)) ∙ ap is_ended (positions-append Before bytes more ∙ ap (λ p. positions_after p more) place ∙ ended_stays more)
 
 pub has_end : (text rest : List ℕ) → EndsThere text → has_head_end (text ++ rest) ≡ true
 has_end text rest ends = ended_longer text rest (sym (scanned_head text) ∙ ap is_ended (ended_text text ends))
@@ -224,7 +224,7 @@ not_ended text ends = by_last ends.last ends.text_is
       bytes = ends.front ++ 13 ∷ [];
       last = 10;
       split = is ∙ sym (append_assoc ends.front (13 ∷ []) (10 ∷ []));
-      unended = sym (scanned_head (ends.front ++ 13 ∷ [])) ∙ ap is_ended (places-append Before ends.front (13 ∷ []) ∙ ap (λ p. places_after p (13 ∷ [])) ends.lines);
+      unended = sym (scanned_head (ends.front ++ 13 ∷ [])) ∙ ap is_ended (positions-append Before ends.front (13 ∷ []) ∙ ap (λ p. positions_after p (13 ∷ [])) ends.lines);
     }
     by_last lf is = record { bytes = ends.front; last = 10; split = is; unended = sym (scanned_head ends.front) ∙ ap is_ended ends.lines }
 
@@ -244,5 +244,5 @@ target_open bytes (blank, method, target, token, uri, is) =
     let words = method ++ 32 ∷ target in
     let plain = plain_then 32 method target refl (plain_token method token.1) (plain_by is_uri_byte uri_plain target uri) in
     let some : 0 < length words = omega (arith, token.0, length-append method (32 ∷ target)) in
-    sym (scanned_head bytes) ∙ ap (λ l. is_ended (places_after Before l)) (is ∙ append_assoc (print_blank blank) method (32 ∷ target))
+    sym (scanned_head bytes) ∙ ap (λ l. is_ended (positions_after Before l)) (is ∙ append_assoc (print_blank blank) method (32 ∷ target))
     ∙ ap is_ended (behind_blank blank words some plain)

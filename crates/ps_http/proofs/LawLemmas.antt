@@ -1,6 +1,5 @@
 -- An input has one answer.
 use Rattle.std.proofs.Common.{◌≡◌, ◌≤◌, ◌<◌, ◌+◌, ◌-◌, inl, inr, ℕ, true, List, [], ◌∷◌, ◌++◌, length, take, drop, refl, sym, ap, subst, ◌∙◌, arith, append_assoc, length-append, Option, Some, None, Result, Ok, Err}
-use Rattle.std.specs.Prelude.{is_ok}
 use Rattle.std.proofs.lemmas.Bool.{false≢true}
 use Rattle.std.proofs.lemmas.List.{take_all, take_at, drop_at}
 use Rattle.ps_http.specs.Answer.{Kind, IsMessage, Refuses, requests, responses, IsRequestAnswer, IsResponseAnswer, is_decided}
@@ -10,14 +9,8 @@ use Rattle.ps_http.specs.declared.message.HttpLimits.{HttpLimits}
 use Rattle.ps_http.specs.declared.message.Request.{Request}
 use Rattle.ps_http.specs.declared.message.Response.{Response}
 use Rattle.ps_http.proofs.AnswerLemmas.{take_more}
+use Rattle.ps_http.proofs.HeadLemmas.{okay_or_not, length_in}
 use Rattle.ps_http.proofs.KindLemmas.{Lawful, lawful_requests, lawful_responses}
-
-okay_or_not : {n : ℕ} {fault : HttpFault} → ◌≡◌ {A = Result ℕ HttpFault} (Ok n) (Err fault) → ⊥
-okay_or_not same = false≢true (sym (ap is_ok same))
-
-abbrev length_in : Result ℕ HttpFault → ℕ
-length_in (Ok n) = n
-length_in (Err fault) = 0
 
 module _ {H M : Type 0} (kind : Kind H M) (lawful : Lawful kind) (limits : HttpLimits) (input : List ℕ) where
   abbrev front : List ℕ

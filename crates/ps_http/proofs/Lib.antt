@@ -4,6 +4,7 @@ pub mod AsciiLemmas
 pub mod BodyLemmas
 pub mod CollectLemmas
 pub mod EndLemmas
+pub mod EnoughLemmas
 pub mod HeadLemmas
 pub mod LawLemmas
 pub mod HeldLemmas
@@ -13,3 +14,4 @@ pub mod ReplyLemmas
 pub mod RoomLemmas
 pub mod ScanLemmas
 pub mod TargetLemmas
+pub mod WholeLemmas

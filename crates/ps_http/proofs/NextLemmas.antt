@@ -4,7 +4,7 @@ use Rattle.std.specs.Prelude.{IfSome, IfErr, IsErrOf, ⊤}
 use Rattle.std.specs.Io.KnownBytes.{prepend_known}
 use Rattle.ps_http.specs.Answer.{Kind, Refuses, IsBegun, WasDue}
 use Rattle.ps_http.specs.Body.{BodyFault}
-use Rattle.ps_http.specs.Collected.{Added, IsEnough, Collected}
+use Rattle.ps_http.specs.Collected.{Added, Collected}
 use Rattle.ps_http.specs.Head.{IsHeaded, HeadFault}
 use Rattle.ps_http.specs.Next.{HasHead, FaultAt}
 use Rattle.ps_http.specs.declared.fault.HttpFault.{HttpFault}
@@ -12,6 +12,7 @@ use Rattle.ps_http.specs.declared.fault.HttpFault.TheVariants.{BadHead, NoLength
 use Rattle.ps_http.specs.declared.message.HttpLimits.{HttpLimits}
 use Rattle.ps_http.proofs.AnswerLemmas.{input_is, head_refuses, body_refusal, body_due, head_held}
 use Rattle.ps_http.proofs.CollectLemmas.{take_upto}
+use Rattle.ps_http.proofs.EnoughLemmas.{bad_enough, unsaid_enough, long_enough}
 use Rattle.ps_http.proofs.KindLemmas.{Lawful}
 
 module _ {H M : Type 0} (kind : Kind H M) (lawful : Lawful kind) (limits : HttpLimits) where
@@ -23,33 +24,32 @@ module _ {H M : Type 0} (kind : Kind H M) (lawful : Lawful kind) (limits : HttpL
       → looked ≡ take limits.head held → IsHeaded kind limits looked message size body → HasHead kind limits message size body old held left rest
   has_head message size body old held looked left rest c same h =
       let at = subst (λ f. IsHeaded kind limits f message size body) same h in
-      record { added = c.0; headed = at; fits = omega (arith, at.size_is, head_held kind lawful limits held at.head at.rest at.reads) }
+      record { added = c.0; wanted = c.2; headed = at; fits = omega (arith, at.size_is, head_held kind lawful limits held at.head at.rest at.reads) }
 
-  by_head : (fault : HttpFault) (old held : List ℕ) (left rest : Option (List ℕ)) → Added old held left rest → IsEnough limits.head held rest
-      → HeadFault kind limits (take limits.head held) fault → FaultAt kind limits old fault left rest
-  by_head BadHead old held left rest a enough f = head_refuses kind lawful limits held BadHead old left rest a enough f
-  by_head NoLength old held left rest a enough f = head_refuses kind lawful limits held NoLength old left rest a enough f
-  by_head TooLarge old held left rest a enough f = head_refuses kind lawful limits held TooLarge old left rest a enough f
-  by_head (EndInside n) old held left rest a enough f = head_refuses kind lawful limits held (EndInside n) old left rest a enough f
-  by_head ReadFault old held left rest a enough f = absurd f
-  by_head AfterRefusal old held left rest a enough f = absurd f
-  by_head Memory old held left rest a enough f = head_refuses kind lawful limits held Memory old left rest a enough f
+  by_head : (fault : HttpFault) (old held : List ℕ) (left rest : Option (List ℕ)) → Collected limits.head old held left rest
+      → HeadFault kind limits (take limits.head held) fault → FaultAt kind limits old held fault left rest
+  by_head BadHead old held left rest c f = (head_refuses kind lawful limits held BadHead old left rest c.0 c.1 f, bad_enough kind lawful limits old held held left rest c f)
+  by_head NoLength old held left rest c f = (head_refuses kind lawful limits held NoLength old left rest c.0 c.1 f, unsaid_enough kind lawful limits old held held left rest c f)
+  by_head TooLarge old held left rest c f = (head_refuses kind lawful limits held TooLarge old left rest c.0 c.1 f, long_enough kind lawful limits old held held left rest c f)
+  by_head (EndInside n) old held left rest c f = head_refuses kind lawful limits held (EndInside n) old left rest c.0 c.1 f
+  by_head ReadFault old held left rest c f = absurd f
+  by_head AfterRefusal old held left rest c f = absurd f
+  by_head Memory old held left rest c f = head_refuses kind lawful limits held Memory old left rest c.0 c.1 f
 
   pub fault_at_head : (fault : HttpFault) (old held looked : List ℕ) (left rest : Option (List ℕ)) → Collected limits.head old held left rest
-      → looked ≡ take limits.head held → HeadFault kind limits looked fault → FaultAt kind limits old fault left rest
-  fault_at_head fault old held looked left rest c same f =
-      by_head fault old held left rest c.0 c.1 (subst (λ l. HeadFault kind limits l fault) same f)
+      → looked ≡ take limits.head held → HeadFault kind limits looked fault → FaultAt kind limits old held fault left rest
+  fault_at_head fault old held looked left rest c same f = by_head fault old held left rest c (subst (λ l. HeadFault kind limits l fault) same f)
 
-  pub fault_at_body : (message : M) (size n : ℕ) (fault : HttpFault) (old held : List ℕ) (left mid rest : Option (List ℕ)) → HasHead kind limits message size n old held left mid
-      → BodyFault size n fault held mid rest → FaultAt kind limits old fault left rest
-  fault_at_body message size n BadHead old held left mid rest h f = absurd f
-  fault_at_body message size n NoLength old held left mid rest h f = absurd f
-  fault_at_body message size n TooLarge old held left mid rest h f = absurd f
-  fault_at_body message size n (EndInside k) old held left mid rest h f =
+  pub fault_at_body : (message : M) (size n : ℕ) (fault : HttpFault) (old held now : List ℕ) (left mid rest : Option (List ℕ)) → HasHead kind limits message size n old held left mid
+      → BodyFault size n fault held mid rest → FaultAt kind limits old now fault left rest
+  fault_at_body message size n BadHead old held now left mid rest h f = absurd f
+  fault_at_body message size n NoLength old held now left mid rest h f = absurd f
+  fault_at_body message size n TooLarge old held now left mid rest h f = absurd f
+  fault_at_body message size n (EndInside k) old held now left mid rest h f =
       body_refusal kind lawful limits held message size n (EndInside k) old left mid rest h.added h.headed f
-  fault_at_body message size n ReadFault old held left mid rest h f = body_due kind lawful limits held message size n old left mid rest h.added h.headed f
-  fault_at_body message size n AfterRefusal old held left mid rest h f = absurd f
-  fault_at_body message size n Memory old held left mid rest h f =
+  fault_at_body message size n ReadFault old held now left mid rest h f = body_due kind lawful limits held message size n old left mid rest h.added h.headed f
+  fault_at_body message size n AfterRefusal old held now left mid rest h f = absurd f
+  fault_at_body message size n Memory old held now left mid rest h f =
       body_refusal kind lawful limits held message size n Memory old left mid rest h.added h.headed f
 
 module _ {H M : Type 0} (kind : Kind H M) (limits : HttpLimits) where
@@ -57,24 +57,24 @@ module _ {H M : Type 0} (kind : Kind H M) (limits : HttpLimits) where
   always None = tt
   always (Some l) = tt
 
-  refuses : (fault : HttpFault) (old : List ℕ) (left rest : Option (List ℕ)) → FaultAt kind limits old fault left rest
+  refuses : (fault : HttpFault) (old now : List ℕ) (left rest : Option (List ℕ)) → FaultAt kind limits old now fault left rest
       → IfSome (prepend_known old left) (λ input. Refuses kind limits input fault)
-  refuses BadHead old left rest f = f
-  refuses NoLength old left rest f = f
-  refuses TooLarge old left rest f = f
-  refuses (EndInside n) old left rest f = f
-  refuses ReadFault old left rest f = always (prepend_known old left)
-  refuses AfterRefusal old left rest f = absurd f
-  refuses Memory old left rest f = f
+  refuses BadHead old now left rest f = f.0
+  refuses NoLength old now left rest f = f.0
+  refuses TooLarge old now left rest f = f.0
+  refuses (EndInside n) old now left rest f = f
+  refuses ReadFault old now left rest f = always (prepend_known old left)
+  refuses AfterRefusal old now left rest f = absurd f
+  refuses Memory old now left rest f = f
 
-  pub refusal_of : {A : Type 0} (r : Result A HttpFault) (old : List ℕ) (left rest : Option (List ℕ)) → IfErr r (λ fault. FaultAt kind limits old fault left rest)
+  pub refusal_of : {A : Type 0} (r : Result A HttpFault) (old now : List ℕ) (left rest : Option (List ℕ)) → IfErr r (λ fault. FaultAt kind limits old now fault left rest)
       → IfErr r (λ fault. IfSome (prepend_known old left) (λ input. Refuses kind limits input fault))
-  refusal_of (Ok x) old left rest f = tt
-  refusal_of (Err fault) old left rest f = refuses fault old left rest f
+  refusal_of (Ok x) old now left rest f = tt
+  refusal_of (Err fault) old now left rest f = refuses fault old now left rest f
 
-  pub due_of : {A : Type 0} (r : Result A HttpFault) (old : List ℕ) (left rest : Option (List ℕ)) → IfErr r (λ fault. FaultAt kind limits old fault left rest)
+  pub due_of : {A : Type 0} (r : Result A HttpFault) (old now : List ℕ) (left rest : Option (List ℕ)) → IfErr r (λ fault. FaultAt kind limits old now fault left rest)
       → IsErrOf r ReadFault → WasDue kind limits old left rest
-  due_of r old left rest f is = subst (λ q. IfErr q (λ fault. FaultAt kind limits old fault left rest)) is f
+  due_of r old now left rest f is = subst (λ q. IfErr q (λ fault. FaultAt kind limits old now fault left rest)) is f
 
 -- ---- an input that has a byte
 

@@ -1,25 +1,24 @@
 -- Responses are read again as they were written.
-use Rattle.std.proofs.Common.{◌≡◌, ◌≤◌, ◌<◌, ◌+◌, ◌^◌, ◌==◌, ℕ, true, false, Bool, ◌&&◌, nat_lt, List, [], ◌∷◌, ◌++◌, length, map, refl, sym, ap, subst, ◌∙◌, arith, append_assoc, append-nil, length-append, All, Option, Some, None, Ok, ◌⊎◌, inl, inr}
+use Rattle.std.proofs.Common.{◌≡◌, ◌≤◌, ◌<◌, ◌^◌, ℕ, true, false, Bool, List, [], ◌∷◌, ◌++◌, length, map, refl, sym, ap, ◌∙◌, arith, append_assoc, append-nil, length-append, All, Option, Some, None, Ok, ◌⊎◌, inl, inr}
 use Rattle.std.proofs.lemmas.List.Sums.{AllPass-from_list_all}
-use Rattle.std.specs.Prelude.{codes, IsTrue, IfSome, if◌then◌else◌}
+use Rattle.std.specs.Prelude.{codes, IfSome}
 use Rattle.std.specs.Fmt.{decimal}
 use Rattle.std.specs.List.{flat_map}
-use Rattle.std.specs.Str.{is_utf8}
 use Rattle.std.proofs.lemmas.Bool.{eq-eqb, le-ltb, cases_lt}
-use Rattle.std.proofs.lemmas.Fmt.{decimal_nonempty, length-decimal-le, digits_value-decimal, digits_decimal}
+use Rattle.std.proofs.lemmas.Fmt.{length-decimal-le, digits_value-decimal, digits_decimal}
 use Rattle.std.proofs.lemmas.List.{map-append}
 use Rattle.std.proofs.lemmas.List.Concat.{flat_map-append}
 use Rattle.std.proofs.lemmas.List.Elements.{All-cons, All-nil, All-append}
 use Rattle.std.proofs.lemmas.Str.{is_utf8-from_IsUtf8}
 use Rattle.std.proofs.lemmas.Str.Parse.{digits_value_short}
-use Rattle.httparse.specs.Grammar.{AllPass, is_token, is_token_byte, is_value_byte, crlf, Field, IsField, print_field, print_section, ResponseHead, print_response}
+use Rattle.httparse.specs.Grammar.{is_token_byte, is_value_byte, crlf, Field, IsField, print_field, print_section, ResponseHead, print_response}
 use Rattle.httparse.specs.Spans.{name_and_value}
 use Rattle.httparse.proofs.GrammarLemmas.{print_response-append}
 use Rattle.ps_http.specs.Answer.{responses, IsMessage}
-use Rattle.ps_http.specs.Fields.{values_of, asks_close, length_of}
+use Rattle.ps_http.specs.Fields.{values_of, asks_close}
 use Rattle.ps_http.specs.Message.{body_length, length_or_bad, allowed}
 use Rattle.ps_http.specs.Sendable.{IsValue, IsAllow, IsReplying}
-use Rattle.ps_http.specs.Written.{field_text, status_line, phrase_text, type_text, allow_text, length_text, close_text, response_close_text, response_fields_text, response_text, line_end}
+use Rattle.ps_http.specs.Written.{status_line, phrase_text, type_text, allow_text, length_text, response_close_text, response_fields_text, response_text, line_end}
 use Rattle.ps_http.specs.declared.message.HttpLimits.{HttpLimits}
 use Rattle.ps_http.specs.declared.message.Response.{Response}
 use Rattle.ps_http.proofs.AgainLemmas.{own, written_field, field_bytes, regroup, value_again, decimal_digits, decimal_is_value, close_is_value, said_again, field_is}

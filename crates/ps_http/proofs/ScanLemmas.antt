@@ -2,16 +2,16 @@
 use Rattle.std.proofs.Common.{◌≡◌, ◌==◌, ◌≤◌, ◌+◌, ◌-◌, ℕ, Bool, true, false, ◌&&◌, ◌||◌, List, [], ◌∷◌, ◌++◌, refl, sym, ap, ◌∙◌, arith, take, drop, take-add}
 use Rattle.std.proofs.lemmas.Bool.{eqb-true}
 use Rattle.ps_http.specs.Lines.{begins_empty, has_empty_line, has_head_end}
-use Rattle.ps_http.specs.Scan.{is_ended, place_after, places_after}
-use Rattle.ps_http.specs.declared.lines.Place.{Place}
-use Rattle.ps_http.specs.declared.lines.Place.TheVariants.{Before, BeforeCr, Inside, Start, StartCr, Ended}
+use Rattle.ps_http.specs.Scan.{is_ended, position_after, positions_after}
+use Rattle.ps_http.specs.declared.lines.LinePosition.{LinePosition}
+use Rattle.ps_http.specs.declared.lines.LinePosition.TheVariants.{Before, BeforeCr, Inside, Start, StartCr, Ended}
 
 abbrev begins_feed : List ℕ → Bool
 begins_feed [] = false
 begins_feed (b ∷ bytes) = b == 10
 
 -- whether the head ends in these bytes, from a place on
-abbrev ends_from : Place → List ℕ → Bool
+abbrev ends_from : LinePosition → List ℕ → Bool
 ends_from Before bytes = has_head_end bytes
 ends_from BeforeCr bytes = has_head_end (13 ∷ bytes)
 ends_from Inside bytes = has_empty_line bytes
@@ -19,7 +19,7 @@ ends_from Start bytes = begins_empty bytes || has_empty_line bytes
 ends_from StartCr bytes = begins_feed bytes || has_empty_line bytes
 ends_from Ended bytes = true
 
-ended_stays : (bytes : List ℕ) → is_ended (places_after Ended bytes) ≡ true
+ended_stays : (bytes : List ℕ) → is_ended (positions_after Ended bytes) ≡ true
 ended_stays [] = refl
 ended_stays (b ∷ bytes) = ended_stays bytes
 
@@ -43,12 +43,12 @@ begins_at b [] = by_test (b == 10) (b == 13)
     by_test false false = refl
 begins_at b (c ∷ bytes) = refl
 
-pub places-append : (place : Place) (a b : List ℕ) → places_after place (a ++ b) ≡ places_after (places_after place a) b
-places-append place [] b = refl
-places-append place (x ∷ a) b = places-append (place_after place x) a b
+pub positions-append : (place : LinePosition) (a b : List ℕ) → positions_after place (a ++ b) ≡ positions_after (positions_after place a) b
+positions-append place [] b = refl
+positions-append place (x ∷ a) b = positions-append (position_after place x) a b
 
 -- the head has ended exactly where it has an end from that place on
-pub scanned : (place : Place) (bytes : List ℕ) → is_ended (places_after place bytes) ≡ ends_from place bytes
+pub scanned : (place : LinePosition) (bytes : List ℕ) → is_ended (positions_after place bytes) ≡ ends_from place bytes
 scanned Ended bytes = ended_stays bytes
 scanned Before [] = refl
 scanned BeforeCr [] = refl
@@ -57,16 +57,16 @@ scanned Start [] = refl
 scanned StartCr [] = refl
 scanned Before (b ∷ bytes) = by_byte (scanned Before bytes) (scanned BeforeCr bytes) (scanned Inside bytes) (b == 10) (b == 13) refl refl
   where
-    by_byte : is_ended (places_after Before bytes) ≡ has_head_end bytes → is_ended (places_after BeforeCr bytes) ≡ has_head_end (13 ∷ bytes)
-        → is_ended (places_after Inside bytes) ≡ has_empty_line bytes → (t u : Bool) → (b == 10) ≡ t → (b == 13) ≡ u
-        → is_ended (places_after Before (b ∷ bytes)) ≡ has_head_end (b ∷ bytes)
+    by_byte : is_ended (positions_after Before bytes) ≡ has_head_end bytes → is_ended (positions_after BeforeCr bytes) ≡ has_head_end (13 ∷ bytes)
+        → is_ended (positions_after Inside bytes) ≡ has_empty_line bytes → (t u : Bool) → (b == 10) ≡ t → (b == 13) ≡ u
+        → is_ended (positions_after Before (b ∷ bytes)) ≡ has_head_end (b ∷ bytes)
     by_byte blank cr inside true u feed _ = rw feed (blank ∙ sym (head_feed b bytes feed))
     by_byte blank cr inside false true feed is_cr = rw (feed, is_cr) (cr ∙ sym (head_cr b bytes is_cr))
     by_byte blank cr inside false false feed other = rw (feed, other) (inside ∙ sym (head_other b bytes feed other))
 scanned BeforeCr (b ∷ bytes) = by_byte (scanned Before bytes) (scanned Inside bytes) (b == 10) refl
   where
-    by_byte : is_ended (places_after Before bytes) ≡ has_head_end bytes → is_ended (places_after Inside bytes) ≡ has_empty_line bytes
-        → (t : Bool) → (b == 10) ≡ t → is_ended (places_after BeforeCr (b ∷ bytes)) ≡ has_head_end (13 ∷ b ∷ bytes)
+    by_byte : is_ended (positions_after Before bytes) ≡ has_head_end bytes → is_ended (positions_after Inside bytes) ≡ has_empty_line bytes
+        → (t : Bool) → (b == 10) ≡ t → is_ended (positions_after BeforeCr (b ∷ bytes)) ≡ has_head_end (13 ∷ b ∷ bytes)
     by_byte blank inside true feed = rw feed blank
     by_byte blank inside false other = rw other inside
 scanned Inside (b ∷ bytes) = grind (arith, scanned Start bytes, scanned Inside bytes)
@@ -74,13 +74,13 @@ scanned Start (b ∷ bytes) = grind (arith, begins_at b bytes, scanned StartCr b
 scanned StartCr (b ∷ bytes) = grind (arith, scanned Ended bytes, scanned Inside bytes)
 
 -- from the start of a message on
-pub scanned_head : (bytes : List ℕ) → is_ended (places_after Before bytes) ≡ has_head_end bytes
+pub scanned_head : (bytes : List ℕ) → is_ended (positions_after Before bytes) ≡ has_head_end bytes
 scanned_head bytes = scanned Before bytes
 
 -- the place behind the first upto bytes, from the place behind the first seen
-pub placed_more : (held : List ℕ) (place : Place) (seen upto : ℕ) → seen ≤ upto → place ≡ places_after Before (take seen held)
-    → places_after place (take (upto - seen) (drop seen held)) ≡ places_after Before (take upto held)
+pub placed_more : (held : List ℕ) (place : LinePosition) (seen upto : ℕ) → seen ≤ upto → place ≡ positions_after Before (take seen held)
+    → positions_after place (take (upto - seen) (drop seen held)) ≡ positions_after Before (take upto held)
 placed_more held place seen upto order placed =
     let all : seen + (upto - seen) ≡ upto = omega (arith, order) in
-    ap (λ p. places_after p (take (upto - seen) (drop seen held))) placed ∙ sym (places-append Before (take seen held) (take (upto - seen) (drop seen held)))
-    ∙ ap (places_after Before) (sym (take-add seen (upto - seen) held) ∙ ap (λ n. take n held) all)
+    ap (λ p. positions_after p (take (upto - seen) (drop seen held))) placed ∙ sym (positions-append Before (take seen held) (take (upto - seen) (drop seen held)))
+    ∙ ap (positions_after Before) (sym (take-add seen (upto - seen) held) ∙ ap (λ n. take n held) all)

@@ -104,6 +104,29 @@ WasAtEnd old new = IsAtEnd old × IsAtEnd new
 abbrev pub WasDue : {H M : Type 0} → Kind H M → HttpLimits → List ℕ → Option (List ℕ) → Option (List ℕ) → Type 0
 WasDue kind limits held old new = (came : List ℕ) × Consumes old new came × IsDue kind limits (held ++ came)
 
+-- of the bytes that came behind those that were held, and of those held now: none came, or a read was due, and none is past both the head's limit and the message
+abbrev pub AsWanted : {H M : Type 0} → Kind H M → HttpLimits → List ℕ → List ℕ → List ℕ → Type 0
+AsWanted kind limits held came now = (came ≡ []) ⊎ (IsDue kind limits held × ((now ≡ []) ⊎ (length (held ++ came) ≤ limits.head)))
+
+-- no more was to be read when these bytes had come
+abbrev pub WasEnough : {H M : Type 0} → Kind H M → HttpLimits → List ℕ → List ℕ → Option (List ℕ) → Option (List ℕ) → Type 0
+WasEnough kind limits held now old new = (came : List ℕ) × Consumes old new came × AsWanted kind limits held came now × ¬ (IsDue kind limits (held ++ came))
+
+-- the same, or the input has ended
+abbrev pub WasEnoughOrEnd : {H M : Type 0} → Kind H M → HttpLimits → List ℕ → List ℕ → Option (List ℕ) → Option (List ℕ) → Type 0
+WasEnoughOrEnd kind limits held now old new =
+    (came : List ℕ) × Consumes old new came × AsWanted kind limits held came now × (¬ (IsDue kind limits (held ++ came)) ⊎ IsAtEnd new)
+
+-- no refusal while a read is due: bytes that can begin no head are refused at the head's end, or at that of the input
+abbrev pub RefusedInTime : {H M : Type 0} → Kind H M → HttpLimits → HttpFault → List ℕ → List ℕ → Option (List ℕ) → Option (List ℕ) → Type 0
+RefusedInTime kind limits BadHead held now old new = WasEnoughOrEnd kind limits held now old new
+RefusedInTime kind limits TooLarge held now old new = WasEnough kind limits held now old new
+RefusedInTime kind limits NoLength held now old new = WasEnough kind limits held now old new
+RefusedInTime kind limits (EndInside n) held now old new = ⊤
+RefusedInTime kind limits ReadFault held now old new = ⊤
+RefusedInTime kind limits AfterRefusal held now old new = ⊤
+RefusedInTime kind limits Memory held now old new = ⊤
+
 -- ---- the answer of an input, whatever its source and memory do
 
 -- the faults that speak of the bytes

@@ -1,5 +1,5 @@
 -- What reading the body of a message comes to.
-use Rattle.std.specs.Prelude.{◌≡◌, ◌<◌, ◌+◌, ⊤, ℕ, List, ◌++◌, length, drop, Option}
+use Rattle.std.specs.Prelude.{◌≡◌, ◌<◌, ◌+◌, ◌⊎◌, ⊤, ℕ, List, [], ◌++◌, length, drop, Option}
 use Rattle.std.specs.Io.KnownBytes.{Consumes, IsAtEnd}
 use Rattle.ps_http.specs.declared.fault.HttpFault.{HttpFault}
 use Rattle.ps_http.specs.declared.fault.HttpFault.TheVariants.{BadHead, NoLength, TooLarge, EndInside, ReadFault, AfterRefusal, Memory}
@@ -32,6 +32,7 @@ pub record HasBody (size whole : ℕ) (body old held : List ℕ) (left rest : Op
   pub consumed : Consumes left rest came
   pub split : drop size old ++ came ≡ body ++ held
   pub len : length body ≡ whole
+  pub wanted : (came ≡ []) ⊎ ((held ≡ []) × (length old < size + whole))
 
 -- why there is no body
 abbrev pub BodyFault : ℕ → ℕ → HttpFault → List ℕ → Option (List ℕ) → Option (List ℕ) → Type 0

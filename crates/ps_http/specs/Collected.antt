@@ -13,8 +13,12 @@ pub record Added (old held : List ℕ) (left rest : Option (List ℕ)) : Type 0 
 abbrev pub IsEnough : ℕ → List ℕ → Option (List ℕ) → Type 0
 IsEnough most held rest = (has_head_end (take most held) ≡ true) ⊎ ((most ≤ length held) ⊎ IsAtEnd rest)
 
+-- nothing came, or more of a head was needed, and came within its limit
+abbrev pub IsWanted : ℕ → List ℕ → List ℕ → Type 0
+IsWanted most old held = (held ≡ old) ⊎ ((length old < most) × (has_head_end old ≡ false) × (length held ≤ most))
+
 abbrev pub Collected : ℕ → List ℕ → List ℕ → Option (List ℕ) → Option (List ℕ) → Type 0
-Collected most old held left rest = Added old held left rest × IsEnough most held rest
+Collected most old held left rest = Added old held left rest × IsEnough most held rest × IsWanted most old held
 
 -- more of a head was needed
 abbrev pub Interrupted : ℕ → List ℕ → List ℕ → Option (List ℕ) → Option (List ℕ) → Type 0

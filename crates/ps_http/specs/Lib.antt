@@ -10,6 +10,7 @@ pub mod Lines
 pub mod Message
 pub mod Next
 pub mod Reader
+pub mod Reply
 pub mod Scan
 pub mod Sendable
 pub mod Target

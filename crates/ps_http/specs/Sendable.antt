@@ -1,5 +1,5 @@
 -- Requests and responses whose bytes are read again as they were.
-use Rattle.std.specs.Prelude.{◌≡◌, ◌≤◌, ◌<◌, ◌⊎◌, ℕ, Bool, true, ◌&&◌, not, ◌==◌, List, [], ◌++◌, length, reverse, Option, Some, None, IfSome, IsUtf8, ⊤}
+use Rattle.std.specs.Prelude.{◌≡◌, ◌≤◌, ◌<◌, ◌⊎◌, ℕ, Bool, true, ◌&&◌, not, ◌==◌, List, [], ◌++◌, length, reverse, IfSome, IsUtf8}
 use Rattle.std.specs.Option.{unwrap_or}
 use Rattle.std.specs.List.{slice_get}
 use Rattle.httparse.specs.Grammar.{AllPass, IsToken, is_uri_byte, is_value_byte, skip_ows}

@@ -7,7 +7,7 @@ ghost use Rattle.ps_http.specs.Collected.{Collected, Interrupted};
 ghost use Rattle.ps_http.specs.Held.{Came, CameAt};
 
 use crate::fault::HttpFault;
-use crate::lines::Place;
+use crate::lines::LinePosition;
 use ps_ports::fault::Failed;
 use ps_ports::source::Source;
 use ps_time::memory::Memory;
@@ -106,7 +106,7 @@ pub fn collect<S: Source>(source: &mut S, held: &mut Held, most: usize) -> Resul
     ensures cause { HasCause (S.read_faults source.old) (S.read_faults source.new) result }
     ensures kept { S.kept source.old source.new }
 {
-    let mut place = Place::Before;
+    let mut place = LinePosition::Before;
     let mut seen = 0;
     loop {
         let upto = held.len().min(most);

@@ -11,5 +11,6 @@ mod lines;
 pub mod message;
 mod next;
 pub mod reader;
+pub mod reply;
 mod target;
 pub mod written;

@@ -1,10 +1,10 @@
 //! The lines of a head, as its bytes come.
 ghost use Rattle.std.specs.Prelude.{◌≡◌};
-ghost use Rattle.ps_http.specs.Scan.{is_ended, place_after, places_after};
+ghost use Rattle.ps_http.specs.Scan.{is_ended, position_after, positions_after};
 
 /// Where in a head's lines the bytes so far end.
 #[derive(Clone, Copy)]
-pub enum Place {
+pub enum LinePosition {
     /// Before the first line, at the start of a line.
     Before,
     /// Before the first line, behind a CR at the start of a line.
@@ -19,18 +19,18 @@ pub enum Place {
     Ended,
 }
 
-impl Place {
-    fn after(self, byte: u8) -> Place
-        ensures { result ≡ place_after self byte }
+impl LinePosition {
+    fn after(self, byte: u8) -> LinePosition
+        ensures { result ≡ position_after self byte }
     {
         match (self, byte) {
-            (Place::Ended, _) => Place::Ended,
-            (Place::Before | Place::BeforeCr, b'\n') => Place::Before,
-            (Place::Before, b'\r') => Place::BeforeCr,
-            (Place::Start | Place::StartCr, b'\n') => Place::Ended,
-            (Place::Start, b'\r') => Place::StartCr,
-            (Place::Inside, b'\n') => Place::Start,
-            _ => Place::Inside,
+            (LinePosition::Ended, _) => LinePosition::Ended,
+            (LinePosition::Before | LinePosition::BeforeCr, b'\n') => LinePosition::Before,
+            (LinePosition::Before, b'\r') => LinePosition::BeforeCr,
+            (LinePosition::Start | LinePosition::StartCr, b'\n') => LinePosition::Ended,
+            (LinePosition::Start, b'\r') => LinePosition::StartCr,
+            (LinePosition::Inside, b'\n') => LinePosition::Start,
+            _ => LinePosition::Inside,
         }
     }
 
@@ -38,12 +38,12 @@ impl Place {
     pub fn is_ended(self) -> bool
         ensures { result ≡ is_ended self }
     {
-        matches!(self, Place::Ended)
+        matches!(self, LinePosition::Ended)
     }
 
     /// The place after more bytes.
-    pub fn after_all(self, bytes: &[u8]) -> Place
-        ensures { result ≡ places_after self bytes.now }
+    pub fn after_all(self, bytes: &[u8]) -> LinePosition
+        ensures { result ≡ positions_after self bytes.now }
     {
         let mut place = self;
         for byte in bytes {

@@ -2,7 +2,7 @@
 ghost use Rattle.std.specs.Prelude.{◌≡◌, ◌≤◌, ◌<◌, [], length, IfOk, IfSome, IfErr, IsErrOf, Ok, None};
 ghost use Rattle.std.specs.Io.KnownBytes.{prepend_known, IsAtEnd};
 ghost use Rattle.ps_ports.specs.Causes.{Rose};
-ghost use Rattle.ps_http.specs.Answer.{IsBegun, requests, responses, TakesMessage, WasAtEnd};
+ghost use Rattle.ps_http.specs.Answer.{IsBegun, requests, responses, TakesMessage, WasAtEnd, WasEnough};
 ghost use Rattle.ps_http.specs.Next.{HasHead, FaultAt};
 
 use crate::fault::HttpFault;
@@ -27,7 +27,7 @@ fn next_request_head<S: Source>(
     ensures head { IfOk result (λ o. IfSome o (λ h. HasHead requests limits h.message h.size h.length held.old held.new (S.left source.old) (S.left source.new))) }
     ensures end { result ≡ Ok None → (held.old ≡ []) × (held.new ≡ []) × IsAtEnd (S.left source.old) × IsAtEnd (S.left source.new) }
     ensures some { IfOk result (λ o. IfSome o (λ _. IfSome (prepend_known held.old (S.left source.old)) (λ input. 0 < length input))) }
-    ensures err { IfErr result (λ fault. FaultAt requests limits held.old fault (S.left source.old) (S.left source.new)) }
+    ensures err { IfErr result (λ fault. FaultAt requests limits held.old held.new fault (S.left source.old) (S.left source.new)) }
     ensures begun { IfErr result (λ fault. IfSome (prepend_known held.old (S.left source.old)) (λ input. IsBegun input fault)) }
     ensures fault { IsErrOf result HttpFault.ReadFault → Rose (S.read_faults source.old) (S.read_faults source.new) }
     ensures later { S.read_faults source.old ≤ S.read_faults source.new }
@@ -67,8 +67,10 @@ pub fn next_request<S: Source>(
     requires fits { limits.head ≤ 16384 }
     requires room { length spans.old ≡ 5461 }
     ensures message { IfOk result (λ o. IfSome o (λ r. TakesMessage requests limits r (prepend_known held.old (S.left source.old)) (prepend_known held.new (S.left source.new)))) }
+    ensures body { IfOk result (λ o. IfSome o (λ r. length r.body ≤ limits.body)) }
+    ensures enough { IfOk result (λ o. IfSome o (λ _. WasEnough requests limits held.old held.new (S.left source.old) (S.left source.new))) }
     ensures end { result ≡ Ok None → WasAtEnd (prepend_known held.old (S.left source.old)) (prepend_known held.new (S.left source.new)) }
-    ensures err { IfErr result (λ fault. FaultAt requests limits held.old fault (S.left source.old) (S.left source.new)) }
+    ensures err { IfErr result (λ fault. FaultAt requests limits held.old held.new fault (S.left source.old) (S.left source.new)) }
     ensures begun { IfErr result (λ fault. IfSome (prepend_known held.old (S.left source.old)) (λ input. IsBegun input fault)) }
     ensures fault { IsErrOf result HttpFault.ReadFault → Rose (S.read_faults source.old) (S.read_faults source.new) }
     ensures later { S.read_faults source.old ≤ S.read_faults source.new }
@@ -100,7 +102,7 @@ fn next_response_head<S: Source>(
     requires fits { limits.head ≤ 16384 }
     requires room { length spans.old ≡ 5461 }
     ensures head { IfOk result (λ h. HasHead responses limits h.message h.size h.length held.old held.new (S.left source.old) (S.left source.new)) }
-    ensures err { IfErr result (λ fault. FaultAt responses limits held.old fault (S.left source.old) (S.left source.new)) }
+    ensures err { IfErr result (λ fault. FaultAt responses limits held.old held.new fault (S.left source.old) (S.left source.new)) }
     ensures fault { IsErrOf result HttpFault.ReadFault → Rose (S.read_faults source.old) (S.read_faults source.new) }
     ensures later { S.read_faults source.old ≤ S.read_faults source.new }
     ensures kept { S.kept source.old source.new }
@@ -116,7 +118,8 @@ fn next_response_head<S: Source>(
     }
 }
 
-fn with_response_body(response: Response, body: Vec<u8>) -> Response
+/// The response with this body.
+pub fn with_response_body(response: Response, body: Vec<u8>) -> Response
     ensures { result ≡ record response { body = body.items } }
 {
     let mut response = response;
@@ -135,7 +138,9 @@ pub fn next_response<S: Source>(
     requires fits { limits.head ≤ 16384 }
     requires room { length spans.old ≡ 5461 }
     ensures message { IfOk result (λ r. TakesMessage responses limits r (prepend_known held.old (S.left source.old)) (prepend_known held.new (S.left source.new))) }
-    ensures err { IfErr result (λ fault. FaultAt responses limits held.old fault (S.left source.old) (S.left source.new)) }
+    ensures body { IfOk result (λ r. length r.body ≤ limits.body) }
+    ensures enough { IfOk result (λ _. WasEnough responses limits held.old held.new (S.left source.old) (S.left source.new)) }
+    ensures err { IfErr result (λ fault. FaultAt responses limits held.old held.new fault (S.left source.old) (S.left source.new)) }
     ensures fault { IsErrOf result HttpFault.ReadFault → Rose (S.read_faults source.old) (S.read_faults source.new) }
     ensures later { S.read_faults source.old ≤ S.read_faults source.new }
     ensures kept { S.kept source.old source.new }

@@ -1,12 +1,14 @@
 //! A reader of messages.
-ghost use Rattle.std.specs.Prelude.{◌≡◌, ◌≤◌, ◌<◌, [], IfOk, IfSome, IfErr, IsErrOf, is_err, Ok, Err, None, true, false};
+ghost use Rattle.std.specs.Prelude.{◌≡◌, ◌≤◌, ◌<◌, [], length, IfOk, IfSome, IfErr, IsErrOf, is_err, Ok, Err, None, true, false};
 ghost use Rattle.std.specs.Borrow.{sem};
 ghost use Rattle.std.specs.Io.KnownBytes.{prepend_known};
 ghost use Rattle.ps_ports.specs.Causes.{Rose};
-ghost use Rattle.ps_http.specs.Answer.{IsBegun, requests, responses, Refuses, TakesMessage, WasAtEnd, WasDue};
+ghost use Rattle.ps_http.specs.Answer.{IsBegun, requests, responses, Refuses, RefusedInTime, TakesMessage, WasAtEnd, WasDue, WasEnough};
+ghost use Rattle.ps_http.specs.Head.{IsHeaded, HeadFault};
 ghost use Rattle.ps_http.specs.Lent.{LendsSource};
 
 use crate::fault::HttpFault;
+use crate::head::{Headed, response_head};
 use crate::held::Held;
 use crate::message::{HttpLimits, Request, Response};
 use crate::next::{next_request, next_response};
@@ -19,24 +21,60 @@ use std::marker::Model;
 /// A head of 16,384 bytes has fewer fields, since each has three bytes.
 const FIELDS_ROOM: usize = 5_461;
 
-/// Reads messages from a source, one after another. It holds at most 16,384 bytes beside them.
+/// Where the fields of a head lie: about 175,000 bytes, which are made once and lent to each call
+/// that reads a head, of any reader.
+#[derive(Drop)]
+pub struct FieldSpans {
+    spans: Vec<HeaderSpan>,
+}
+
+// Clauses see nothing of it, since each head is written over the last.
+impl Model for FieldSpans {
+    ghost use Rattle.std.specs.Prelude.{◌≡◌, ⊤, vec_len};
+
+    ghost Value = { ⊤ };
+
+    ghost view = { λ _. tt };
+
+    ghost invariant = { λ f. vec_len f.spans ≡ 5461 };
+}
+
+impl FieldSpans {
+    pub fn new(alloc: Global) -> Result<FieldSpans, Memory> {
+        let spans = vec![in alloc; EMPTY_HEADER_SPAN; FIELDS_ROOM]?;
+        Ok(FieldSpans { spans })
+    }
+
+    /// Reads the head of a response that is whole in memory.
+    pub(crate) fn response_head(
+        &mut self,
+        alloc: Global,
+        bytes: &[u8],
+        limits: HttpLimits,
+    ) -> Result<Headed<Response>, HttpFault>
+        requires { length bytes.now ≤ 16384 }
+        ensures ok { IfOk result (λ r. IsHeaded responses limits bytes.now r.message r.size r.length) }
+        ensures err { IfErr result (HeadFault responses limits bytes.now) }
+    {
+        response_head(alloc, bytes, self.spans.as_mut_slice(), limits)
+    }
+}
+
+/// Reads messages from a source, one after another. It holds at most 16,384 bytes beside them, for
+/// which it takes memory when it is made.
 #[derive(Drop)]
 pub struct Reader<S> {
     source: S,
     held: Held,
-    spans: Vec<HeaderSpan>,
     refused: bool,
 }
 
 impl<S> Model for Reader<S> {
-    ghost use Rattle.std.specs.Prelude.{◌≡◌, vec_len};
     ghost use Rattle.ps_http.specs.Reader.{ReaderState};
 
     ghost Value = { ReaderState S };
 
     ghost view = { λ r. record { source = r.source; held = r.held; refused = r.refused } };
-
-    ghost invariant = { λ r. vec_len r.spans ≡ 5461 };
 }
 
 impl<S: Drop> Reader<S> {
@@ -45,11 +83,9 @@ impl<S: Drop> Reader<S> {
         ensures { IfOk result (λ r. r ≡ record { source = source; held = []; refused = false }) }
     {
         let held = Held::new(alloc)?;
-        let spans = vec![in alloc; EMPTY_HEADER_SPAN; FIELDS_ROOM]?;
         Ok(Reader {
             source,
             held,
-            spans,
             refused: false,
         })
     }
@@ -78,12 +114,14 @@ impl<S: Source> Reader<S> {
     pub fn read_request(
         &mut self,
         alloc: Global,
+        fields: &mut FieldSpans,
         limits: HttpLimits,
     ) -> Result<Option<Request>, HttpFault>
         requires some { 0 < limits.head }
         requires fits { limits.head ≤ 16384 }
         ensures message { IfOk result (λ o. IfSome o (λ r. TakesMessage requests limits r
             (prepend_known self.old.held (S.left self.old.source)) (prepend_known self.new.held (S.left self.new.source)))) }
+        ensures body { IfOk result (λ o. IfSome o (λ r. length r.body ≤ limits.body)) }
         ensures end { result ≡ Ok None → WasAtEnd (prepend_known self.old.held (S.left self.old.source)) (prepend_known self.new.held (S.left self.new.source)) }
         ensures refusal { IfErr result (λ fault. IfSome (prepend_known self.old.held (S.left self.old.source)) (λ input. Refuses requests limits input fault)) }
         ensures begun { IfErr result (λ fault. IfSome (prepend_known self.old.held (S.left self.old.source)) (λ input. IsBegun input fault)) }
@@ -91,6 +129,8 @@ impl<S: Source> Reader<S> {
         // It doesn't give up by itself, and reads only what is wanting.
         ensures fault { IsErrOf result HttpFault.ReadFault → Rose (S.read_faults self.old.source) (S.read_faults self.new.source) }
         ensures due { IsErrOf result HttpFault.ReadFault → WasDue requests limits self.old.held (S.left self.old.source) (S.left self.new.source) }
+        ensures enough { IfOk result (λ o. IfSome o (λ _. WasEnough requests limits self.old.held self.new.held (S.left self.old.source) (S.left self.new.source))) }
+        ensures in_time { IfErr result (λ fault. RefusedInTime requests limits fault self.old.held self.new.held (S.left self.old.source) (S.left self.new.source)) }
 
         // After a fault, and only then, it answers that and reads nothing.
         ensures refused { self.new.refused ≡ is_err result }
@@ -107,7 +147,7 @@ impl<S: Source> Reader<S> {
             alloc,
             &mut self.source,
             &mut self.held,
-            self.spans.as_mut_slice(),
+            fields.spans.as_mut_slice(),
             limits,
         );
         self.refused = read.is_err();
@@ -119,17 +159,21 @@ impl<S: Source> Reader<S> {
     pub fn read_response(
         &mut self,
         alloc: Global,
+        fields: &mut FieldSpans,
         limits: HttpLimits,
     ) -> Result<Response, HttpFault>
         requires some { 0 < limits.head }
         requires fits { limits.head ≤ 16384 }
         ensures message { IfOk result (λ r. TakesMessage responses limits r
             (prepend_known self.old.held (S.left self.old.source)) (prepend_known self.new.held (S.left self.new.source))) }
+        ensures body { IfOk result (λ r. length r.body ≤ limits.body) }
         ensures refusal { IfErr result (λ fault. IfSome (prepend_known self.old.held (S.left self.old.source)) (λ input. Refuses responses limits input fault)) }
 
         // It doesn't give up by itself, and reads only what is wanting.
         ensures fault { IsErrOf result HttpFault.ReadFault → Rose (S.read_faults self.old.source) (S.read_faults self.new.source) }
         ensures due { IsErrOf result HttpFault.ReadFault → WasDue responses limits self.old.held (S.left self.old.source) (S.left self.new.source) }
+        ensures enough { IfOk result (λ _. WasEnough responses limits self.old.held self.new.held (S.left self.old.source) (S.left self.new.source)) }
+        ensures in_time { IfErr result (λ fault. RefusedInTime responses limits fault self.old.held self.new.held (S.left self.old.source) (S.left self.new.source)) }
 
         // After a fault, and only then, it answers that and reads nothing.
         ensures refused { self.new.refused ≡ is_err result }
@@ -146,7 +190,7 @@ impl<S: Source> Reader<S> {
             alloc,
             &mut self.source,
             &mut self.held,
-            self.spans.as_mut_slice(),
+            fields.spans.as_mut_slice(),
             limits,
         );
         self.refused = answer.is_err();

@@ -13,7 +13,8 @@ use ps_time::memory::Memory;
 use ps_time::text::Text;
 use std::alloc::Global;
 
-fn put(out: &mut Vec<u8>, bytes: &[u8]) -> Result<(), Memory>
+/// Appends the bytes.
+pub(crate) fn put(out: &mut Vec<u8>, bytes: &[u8]) -> Result<(), Memory>
     ensures { OnOk result (out.new.items ≡ out.old.items ++ bytes.now) }
 {
     out.extend_from_slice(bytes)?;
@@ -181,11 +182,25 @@ fn put_response_fields(alloc: Global, out: &mut Vec<u8>, response: &Response) ->
     put(out, b"\r\n")
 }
 
+/// Room for the lines of a response, beside a 405's methods.
+const LINES_ROOM: usize = 256;
+
+/// Room for all bytes of a response.
+fn response_room(response: &Response) -> usize {
+    let methods = match &response.allow {
+        Some(methods) => methods.as_str().len(),
+        None => 0,
+    };
+    let body = response.body.as_slice().len();
+    body.saturating_add(methods).saturating_add(LINES_ROOM)
+}
+
 /// The bytes of a response. A status without a phrase has an empty one.
 pub fn response_bytes(alloc: Global, response: &Response) -> Result<Vec<u8>, Memory>
     ensures { IfOk result (λ b. b.items ≡ response_text response.now) }
 {
     let mut out = Vec::new(alloc);
+    out.reserve(response_room(response))?;
     put_status_line(alloc, &mut out, response.status)?;
     put_response_fields(alloc, &mut out, response)?;
     put(&mut out, response.body.as_slice())?;

@@ -1,12 +1,13 @@
 //! Tests of what no clause says: that calls succeed with ample memory, and that the definitions mean
 //! what the standards do.
-ghost use Rattle.std.specs.Prelude.{IsTrue, false};
+ghost use Rattle.std.specs.Prelude.{◌≤◌, IsTrue, false};
 ghost use Rattle.std.specs.Io.KnownBytes.{Appends};
 ghost use Rattle.ps_http.specs.Written.{response_text, fault_response};
 
 use ps_http::fault::HttpFault;
-use ps_http::message::{HttpLimits, MAX_HEAD, PeerMark, Request};
-use ps_http::reader::Reader;
+use ps_http::message::{HttpLimits, MAX_HEAD, PeerMark, Request, Response};
+use ps_http::reader::{FieldSpans, Reader};
+use ps_http::reply::{ReplyFault, read_reply};
 use ps_http::written::{fixed_reply, request_bytes, response_bytes};
 use ps_ports::all::write_all;
 use ps_ports::fault::Failed;
@@ -86,6 +87,25 @@ const LIMITS: HttpLimits = HttpLimits {
     body: 1_048_576,
 };
 
+/// Reads a request, with spans of its own.
+fn read_request<S: Source>(
+    alloc: Global,
+    reader: &mut Reader<S>,
+) -> Result<Option<Request>, HttpFault> {
+    match FieldSpans::new(alloc) {
+        Ok(mut fields) => reader.read_request(alloc, &mut fields, LIMITS),
+        Err(_) => Err(HttpFault::Memory),
+    }
+}
+
+/// The same for a response.
+fn read_response<S: Source>(alloc: Global, reader: &mut Reader<S>) -> Result<Response, HttpFault> {
+    match FieldSpans::new(alloc) {
+        Ok(mut fields) => reader.read_response(alloc, &mut fields, LIMITS),
+        Err(_) => Err(HttpFault::Memory),
+    }
+}
+
 fn kept_word(request: &Request) -> &'static str {
     if request.close { "close" } else { "ok" }
 }
@@ -96,7 +116,7 @@ fn next_outcome(
     reader: &mut Reader<Pieces<MemorySource>>,
     count: usize,
 ) -> &'static str {
-    match reader.read_request(alloc, LIMITS) {
+    match read_request(alloc, reader) {
         Ok(Some(request)) => kept_word(&request),
         Ok(None) => "none",
         Err(fault) => word(fault, count),
@@ -110,7 +130,7 @@ fn request_outcome(alloc: Global, bytes: &[u8], most: usize) -> Result<&'static 
 
 fn response_outcome(alloc: Global, bytes: &[u8], most: usize) -> Result<&'static str, Fail> {
     let mut reader = reader(alloc, bytes, most)?;
-    match reader.read_response(alloc, LIMITS) {
+    match read_response(alloc, &mut reader) {
         Ok(_) => Ok("ok"),
         Err(fault) => Ok(word(fault, bytes.len())),
     }
@@ -320,7 +340,7 @@ fn is_second(request: &Request) -> bool {
 }
 
 fn reads(alloc: Global, reader: &mut Reader<Pieces<MemorySource>>, first: bool) -> bool {
-    match reader.read_request(alloc, LIMITS) {
+    match read_request(alloc, reader) {
         Ok(Some(request)) => if first {
             is_first(&request)
         } else {
@@ -333,7 +353,7 @@ fn reads(alloc: Global, reader: &mut Reader<Pieces<MemorySource>>, first: bool) 
 fn reads_both(alloc: Global, bytes: &[u8], most: usize) -> Result<bool, Fail> {
     let mut reader = reader(alloc, bytes, most)?;
     let both = reads(alloc, &mut reader, true) && reads(alloc, &mut reader, false);
-    Ok(both && matches!(reader.read_request(alloc, LIMITS), Ok(None)))
+    Ok(both && matches!(read_request(alloc, &mut reader), Ok(None)))
 }
 
 #[test]
@@ -442,7 +462,7 @@ static NOT_ALLOWED: &[u8] =
 
 /// Whether a response that is read is written again as it was.
 fn response_again(alloc: Global, bytes: &[u8]) -> Result<bool, Fail> {
-    match reader(alloc, bytes, 7)?.read_response(alloc, LIMITS) {
+    match read_response(alloc, &mut reader(alloc, bytes, 7)?) {
         Ok(response) => Ok(is_written(response_bytes(alloc, &response), bytes)),
         Err(_) => Ok(false),
     }
@@ -464,6 +484,115 @@ fn responses_are_written_as_they_were_read(rt: HostRuntime) -> Result<(), Fail> 
     Ok(())
 }
 
+/// Reads bytes that are to be one response, with spans of its own.
+fn read_once(alloc: Global, bytes: &[u8], limits: HttpLimits) -> Result<Response, ReplyFault>
+    requires { limits.head ≤ 16384 }
+{
+    match FieldSpans::new(alloc) {
+        Ok(mut fields) => read_reply(alloc, &mut fields, bytes, limits),
+        Err(_) => Err(ReplyFault::Memory),
+    }
+}
+
+/// Whether the bytes are one response, which is written again as it was.
+fn reply_again(alloc: Global, bytes: &[u8]) -> bool {
+    match read_once(alloc, bytes, LIMITS) {
+        Ok(response) => is_written(response_bytes(alloc, &response), bytes),
+        Err(_) => false,
+    }
+}
+
+#[test]
+fn replies_are_written_as_they_were_read(rt: HostRuntime) -> Result<(), Fail> {
+    assert!(rt; reply_again(rt.alloc(), CLOCK));
+    assert!(rt; reply_again(rt.alloc(), NOT_ALLOWED));
+    Ok(())
+}
+
+// What isn't one response, and why.
+static NO_REPLIES: [(&str, ReplyFault); 11] = [
+    (
+        "HTTP/1.1 200 OK~Content-Length: 0~~b",
+        ReplyFault::Follows(1),
+    ),
+    (
+        "HTTP/1.1 200 OK~Content-Length: 1~~b~~",
+        ReplyFault::Follows(4),
+    ),
+    (
+        "HTTP/1.1 200 OK~Content-Length: 0~~HTTP/1.1 200 OK~Content-Length: 0~~",
+        ReplyFault::Follows(38),
+    ),
+    ("", ReplyFault::Refused(HttpFault::EndInside(0))),
+    (
+        "HTTP/1.1 200",
+        ReplyFault::Refused(HttpFault::EndInside(12)),
+    ),
+    (
+        "HTTP/1.1 200 OK~Content-Length: 2~~b",
+        ReplyFault::Refused(HttpFault::EndInside(39)),
+    ),
+    (
+        "HTTP/1.1 20 OK~Content-Length: 0~~",
+        ReplyFault::Refused(HttpFault::BadHead),
+    ),
+    (
+        "HTTP/1.1 200 OK~Content-Length: 0~ps-peer: x~~",
+        ReplyFault::Refused(HttpFault::BadHead),
+    ),
+    (
+        "HTTP/1.1 200 OK~Content-Length: 1048577~~",
+        ReplyFault::Refused(HttpFault::TooLarge),
+    ),
+    (
+        "HTTP/1.1 200 OK~~",
+        ReplyFault::Refused(HttpFault::NoLength),
+    ),
+    (
+        "HTTP/1.1 200 OK~Transfer-Encoding: chunked~Content-Length: 0~~",
+        ReplyFault::Refused(HttpFault::NoLength),
+    ),
+];
+
+/// Whether the bytes are refused so.
+fn is_no_reply(alloc: Global, bytes: &[u8], limits: HttpLimits, wanted: ReplyFault) -> bool
+    requires { limits.head ≤ 16384 }
+{
+    match read_once(alloc, bytes, limits) {
+        Ok(_) => false,
+        Err(fault) => fault == wanted,
+    }
+}
+
+fn check_replies(alloc: Global, cases: &[(&str, ReplyFault)]) -> Result<(), Fail> {
+    for (case, wanted) in cases {
+        let bytes = expanded(alloc, case)?;
+        if !is_no_reply(alloc, bytes.as_slice(), LIMITS, *wanted) {
+            return Err(Fail::new(format_args!("{case:?} isn't {wanted:?}")));
+        }
+    }
+    Ok(())
+}
+
+#[test]
+fn what_is_no_reply(rt: HostRuntime) -> Result<(), Fail> {
+    check_replies(rt.alloc(), &NO_REPLIES)
+}
+
+// A head of 38 bytes and a body of one.
+static SHORT: &[u8] = b"HTTP/1.1 200 OK\r\nContent-Length: 1\r\n\r\nb";
+
+#[test]
+fn the_limits_of_a_reply(rt: HostRuntime) -> Result<(), Fail> {
+    let alloc = rt.alloc();
+    let large = ReplyFault::Refused(HttpFault::TooLarge);
+    assert!(rt; read_once(alloc, SHORT, HttpLimits { head: 38, body: 1 }).is_ok());
+    assert!(rt; is_no_reply(alloc, SHORT, HttpLimits { head: 38, body: 0 }, large));
+    assert!(rt; is_no_reply(alloc, SHORT, HttpLimits { head: 37, body: 1 }, large));
+    assert!(rt; is_no_reply(alloc, SHORT, HttpLimits { head: 0, body: 1 }, large));
+    Ok(())
+}
+
 static PEERS: &[u8] =
     b"PUT /pscheduler/peer?x HTTP/1.1\r\nHost: b:8080\r\nps-peer: 7 Key1\r\nContent-Length: 4\r\nConnection: close\r\n\r\nbody";
 
@@ -471,7 +600,7 @@ static PLAIN: &[u8] = b"GET /pscheduler HTTP/1.1\r\nHost: b:8080\r\nConnection: 
 
 /// Whether a request that is read is written again as it was.
 fn request_again(alloc: Global, bytes: &[u8], authority: &str) -> Result<bool, Fail> {
-    match reader(alloc, bytes, 7)?.read_request(alloc, LIMITS) {
+    match read_request(alloc, &mut reader(alloc, bytes, 7)?) {
         Ok(Some(request)) => Ok(is_written(request_bytes(alloc, &request, authority), bytes)),
         _ => Ok(false),
     }
@@ -489,7 +618,10 @@ fn requests_are_written_as_they_were_read(rt: HostRuntime) -> Result<(), Fail> {
 fn answer<T: Stream>(alloc: Global, reader: &mut Reader<&mut T>) -> bool
     ensures written { IsTrue result → Appends (T.Sink.written reader.old.source.now) (T.Sink.written reader.new.source.now) (response_text (fault_response 503 false)) }
 {
-    match reader.read_request(alloc, LIMITS) {
+    let Ok(mut fields) = FieldSpans::new(alloc) else {
+        return false;
+    };
+    match reader.read_request(alloc, &mut fields, LIMITS) {
         Ok(Some(_)) => write_all(reader.source(), fixed_reply(503, false)).is_ok(),
         _ => false,
     }
