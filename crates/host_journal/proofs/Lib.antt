@@ -1,5 +1,7 @@
+mod AddsLemmas
 mod AppendLemmas
 mod CallLemmas
+mod ChoiceLemmas
 mod FormatLemmas
 mod FrontLemmas
 mod HeadLemmas
@@ -14,4 +16,5 @@ mod TakenLemmas
 mod ToldLemmas
 mod TurnExits
 mod TurnLemmas
+pub mod MomentLemmas
 pub mod OursLemmas

@@ -1,17 +1,18 @@
 -- From what two disks stand for to what each of them is.
-use Rattle.std.proofs.Common.{◌≡◌, inl, inr, ℕ, ◌+◌, Bool, true, false, not, if◌then◌else◌, List, ◌∷◌, length, drop, Result, Ok, Err, Option, Some, None, refl, sym, ◌∙◌, ap, subst}
+use Rattle.std.proofs.Common.{◌≡◌, inl, inr, ℕ, suc, zero, ◌+◌, ◌≤◌, ◌<◌, ◌^◌, Bool, true, false, not, if◌then◌else◌, List, [], ◌∷◌, length, take, drop, Result, Ok, Err, Option, Some, None, refl, sym, ◌∙◌, ap, subst, arith}
 use Rattle.std.specs.Prelude.{nat_le, ◌==◌}
 use Rattle.ps_disks.specs.Disk.{Only}
 use Rattle.host_journal.specs.Format.{magic, agreeing, stands, Body, body_of, record_bytes, records_of}
-use Rattle.host_journal.specs.Pair.{gates_at, with_records, counted, need_body, unless_at, need_head, greater, pair_by, pair_of}
+use Rattle.host_journal.specs.Moments.{Shows}
+use Rattle.host_journal.specs.Pair.{AreGatesOf, gates_at, with_records, counted, need_body, unless_at, need_head, greater, pair_by, pair_of}
 use Rattle.host_journal.specs.State.{IsClosed, IsAside, IsBelow, IsWhole, IsSound}
 use Rattle.host_journal.specs.declared.pending.Pending.TheVariants.{Nothing}
 use Rattle.host_journal.specs.declared.reading.Counted.{Counted}
-use Rattle.host_journal.specs.declared.reading.Place.{Place}
+use Rattle.host_journal.specs.declared.reading.DiskPlace.{DiskPlace}
 use Rattle.host_journal.proofs.FormatLemmas.{eq_from, le_from}
 use Rattle.host_journal.proofs.FrontLemmas.{whole_from}
 use Rattle.host_journal.proofs.HeadLemmas.{older_has}
-use Rattle.host_journal.proofs.PairLemmas.{place_at}
+use Rattle.host_journal.proofs.PairLemmas.{Standing, place_at}
 
 -- the disk that counts is whole, and the other one lies below it
 pub record Opened (k : Counted) (counting other : List ℕ) : Type 0 where
@@ -31,7 +32,7 @@ found second body records = record {
   list = body.snapshot ∷ records;
 }
 
-ok_is : (r : Result Counted Place) (a b : Counted) → r ≡ Ok a → r ≡ Ok b → a ≡ b
+ok_is : (r : Result Counted DiskPlace) (a b : Counted) → r ≡ Ok a → r ≡ Ok b → a ≡ b
 ok_is r a b one two = cc (one, two)
 
 with_is : (second : Bool) (body : Body) (k : Counted) (bytes : List ℕ) (r : Result (List (List ℕ)) ℕ) → stands bytes ≡ true → body_of (drop 9 bytes) ≡ Some body → records_of body.gates ≡ r → with_records second body r ≡ Ok k
@@ -44,7 +45,7 @@ with_is second body k bytes (Ok records) opens is_body are is =
       subst (λ (c : Counted). IsWhole c.generation c.start c.end c.list bytes) made (whole_from bytes body records opens is_body are),
     )
 
-need_is : (second : Bool) (k : Counted) (o : Option Body) (next : Body → Result Counted Place) → need_body second o next ≡ Ok k → (body : Body) × (o ≡ Some body) × (next body ≡ Ok k)
+need_is : (second : Bool) (k : Counted) (o : Option Body) (next : Body → Result Counted DiskPlace) → need_body second o next ≡ Ok k → (body : Body) × (o ≡ Some body) × (next body ≡ Ok k)
 need_is second k None next is = absurd (cc is)
 need_is second k (Some body) next is = (body, refl, is)
 
@@ -54,8 +55,15 @@ counted_is second k bytes opens is =
     let has = need_is second k (body_of (drop 9 bytes)) (λ body. counted second body) is in
     let found = with_is second has.0 k bytes (records_of has.0.gates) opens has.1 refl has.2 in (found.0, found.2)
 
+-- a disk that shows something stands for it
+pub shows_standing : (k : Counted) (second : Bool) (bytes : List ℕ) → Shows (Ok k) second bytes → Standing k.second k.generation k.start k.end k.list bytes
+shows_standing k second bytes shows =
+    let has = need_is k.second k (body_of (drop 9 bytes)) (λ body. counted k.second body) shows.2 in
+    let found = with_is k.second has.0 k bytes (records_of has.0.gates) shows.1 has.1 refl has.2 in
+    record { is_standing = shows.1; body = has.0; is_body = has.1; is_generation = sym found.1; is_counted = has.2 }
+
 -- The other has a head.
-head_by : (second : Bool) (k : Counted) (bytes : List ℕ) (next : Result Counted Place) (p q : Bool) → stands bytes ≡ false → (agreeing magic bytes == 8) ≡ p → nat_le 9 (length bytes) ≡ q
+head_by : (second : Bool) (k : Counted) (bytes : List ℕ) (next : Result Counted DiskPlace) (p q : Bool) → stands bytes ≡ false → (agreeing magic bytes == 8) ≡ p → nat_le 9 (length bytes) ≡ q
     → unless_at (if p then (if q then None else Some (place_at second 8)) else Some (place_at second (agreeing magic bytes))) next ≡ Ok k → IsClosed bytes × (next ≡ Ok k)
 head_by second k bytes next true true shut eight nine is = (
   record {
@@ -68,7 +76,7 @@ head_by second k bytes next true true shut eight nine is = (
 head_by second k bytes next true false shut eight nine is = absurd (cc is)
 head_by second k bytes next false q shut eight nine is = absurd (cc is)
 
-head_is : (second : Bool) (k : Counted) (bytes : List ℕ) (next : Result Counted Place) → stands bytes ≡ false → need_head second bytes next ≡ Ok k → IsClosed bytes × (next ≡ Ok k)
+head_is : (second : Bool) (k : Counted) (bytes : List ℕ) (next : Result Counted DiskPlace) → stands bytes ≡ false → need_head second bytes next ≡ Ok k → IsClosed bytes × (next ≡ Ok k)
 head_is second k bytes next shut is = head_by second k bytes next (agreeing magic bytes == 8) (nat_le 9 (length bytes)) shut refl refl is
 
 -- In the order of the pair.
@@ -111,6 +119,16 @@ opened_by k first second true true one two is =
 
 pub opened_pair : (k : Counted) (first second : List ℕ) → pair_of first second ≡ Ok k → Opened k (either k.second second first) (either k.second first second)
 opened_pair k first second is = opened_by k first second (stands first) (stands second) refl refl is
+
+-- an item of the list lies before the last gate
+taken : (n : ℕ) (list : List (List ℕ)) → n < length list → record_bytes (take n list) + 5 ≤ record_bytes list
+taken n [] less = absurd (omega (arith, less))
+taken zero (item ∷ list) less = omega arith
+taken (suc n) (item ∷ list) less = omega (arith, taken n list (omega (arith, less)))
+
+pub place_fits : (n : ℕ) (list : List (List ℕ)) (start end : ℕ) → AreGatesOf list start end → end + 1 < 2 ^ 64 → n < length list → 21 + record_bytes (take n list) < 2 ^ 64
+place_fits n [] start end gates fits less = absurd gates
+place_fits n (snapshot ∷ records) start end gates fits less = omega (arith, gates.0, gates.1, fits, taken n (snapshot ∷ records) less)
 
 -- the head gate of the other, as it was read
 pub aside_is : (shut : Bool) (second : Bool) (generation : ℕ) (bytes : List ℕ) → shut ≡ not (stands bytes) → IsBelow second generation bytes → IsAside second generation shut bytes

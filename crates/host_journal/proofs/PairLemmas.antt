@@ -1,28 +1,29 @@
 -- What two disks stand for, from what each of them is.
-use Rattle.std.proofs.Common.{◌≡◌, inl, inr, ℕ, ◌+◌, Bool, true, false, if◌then◌else◌, List, [], ◌∷◌, length, drop, Result, Ok, Option, Some, None, sym, ◌∙◌, ap}
+use Rattle.std.proofs.Common.{◌≡◌, inl, inr, ℕ, ◌+◌, Bool, true, false, if◌then◌else◌, List, [], ◌∷◌, length, drop, Result, Ok, Option, Some, None, refl, sym, ◌∙◌, ap}
 use Rattle.std.specs.Prelude.{nat_le, ◌==◌}
 use Rattle.host_journal.specs.Format.{magic, agreeing, stands, Body, body_of, record_bytes}
-use Rattle.host_journal.specs.Pair.{gates_at, number_of, with_records, counted, need_body, headless, unless_at, need_head, greater, pair_by, pair_of}
+use Rattle.host_journal.specs.Moments.{Shows}
+use Rattle.host_journal.specs.Pair.{alone, gates_at, number_of, with_records, counted, need_body, headless, unless_at, need_head, greater, pair_by, pair_of}
 use Rattle.host_journal.specs.State.{pair_in, Stands, IsClosed, IsBelow, IsWhole}
 use Rattle.host_journal.specs.declared.reading.Counted.{Counted}
-use Rattle.host_journal.specs.declared.reading.Place.{Place}
+use Rattle.host_journal.specs.declared.reading.DiskPlace.{DiskPlace}
 use Rattle.host_journal.proofs.FormatLemmas.{eq_true, le_true}
 use Rattle.host_journal.proofs.FrontLemmas.{stands_whole}
 
-abbrev pub counts_as : Bool → ℕ → ℕ → ℕ → List (List ℕ) → Result Counted Place
+abbrev pub counts_as : Bool → ℕ → ℕ → ℕ → List (List ℕ) → Result Counted DiskPlace
 counts_as second generation start end list = Ok (record { second = second; generation = generation; start = start; end = end; list = list })
 
-abbrev pub place_at : Bool → ℕ → Place
+abbrev pub place_at : Bool → ℕ → DiskPlace
 place_at second place = record { disk = number_of second; place = place }
 
-pub need_head_is : (second : Bool) (bytes : List ℕ) (next : Result Counted Place) → IsClosed bytes → need_head second bytes next ≡ next
+pub need_head_is : (second : Bool) (bytes : List ℕ) (next : Result Counted DiskPlace) → IsClosed bytes → need_head second bytes next ≡ next
 need_head_is second bytes next closed =
     let eight : (agreeing magic bytes == 8) ≡ true = eq_true (agreeing magic bytes) 8 closed.has_magic in
     let nine : nat_le 9 (length bytes) ≡ true = le_true 9 (length bytes) closed.has_gate in
     let none : headless second bytes ≡ None =
     ap (λ (t : Bool). if t then (if nat_le 9 (length bytes) then None else Some (place_at second 8)) else Some (place_at second (agreeing magic bytes))) eight
     ∙ ap (λ (t : Bool). if t then None else Some (place_at second 8)) nine in
-    ap (λ (o : Option Place). unless_at o next) none
+    ap (λ (o : Option DiskPlace). unless_at o next) none
 
 pub by_stands : (first second : List ℕ) (p q : Bool) → stands first ≡ p → stands second ≡ q → pair_of first second ≡ pair_by p q first second
 by_stands first second p q one two = ap (λ (t : Bool). pair_by t (stands second) first second) one ∙ ap (λ (t : Bool). pair_by p t first second) two
@@ -66,32 +67,40 @@ standing second generation start end list c whole =
     first_is : (a b : List ℕ) (xs ys : List (List ℕ)) → a ∷ xs ≡ b ∷ ys → a ≡ b
     first_is a b xs ys is = cc is
 
-pub pair_whole : (second : Bool) (generation start end : ℕ) (list : List (List ℕ)) (c d : List ℕ) → IsWhole generation start end list c → IsBelow second generation d → pair_in second c d ≡ counts_as second generation start end list
-pair_whole false generation start end list c d whole (inl closed) =
-    let made = standing false generation start end list c whole in
+-- a disk that stands for something, and one that lies beside it
+pub pair_standing : (second : Bool) (generation start end : ℕ) (list : List (List ℕ)) (c d : List ℕ) → Standing second generation start end list c → IsBelow second generation d → pair_in second c d ≡ counts_as second generation start end list
+pair_standing false generation start end list c d made (inl closed) =
     by_stands c d true false made.is_standing closed.not_standing
     ∙ need_head_is true d (need_body false (body_of (drop 9 c)) (λ b. counted false b)) closed
     ∙ ap (λ (o : Option Body). need_body false o (λ b. counted false b)) made.is_body
     ∙ made.is_counted
-pair_whole true generation start end list c d whole (inl closed) =
-    let made = standing true generation start end list c whole in
+pair_standing true generation start end list c d made (inl closed) =
     by_stands d c false true closed.not_standing made.is_standing
     ∙ need_head_is false d (need_body true (body_of (drop 9 c)) (λ b. counted true b)) closed
     ∙ ap (λ (o : Option Body). need_body true o (λ b. counted true b)) made.is_body
     ∙ made.is_counted
-pair_whole false generation start end list c d whole (inr older) =
-    let made = standing false generation start end list c whole in
+pair_standing false generation start end list c d made (inr older) =
     let one = made.body in
     by_stands c d true true made.is_standing older.is_standing
     ∙ ap (λ (o : Option Body). need_body false o (λ a. need_body true (body_of (drop 9 d)) (λ b. greater a b))) made.is_body
     ∙ ap (λ (o : Option Body). need_body true o (λ b. greater one b)) older.is_body
     ∙ ap (λ (t : Bool). if t then counted false one else counted true older.body) (ap (nat_le older.body.generation) made.is_generation ∙ older.is_less)
     ∙ made.is_counted
-pair_whole true generation start end list c d whole (inr older) =
-    let made = standing true generation start end list c whole in
+pair_standing true generation start end list c d made (inr older) =
     let two = made.body in
     by_stands d c true true older.is_standing made.is_standing
     ∙ ap (λ (o : Option Body). need_body false o (λ a. need_body true (body_of (drop 9 c)) (λ b. greater a b))) older.is_body
     ∙ ap (λ (o : Option Body). need_body true o (λ b. greater older.body b)) made.is_body
     ∙ ap (λ (t : Bool). if t then counted false older.body else counted true two) (ap (λ (n : ℕ). nat_le n older.body.generation) made.is_generation ∙ older.is_less)
     ∙ made.is_counted
+
+pub pair_whole : (second : Bool) (generation start end : ℕ) (list : List (List ℕ)) (c d : List ℕ) → IsWhole generation start end list c → IsBelow second generation d → pair_in second c d ≡ counts_as second generation start end list
+pair_whole second generation start end list c d whole below = pair_standing second generation start end list c d (standing second generation start end list c whole) below
+
+-- what a disk stands for by itself
+pub standing_alone : (second : Bool) (generation start end : ℕ) (list : List (List ℕ)) (c : List ℕ) → Standing second generation start end list c → alone second c ≡ counts_as second generation start end list
+standing_alone second generation start end list c made = ap (λ (o : Option Body). need_body second o (λ b. counted second b)) made.is_body ∙ made.is_counted
+
+pub whole_shows : (second : Bool) (generation start end : ℕ) (list : List (List ℕ)) (c : List ℕ) → IsWhole generation start end list c → Shows (counts_as second generation start end list) second c
+whole_shows second generation start end list c whole =
+    let made = standing second generation start end list c whole in (refl, made.is_standing, standing_alone second generation start end list c made)

@@ -3,39 +3,40 @@ use Rattle.std.proofs.Common.{◌≡◌, ◌⊎◌, inl, inr, ⊎_elim, ℕ, ◌
 use Rattle.std.specs.Int.{w32, to_be_bytes}
 use Rattle.ps_disks.specs.Disk.{written, Torn, Follows, Only, LeavesOnly}
 use Rattle.host_journal.specs.Calls.{PartAfter}
+use Rattle.host_journal.specs.Moments.{Shows}
 use Rattle.host_journal.specs.Pair.{pair_of}
 use Rattle.host_journal.specs.State.{State, is_ready, pair_in, stored, with_record, IsAside, IsBelow, IsWhole, IsStaged, Counting, Beside, IsSound}
 use Rattle.host_journal.specs.declared.pending.Pending.{Pending}
 use Rattle.host_journal.specs.declared.pending.Pending.TheVariants.{Nothing, Unopened, Record, Snapshot}
 use Rattle.host_journal.specs.declared.reading.Counted.{Counted}
-use Rattle.host_journal.specs.declared.reading.Place.{Place}
+use Rattle.host_journal.specs.declared.reading.DiskPlace.{DiskPlace}
 use Rattle.host_journal.proofs.AppendLemmas.{whole_torn, staged_written, staged_torn, staged_either, opened}
 use Rattle.host_journal.proofs.CallLemmas.{leaves_on, leaves_more}
 use Rattle.host_journal.proofs.HeadLemmas.{aside_below}
-use Rattle.host_journal.proofs.PairLemmas.{counts_as, pair_whole}
+use Rattle.host_journal.proofs.PairLemmas.{counts_as, pair_whole, whole_shows}
 
 -- Which disk is the first.
-abbrev pub stored_of : {D : Type 0} → (D → List ℕ) → Bool → D → D → Result Counted Place
+abbrev pub stored_of : {D : Type 0} → (D → List ℕ) → Bool → D → D → Result Counted DiskPlace
 stored_of seen second counting other = pair_of (seen (if second then other else counting)) (seen (if second then counting else other))
 
 pub stored_in : {D : Type 0} (seen : D → List ℕ) (second : Bool) (counting other : D) → stored_of seen second counting other ≡ pair_in second (seen counting) (seen other)
 stored_in seen false counting other = refl
 stored_in seen true counting other = refl
 
-abbrev pub Since_of : {D : Type 0} → (D → ℕ) → (D → ℕ → List ℕ → Type 0) → Bool → D → D → D → D → (Result Counted Place → Type 0) → Type 0
+abbrev pub Since_of : {D : Type 0} → (D → ℕ) → (D → ℕ → List ℕ → Type 0) → Bool → D → D → D → D → (Result Counted DiskPlace → Type 0) → Type 0
 Since_of moment left_since second counting other counting_new other_new P =
     (c d : List ℕ) → left_since (if second then other_new else counting_new) (moment (if second then other else counting)) c
     → left_since (if second then counting_new else other_new) (moment (if second then counting else other)) d → P (pair_of c d)
 
-pub since_in : {D : Type 0} (moment : D → ℕ) (left_since : D → ℕ → List ℕ → Type 0) (second : Bool) (counting other counting_new other_new : D) (P : Result Counted Place → Type 0)
+pub since_in : {D : Type 0} (moment : D → ℕ) (left_since : D → ℕ → List ℕ → Type 0) (second : Bool) (counting other counting_new other_new : D) (P : Result Counted DiskPlace → Type 0)
     → ((c d : List ℕ) → left_since counting_new (moment counting) c → left_since other_new (moment other) d → P (pair_in second c d)) → Since_of moment left_since second counting other counting_new other_new P
 since_in moment left_since false counting other counting_new other_new P each = each
 since_in moment left_since true counting other counting_new other_new P each = λ c d left left_other. each d c left_other left
 
-abbrev pub Images_of : {D : Type 0} → (D → List ℕ → Type 0) → Bool → D → D → (Result Counted Place → Type 0) → Type 0
+abbrev pub Images_of : {D : Type 0} → (D → List ℕ → Type 0) → Bool → D → D → (Result Counted DiskPlace → Type 0) → Type 0
 Images_of may_leave second counting other P = (c d : List ℕ) → may_leave (if second then other else counting) c → may_leave (if second then counting else other) d → P (pair_of c d)
 
-pub images_in : {D : Type 0} (may_leave : D → List ℕ → Type 0) (second : Bool) (counting other : D) (P : Result Counted Place → Type 0)
+pub images_in : {D : Type 0} (may_leave : D → List ℕ → Type 0) (second : Bool) (counting other : D) (P : Result Counted DiskPlace → Type 0)
     → ((c d : List ℕ) → may_leave counting c → may_leave other d → P (pair_in second c d)) → Images_of may_leave second counting other P
 images_in may_leave false counting other P each = each
 images_in may_leave true counting other P each = λ c d now now_other. each d c now_other now
@@ -78,6 +79,9 @@ module _ {D : Type 0} (seen : D → List ℕ) (may_leave : D → List ℕ → Ty
     abbrev pub Is : List ℕ → Type 0
     Is c = IsWhole s.generation s.start s.end at.list c
 
+    pub is_shows : (c : List ℕ) → Is c → Shows (stored seen s) s.second c
+    is_shows c whole = subst (λ (p : Result Counted DiskPlace). Shows p s.second c) (sym stored_is) (whole_shows s.second s.generation s.start s.end at.list c whole)
+
     -- the same as it was
     pub same_pair : (c d : List ℕ) → Is c → may_leave s.other d → pair_in s.second c d ≡ stored seen s
     same_pair c d whole now = pair_whole s.second s.generation s.start s.end at.list c d whole (below d now) ∙ sym stored_is
@@ -88,6 +92,9 @@ module _ {D : Type 0} (seen : D → List ℕ) (may_leave : D → List ℕ → Ty
 
       abbrev pub Has : List ℕ → Type 0
       Has c = IsWhole s.generation s.start next (at.list ++ payload ∷ []) c
+
+      pub has_shows : (c : List ℕ) → Has c → Shows (with_record payload (stored seen s)) s.second c
+      has_shows c whole = subst (λ (p : Result Counted DiskPlace). Shows (with_record payload p) s.second c) (sym stored_is) (whole_shows s.second s.generation s.start next (at.list ++ payload ∷ []) c whole)
 
       -- with the record
       pub more_pair : (c d : List ℕ) → Has c → may_leave s.other d → pair_in s.second c d ≡ with_record payload (stored seen s)

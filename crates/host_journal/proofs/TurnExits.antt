@@ -6,9 +6,10 @@ use Rattle.ps_disks.specs.Disk.{written, Torn, Follows, Only, LeavesOnly}
 use Rattle.ps_disks.specs.declared.disk.DiskCall.{DiskCall}
 use Rattle.ps_disks.specs.declared.disk.DiskCall.TheVariants.{Write, Cut, Sync}
 use Rattle.host_journal.specs.Calls.{PartAfter, KeepsHead}
+use Rattle.host_journal.specs.Moments.{Shows, LiesBeside}
 use Rattle.host_journal.specs.Pair.{gates_at}
-use Rattle.host_journal.specs.State.{State, is_ready, stored, snapshot_of, snapshot_calls, image_bytes, closing, EachImage, IsClosed, IsSound}
-use Rattle.host_journal.specs.Told.{TellsAll, TellsFirst}
+use Rattle.host_journal.specs.State.{State, is_ready, stored, snapshot_of, close_calls as closing_calls, fill_calls, snapshot_calls, image_bytes, closing, EachImage, IsClosed, IsSound}
+use Rattle.host_journal.specs.Told.{TellsAll, TellsFirst, TellsBoth}
 use Rattle.host_journal.specs.declared.pending.Pending.{Pending}
 use Rattle.host_journal.specs.declared.pending.Pending.TheVariants.{Nothing, Unopened, Snapshot}
 use Rattle.host_journal.proofs.CallLemmas.{tells_on}
@@ -17,7 +18,7 @@ use Rattle.host_journal.proofs.RecordLemmas.{Exit}
 use Rattle.host_journal.proofs.StateLemmas.{Ready, ready}
 use Rattle.host_journal.proofs.TakenLemmas.{Fixed, fixed_sound}
 use Rattle.host_journal.proofs.ToldLemmas.{told_part, told_rest}
-use Rattle.host_journal.proofs.TurnLemmas.{Below, Holds, Either, close_images, close_moments, closed, rest_images, rest_moments, image_put, gate_images, holds_either, gate_moments, gate_opened, kept_since, kept_since_below, kept_stored, turned_each, turned_fixed, turned_counts, turned_durable, sound_closing, sound_closed, sound_held}
+use Rattle.host_journal.proofs.TurnLemmas.{Below, Holds, Either, close_images, close_moments, closed, rest_images, rest_moments, image_put, gate_images, holds_either, gate_moments, gate_opened, kept_since, kept_since_below, kept_adds, kept_adds_below, turned_adds, kept_stored, turned_each, turned_fixed, turned_counts, turned_durable, sound_closing, sound_closed, sound_held}
 
 -- the place of the gate behind an image
 image_end : (generation : ℕ) (image piece : List ℕ) (start : ℕ) → piece ≡ image_bytes generation image → start ≡ 8 + length piece → start ≡ gates_at image
@@ -35,7 +36,7 @@ module _ {D : Type 0} (seen : D → List ℕ) (may_leave : D → List ℕ → Ty
   was_ready = ready seen may_leave moment left_since reads_now only_now s (ap (λ (o : State D). is_ready o.pending) is ∙ ready_now) sound
 
   abbrev Leaves : State D → Type 0
-  Leaves now = Exit seen may_leave moment left_since old now (λ pair. (pair ≡ stored seen old) ⊎ (pair ≡ snapshot_of image old))
+  Leaves now = Exit seen may_leave moment left_since old now (λ pair. (pair ≡ stored seen old) ⊎ (pair ≡ snapshot_of image old)) (λ second d. LiesBeside (stored seen old) second d ⊎ Shows (snapshot_of image old) second d)
 
   abbrev kept_with : D → Bool → Pending → State D
   kept_with other shut pending = record { counting = s.counting; other = other; second = s.second; generation = s.generation; start = s.start; end = s.end; shut = shut; pending = pending; room = room }
@@ -57,6 +58,7 @@ module _ {D : Type 0} (seen : D → List ℕ) (may_leave : D → List ℕ → Ty
           now = kept_stored seen may_leave moment left_since reads_now only_now s was_ready image old is shut s.shut Unopened room
               (inl (aside_below s.second s.generation s.shut (seen shut) (now (seen shut) (reads_now shut))));
           since = kept_since_below seen may_leave moment left_since reads_now only_now s was_ready image old is shut s.shut Unopened room shut_moments;
+          adds = kept_adds_below seen may_leave moment left_since reads_now only_now s was_ready image old is shut s.shut Unopened room shut_moments;
         }
 
     module _ (wrote : seen shut ≡ written 8 (closing s.shut) (seen s.other)) (only : Only (seen shut) (may_leave shut)) (piece : List ℕ) (is_piece : piece ≡ image_bytes (s.generation + 1) image)
@@ -75,6 +77,7 @@ module _ {D : Type 0} (seen : D → List ℕ) (may_leave : D → List ℕ → Ty
             sound = sound_closed seen may_leave moment left_since reads_now only_now s was_ready image put room now;
             now = kept_stored seen may_leave moment left_since reads_now only_now s was_ready image old is put true Unopened room (inl (inl (now (seen put) (reads_now put))));
             since = kept_since_below seen may_leave moment left_since reads_now only_now s was_ready image old is put true Unopened room put_moments;
+            adds = kept_adds_below seen may_leave moment left_since reads_now only_now s was_ready image old is put true Unopened room put_moments;
           }
 
       module _ (fits : s.generation + 1 < 2 ^ 64) (small : length image < 2 ^ 32) (put_wrote : seen put ≡ written 9 piece (take 9 (seen shut))) (put_only : Only (seen put) (may_leave put))
@@ -99,6 +102,7 @@ module _ {D : Type 0} (seen : D → List ℕ) (may_leave : D → List ℕ → Ty
               now = kept_stored seen may_leave moment left_since reads_now only_now s was_ready image old is new true (Snapshot start) room
                   (holds_either seen may_leave moment left_since reads_now only_now s was_ready image put is_put put_only put_moments new (seen new) (now (seen new) (reads_now new)));
               since = kept_since seen may_leave moment left_since reads_now only_now s was_ready image old is new true (Snapshot start) room new_moments;
+              adds = kept_adds seen may_leave moment left_since reads_now only_now s was_ready image old is new true (Snapshot start) room new_moments;
             }
 
         module _ (new_wrote : seen new ≡ written 8 (1 ∷ []) (seen put)) (new_only : Only (seen new) (may_leave new)) (x y : D) (is_new : x ≡ new) (is_counting : y ≡ s.counting) where
@@ -121,6 +125,7 @@ module _ {D : Type 0} (seen : D → List ℕ) (may_leave : D → List ℕ → Ty
             sound = fixed_sound seen may_leave turned_now (image ∷ []) new_fixed refl;
             now = inr done_counts;
             since = turned_each seen may_leave moment left_since reads_now only_now s was_ready image old is new x y is_new is_counting start is_start room new_moments;
+            adds = turned_adds seen may_leave moment left_since reads_now only_now s was_ready image old is new x y is_new is_counting start is_start room new_moments;
           }
 
 -- The calls of a snapshot.
@@ -137,6 +142,12 @@ module _ {D : Type 0} (told : D → Option (List DiskCall)) (s old : State D) (i
   abbrev all_calls : State D → List DiskCall
   all_calls o = snapshot_calls o.shut (o.generation + 1) image
 
+  abbrev first_calls : State D → List DiskCall
+  first_calls o = closing_calls o.shut
+
+  abbrev rest_calls : State D → List DiskCall
+  rest_calls o = fill_calls (o.generation + 1) image
+
   first_of : (new : D) → TellsFirst (told s.other) (told new) (close_calls ++ (put_calls piece ++ open_calls)) → TellsFirst (told old.other) (told new) (all_calls old)
   first_of new first =
       subst (λ (o : State D). TellsFirst (told o.other) (told new) (all_calls o)) is
@@ -148,6 +159,22 @@ module _ {D : Type 0} (told : D → Option (List DiskCall)) (s old : State D) (i
   pub told_putting : (shut new : D) → TellsAll (told s.other) (told shut) close_calls → TellsFirst (told shut) (told new) (put_calls piece) → TellsFirst (told old.other) (told new) (all_calls old)
   told_putting shut new all first =
       first_of new (told_rest (told s.other) (told shut) (told new) close_calls (put_calls piece ++ open_calls) all (told_part (told shut) (told new) (put_calls piece) open_calls first))
+
+  -- after the first two calls
+  rest_of : (mid : Option (List DiskCall)) (new : D) → TellsAll (told s.other) mid close_calls → TellsFirst mid (told new) (put_calls piece ++ open_calls) → TellsBoth (told old.other) (told new) (first_calls old) (rest_calls old)
+  rest_of mid new all first =
+      subst (λ (o : State D). TellsBoth (told o.other) (told new) (first_calls o) (rest_calls o)) is
+      (mid, all, subst (λ (l : List ℕ). TellsFirst mid (told new) (put_calls l ++ open_calls)) is_piece first)
+
+  pub shut_closing : (new : D) → TellsFirst (told s.other) (told new) close_calls → TellsFirst (told old.other) (told new) (first_calls old)
+  shut_closing new first = subst (λ (o : State D). TellsFirst (told o.other) (told new) (first_calls o)) is first
+
+  pub shut_putting : (shut new : D) → TellsAll (told s.other) (told shut) close_calls → TellsFirst (told shut) (told new) (put_calls piece) → TellsBoth (told old.other) (told new) (first_calls old) (rest_calls old)
+  shut_putting shut new all first = rest_of (told shut) new all (told_part (told shut) (told new) (put_calls piece) open_calls first)
+
+  pub shut_opening : (shut put new : D) → TellsAll (told s.other) (told shut) close_calls → TellsAll (told shut) (told put) (put_calls piece) → TellsFirst (told put) (told new) open_calls
+      → TellsBoth (told old.other) (told new) (first_calls old) (rest_calls old)
+  shut_opening shut put new all more first = rest_of (told shut) new all (told_rest (told shut) (told put) (told new) (put_calls piece) open_calls more first)
 
   pub told_opening : (shut put new : D) → TellsAll (told s.other) (told shut) close_calls → TellsAll (told shut) (told put) (put_calls piece) → TellsFirst (told put) (told new) open_calls
       → TellsFirst (told old.other) (told new) (all_calls old)

@@ -2,15 +2,17 @@
 use Rattle.std.proofs.Common.{◌≡◌, ◌⊎◌, inl, inr, ⊎_elim, ℕ, ◌+◌, ◌<◌, ◌^◌, Bool, true, false, not, if◌then◌else◌, List, [], ◌∷◌, length, take, Result, refl, sym, ◌∙◌, ap, subst}
 use Rattle.ps_disks.specs.Disk.{written, Torn, Follows, Only, LeavesOnly}
 use Rattle.host_journal.specs.Calls.{PartAfter, KeepsHead}
+use Rattle.host_journal.specs.Moments.{Shows, LiesBeside, AddsOnly, Adds}
 use Rattle.host_journal.specs.Pair.{gates_at, pair_of}
 use Rattle.host_journal.specs.State.{State, pair_in, stored, snapshot_of, image_bytes, closing, EachImage, EachSince, IsClosed, IsAside, IsBelow, IsWhole, IsImage, IsSound}
 use Rattle.host_journal.specs.declared.pending.Pending.{Pending}
 use Rattle.host_journal.specs.declared.pending.Pending.TheVariants.{Nothing, Unopened, Snapshot}
 use Rattle.host_journal.specs.declared.reading.Counted.{Counted}
-use Rattle.host_journal.specs.declared.reading.Place.{Place}
+use Rattle.host_journal.specs.declared.reading.DiskPlace.{DiskPlace}
+use Rattle.host_journal.proofs.AddsLemmas.{leaves_adds, adds_other, adds_turned, adds_of}
 use Rattle.host_journal.proofs.CallLemmas.{leaves_on, leaves_more}
 use Rattle.host_journal.proofs.HeadLemmas.{aside_below}
-use Rattle.host_journal.proofs.PairLemmas.{counts_as, pair_whole}
+use Rattle.host_journal.proofs.PairLemmas.{counts_as, pair_whole, whole_shows}
 use Rattle.host_journal.proofs.SnapshotLemmas.{close_torn, close_written, kept_closed, image_written, image_torn, image_either, image_opened, older_now}
 use Rattle.host_journal.proofs.StateLemmas.{stored_in, Since_of, since_in, Ready, stored_is}
 use Rattle.host_journal.proofs.TakenLemmas.{Fixed, fixed_counts, fixed_durable}
@@ -19,13 +21,17 @@ pub turned_in : (second : Bool) (c d : List ℕ) → pair_in second c d ≡ pair
 turned_in false c d = refl
 turned_in true c d = refl
 
+not_twice : (s : Bool) → s ≡ not (not s)
+not_twice false = refl
+not_twice true = refl
+
 -- the disks have changed places
-abbrev Turned_of : {D : Type 0} → (D → ℕ) → (D → ℕ → List ℕ → Type 0) → Bool → D → D → D → D → (Result Counted Place → Type 0) → Type 0
+abbrev Turned_of : {D : Type 0} → (D → ℕ) → (D → ℕ → List ℕ → Type 0) → Bool → D → D → D → D → (Result Counted DiskPlace → Type 0) → Type 0
 Turned_of moment left_since second counting other counting_new other_new P =
     (c d : List ℕ) → left_since (if not second then counting_new else other_new) (moment (if second then other else counting)) c
     → left_since (if not second then other_new else counting_new) (moment (if second then counting else other)) d → P (pair_of c d)
 
-turned_since : {D : Type 0} (moment : D → ℕ) (left_since : D → ℕ → List ℕ → Type 0) (second : Bool) (counting other counting_new other_new : D) (P : Result Counted Place → Type 0)
+turned_since : {D : Type 0} (moment : D → ℕ) (left_since : D → ℕ → List ℕ → Type 0) (second : Bool) (counting other counting_new other_new : D) (P : Result Counted DiskPlace → Type 0)
     → Since_of moment left_since second counting other counting_new other_new P → Turned_of moment left_since second counting other counting_new other_new P
 turned_since moment left_since false counting other counting_new other_new P each = each
 turned_since moment left_since true counting other counting_new other_new P each = each
@@ -102,7 +108,7 @@ module _ {D : Type 0} (seen : D → List ℕ) (may_leave : D → List ℕ → Ty
 
   -- What the two stand for.
   module _ (old : State D) (is : s ≡ old) where
-    abbrev pub OneOrOther : Result Counted Place → Type 0
+    abbrev pub OneOrOther : Result Counted DiskPlace → Type 0
     OneOrOther pair = (pair ≡ stored seen old) ⊎ (pair ≡ snapshot_of image old)
 
     below_pair : (c d : List ℕ) → may_leave s.counting c → Below d → pair_in s.second c d ≡ stored seen old
@@ -126,6 +132,18 @@ module _ {D : Type 0} (seen : D → List ℕ) (may_leave : D → List ℕ → Ty
         since_in moment left_since s.second s.counting s.other s.counting new OneOrOther
         (λ c d left left_other. either_pair c d (only_now s.counting c left) (moments.each d left_other))
 
+    -- What is new.
+    abbrev pub Added : State D → Bool → List ℕ → Type 0
+    Added o second d = LiesBeside (stored seen o) second d ⊎ Shows (snapshot_of image o) second d
+
+    either_added : (d : List ℕ) → Either d → Added s (not s.second) d
+    either_added d (inl below) =
+        inl (subst (λ (p : Result Counted DiskPlace). LiesBeside p (not s.second) d) (sym (stored_is seen may_leave moment left_since reads_now only_now s at)) (not_twice s.second, below))
+    either_added d (inr counts) = inr (whole_shows (not s.second) (s.generation + 1) (gates_at image) (gates_at image) (image ∷ []) d counts)
+
+    added_by : (new : D) → LeavesOnly moment left_since s.other new Either → AddsOnly moment left_since s.other new (Added s (not s.second))
+    added_by new moments = leaves_adds moment left_since s.other new Either (Added s (not s.second)) moments either_added
+
     -- The disk that counts stays the same.
     module _ (other : D) (shut : Bool) (pending : Pending) (room : ℕ) where
       abbrev kept : State D
@@ -133,6 +151,14 @@ module _ {D : Type 0} (seen : D → List ℕ) (may_leave : D → List ℕ → Ty
 
       pub kept_since : LeavesOnly moment left_since s.other other Either → EachSince moment left_since old kept OneOrOther
       kept_since moments = subst (λ (o : State D). EachSince moment left_since o kept OneOrOther) is (each_since other moments)
+
+      pub kept_adds : LeavesOnly moment left_since s.other other Either → Adds moment left_since old kept (Added old)
+      kept_adds moments =
+          subst (λ (o : State D). Adds moment left_since o kept (Added o)) is
+          (adds_of moment left_since s kept (Added s) (adds_other moment left_since s.second s.counting s.other other (Added s) (added_by other moments)))
+
+      pub kept_adds_below : LeavesOnly moment left_since s.other other Below → Adds moment left_since old kept (Added old)
+      kept_adds_below moments = kept_adds (leaves_more moment left_since s.other other Below Either moments (λ c below. inl below))
 
       pub kept_since_below : LeavesOnly moment left_since s.other other Below → EachSince moment left_since old kept OneOrOther
       kept_since_below moments = kept_since (leaves_more moment left_since s.other other Below Either moments (λ c below. inl below))
@@ -155,6 +181,13 @@ module _ {D : Type 0} (seen : D → List ℕ) (may_leave : D → List ℕ → Ty
           moved (λ (now : State D). EachSince moment left_since old now OneOrOther)
           (subst (λ (o : State D). EachSince moment left_since o (turned new s.counting) OneOrOther) is
           (turned_since moment left_since s.second s.counting s.other s.counting new OneOrOther (each_since new moments)))
+
+      pub turned_adds : LeavesOnly moment left_since s.other new Either → Adds moment left_since old (turned x y) (Added old)
+      turned_adds moments =
+          moved (λ (now : State D). Adds moment left_since old now (Added old))
+          (subst (λ (o : State D). Adds moment left_since o (turned new s.counting) (Added o)) is
+          (adds_of moment left_since s (turned new s.counting) (Added s)
+          (adds_turned moment left_since s.second s.counting s.other s.counting new (Added s) (adds_other moment left_since s.second s.counting s.other new (Added s) (added_by new moments)))))
 
       pub turned_fixed : Counts (seen new) → Only (seen new) (may_leave new) → Fixed seen may_leave (turned x y) (image ∷ [])
       turned_fixed counts only = moved (λ (now : State D). Fixed seen may_leave now (image ∷ [])) (record {

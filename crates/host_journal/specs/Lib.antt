@@ -1,5 +1,8 @@
 pub mod Calls
 pub mod Format
+pub mod Front
+pub mod Image
+pub mod Moments
 pub mod Pair
 pub mod Reading
 pub mod Reload

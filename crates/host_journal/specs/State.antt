@@ -7,7 +7,7 @@ use Rattle.ps_disks.specs.declared.disk.DiskCall.TheVariants.{Write, Cut, Sync}
 use Rattle.host_journal.specs.Format.{magic, agreeing, stands, Body, body_of, record_bytes, records_of, joined}
 use Rattle.host_journal.specs.Pair.{gates_at, pair_of}
 use Rattle.host_journal.specs.declared.reading.Counted.{Counted}
-use Rattle.host_journal.specs.declared.reading.Place.{Place}
+use Rattle.host_journal.specs.declared.reading.DiskPlace.{DiskPlace}
 use Rattle.host_journal.specs.declared.pending.Pending.{Pending}
 use Rattle.host_journal.specs.declared.pending.Pending.TheVariants.{Nothing, Unopened, Record, Snapshot}
 
@@ -32,7 +32,7 @@ is_ready (Record end) = false
 is_ready (Snapshot start) = false
 
 -- what the disk that counts and the other stand for, in the order of the pair
-abbrev pub pair_in : Bool → List ℕ → List ℕ → Result Counted Place
+abbrev pub pair_in : Bool → List ℕ → List ℕ → Result Counted DiskPlace
 pair_in false counting other = pair_of counting other
 pair_in true counting other = pair_of other counting
 
@@ -43,30 +43,30 @@ abbrev pub second_disk : {D : Type 0} → State D → D
 second_disk s = if s.second then s.counting else s.other
 
 -- what the disks stand for as they read
-abbrev pub stored : {D : Type 0} → (D → List ℕ) → State D → Result Counted Place
+abbrev pub stored : {D : Type 0} → (D → List ℕ) → State D → Result Counted DiskPlace
 stored seen s = pair_of (seen (first_disk s)) (seen (second_disk s))
 
 -- with one more record
-abbrev pub with_record : List ℕ → Result Counted Place → Result Counted Place
+abbrev pub with_record : List ℕ → Result Counted DiskPlace → Result Counted DiskPlace
 with_record payload (Ok k) = Ok (record { second = k.second; generation = k.generation; start = k.start; end = k.end + 5 + length payload; list = k.list ++ payload ∷ [] })
 with_record payload (Err place) = Err place
 
 -- whatever a crash leaves now of the first disk and of the second, what the two stand for has P
-abbrev pub EachImage : {D : Type 0} → (D → List ℕ → Type 0) → State D → (Result Counted Place → Type 0) → Type 0
+abbrev pub EachImage : {D : Type 0} → (D → List ℕ → Type 0) → State D → (Result Counted DiskPlace → Type 0) → Type 0
 EachImage may_leave s P = (c d : List ℕ) → may_leave (first_disk s) c → may_leave (second_disk s) d → P (pair_of c d)
 
 -- the same of what a crash at any moment since then might have left, each disk at a moment of its own
-abbrev pub EachSince : {D : Type 0} → (D → ℕ) → (D → ℕ → List ℕ → Type 0) → State D → State D → (Result Counted Place → Type 0) → Type 0
+abbrev pub EachSince : {D : Type 0} → (D → ℕ) → (D → ℕ → List ℕ → Type 0) → State D → State D → (Result Counted DiskPlace → Type 0) → Type 0
 EachSince moment left_since old new P =
     (c d : List ℕ) → left_since (first_disk new) (moment (first_disk old)) c → left_since (second_disk new) (moment (second_disk old)) d → P (pair_of c d)
 
 -- what the disks stand for is where the journal is
-abbrev pub IsAt : {D : Type 0} → State D → Result Counted Place → Type 0
+abbrev pub IsAt : {D : Type 0} → State D → Result Counted DiskPlace → Type 0
 IsAt s (Ok k) = (k.second ≡ s.second) × (k.generation ≡ s.generation) × (k.start ≡ s.start) × (k.end ≡ s.end)
 IsAt s (Err place) = ⊥
 
 -- one of ours: two disks that stand for something
-abbrev pub IsOurs : Result Counted Place → Type 0
+abbrev pub IsOurs : Result Counted DiskPlace → Type 0
 IsOurs pair = (k : Counted) × (pair ≡ Ok k)
 
 -- a disk that stands, with this generation and this list: a snapshot, and then records
@@ -217,11 +217,11 @@ abbrev pub append_calls : ℕ → List ℕ → List DiskCall
 append_calls end payload = Write (end + 1) (to_be_bytes w32 (length payload) ++ (payload ++ 0 ∷ [])) ∷ Sync ∷ Write end (1 ∷ []) ∷ Sync ∷ []
 
 -- what `open` found
-abbrev pub opened_as : {D : Type 0} → State D → List (List ℕ) → Result Counted Place
+abbrev pub opened_as : {D : Type 0} → State D → List (List ℕ) → Result Counted DiskPlace
 opened_as s list = Ok (record { second = s.second; generation = s.generation; start = s.start; end = s.end; list = list })
 
 -- the record of a failed `append` stands
-abbrev pub has_record : Pending → Result Counted Place → Bool
+abbrev pub has_record : Pending → Result Counted DiskPlace → Bool
 has_record (Record next) (Ok k) = k.end == next
 has_record (Record next) (Err place) = false
 has_record Nothing pair = false
@@ -229,11 +229,11 @@ has_record Unopened pair = false
 has_record (Snapshot start) pair = false
 
 -- what the disks stand for with this record, where it stands, or without it
-abbrev pub which : List ℕ → Bool → Result Counted Place → Result Counted Place
+abbrev pub which : List ℕ → Bool → Result Counted DiskPlace → Result Counted DiskPlace
 which payload stood before = if stood then with_record payload before else before
 
 -- after a snapshot: the other disk, of the next generation, with it and no record
-abbrev pub snapshot_of : {D : Type 0} → List ℕ → State D → Result Counted Place
+abbrev pub snapshot_of : {D : Type 0} → List ℕ → State D → Result Counted DiskPlace
 snapshot_of image s = Ok (record { second = not s.second; generation = s.generation + 1; start = gates_at image; end = gates_at image; list = image ∷ [] })
 
 -- the bytes behind a head gate
@@ -244,7 +244,13 @@ image_bytes generation image = to_be_bytes w64 generation ++ (to_be_bytes w32 (l
 abbrev pub closing : Bool → List ℕ
 closing shut = if shut then [] else 0 ∷ []
 
+-- the first two calls of a snapshot, and the other five
+abbrev pub close_calls : Bool → List DiskCall
+close_calls shut = Write 8 (closing shut) ∷ Sync ∷ []
+
+abbrev pub fill_calls : ℕ → List ℕ → List DiskCall
+fill_calls generation image = Cut 9 ∷ Write 9 (image_bytes generation image) ∷ Sync ∷ Write 8 (1 ∷ []) ∷ Sync ∷ []
+
 -- the seven calls of a snapshot
 abbrev pub snapshot_calls : Bool → ℕ → List ℕ → List DiskCall
-snapshot_calls shut generation image =
-    Write 8 (closing shut) ∷ Sync ∷ Cut 9 ∷ Write 9 (image_bytes generation image) ∷ Sync ∷ Write 8 (1 ∷ []) ∷ Sync ∷ []
+snapshot_calls shut generation image = close_calls shut ++ fill_calls generation image

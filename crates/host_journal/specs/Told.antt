@@ -11,6 +11,10 @@ TellsAll old now made = IfSome now (λ calls. (before : List DiskCall) × (old �
 abbrev pub TellsFirst : Option (List DiskCall) → Option (List DiskCall) → List DiskCall → Type 0
 TellsFirst old now made = (n : ℕ) × (1 ≤ n) × (n ≤ length made) × TellsAll old now (take n made)
 
+-- all of the first run, and of the second some, up to the one that failed
+abbrev pub TellsBoth : Option (List DiskCall) → Option (List DiskCall) → List DiskCall → List DiskCall → Type 0
+TellsBoth old now all some = (mid : Option (List DiskCall)) × TellsAll old mid all × TellsFirst mid now some
+
 -- of two disks one was synced, and then the other, or not that one
 abbrev pub TellsSyncs : {D : Type 0} → (D → Option (List DiskCall)) → D → D → D → D → Type 0
 TellsSyncs told one other one_new other_new =

@@ -3,6 +3,7 @@ ghost use Rattle.std.specs.Prelude.{◌≡◌, ◌⊎◌, ◌+◌, ◌≤◌, �
 ghost use Rattle.std.specs.Int.{w32, to_be_bytes};
 ghost use Rattle.ps_ports.specs.Causes.{Rose};
 ghost use Rattle.ps_disks.specs.declared.disk.DiskCall.TheVariants.{Cut, Sync};
+ghost use Rattle.host_journal.specs.Moments.{Adds, Shows};
 ghost use Rattle.host_journal.specs.State.{is_ready, stored, with_record, EachImage, EachSince, KeepsPlace, append_calls, which, has_record};
 ghost use Rattle.host_journal.specs.Told.{TellsAll, TellsFirst};
 
@@ -21,6 +22,9 @@ impl<D: Disk> Journal<D> {
         ensures appended { D.premise → OnOk result (stored D.seen self.new ≡ with_record payload.now (stored D.seen self.old)) }
         ensures durable { D.premise → OnOk result (EachImage D.may_leave self.new (λ pair. pair ≡ stored D.seen self.new)) }
         ensures any_moment { D.premise → EachSince D.moment D.left_since self.old self.new (λ pair. (pair ≡ stored D.seen self.old) ⊎ (pair ≡ with_record payload.now (stored D.seen self.old))) }
+        // What an outer run joins with the calls before it.
+        ensures adds { D.premise → Adds D.moment D.left_since self.old self.new (λ second c. Shows (stored D.seen self.old) second c ⊎ Shows (with_record payload.now (stored D.seen self.old)) second c) }
+        ensures left { D.premise → OnErr result (EachImage D.may_leave self.new (λ pair. (pair ≡ stored D.seen self.old) ⊎ (pair ≡ with_record payload.now (stored D.seen self.old)))) }
         ensures whole_or_not { D.premise → (stored D.seen self.new ≡ stored D.seen self.old) ⊎ (stored D.seen self.new ≡ with_record payload.now (stored D.seen self.old)) }
         // After a fault the record stands exactly where `reload` is to answer so.
         ensures which { D.premise → OnErr result (stored D.seen self.new ≡ which payload.now (has_record self.new.pending (stored D.seen self.new)) (stored D.seen self.old)) }
@@ -52,12 +56,16 @@ impl<D: Disk> Journal<D> {
         ensures same { D.premise → stored D.seen self.new ≡ stored D.seen self.old }
         ensures durable { D.premise → OnOk result (EachImage D.may_leave self.new (λ pair. pair ≡ stored D.seen self.old)) }
         ensures any_moment { D.premise → EachSince D.moment D.left_since self.old self.new (λ pair. pair ≡ stored D.seen self.old) }
+        ensures adds { D.premise → Adds D.moment D.left_since self.old self.new (Shows (stored D.seen self.old)) }
+        ensures left { D.premise → OnErr result (EachImage D.may_leave self.new (λ pair. pair ≡ stored D.seen self.old)) }
         ensures cut { D.premise → OnOk result (length (D.seen self.new.counting) ≡ self.new.end + 1) }
         ensures other { self.new.other ≡ self.old.other }
         ensures kept { KeepsPlace self.old self.new }
         ensures end { self.new.end ≡ self.old.end }
         ensures ready { OnOk result (IsTrue (is_ready self.new.pending)) }
         ensures failed { OnErr result (is_ready self.new.pending ≡ false) }
+        // So `reload` never answers that a record stands.
+        ensures no_record { OnErr result ((pair : _) → has_record self.new.pending pair ≡ false) }
         ensures told { OnOk result (TellsAll (D.told self.old.counting) (D.told self.new.counting) (Cut (self.old.end + 1) ∷ Sync ∷ [])) }
         ensures told_first { OnErr result (TellsFirst (D.told self.old.counting) (D.told self.new.counting) (Cut (self.old.end + 1) ∷ Sync ∷ [])) }
         ensures later { D.disk_faults self.old.counting ≤ D.disk_faults self.new.counting }

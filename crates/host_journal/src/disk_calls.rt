@@ -73,7 +73,7 @@ pub fn read_whole<D: Disk>(alloc: Global, disk: &mut D) -> Result<Vec<u8>, OpenR
     ensures read { D.premise → IsRead D.seen D.may_leave D.moment D.left_since disk.old disk.new }
     ensures told { TellsAll (D.told disk.old) (D.told disk.new) (Sync ∷ []) }
     ensures later { D.disk_faults disk.old ≤ D.disk_faults disk.new }
-    ensures calm { OnOk result (D.disk_faults disk.new ≡ D.disk_faults disk.old) }
+    ensures calm { (IsErrOf result OpenReason.DiskFault → ⊥) → D.disk_faults disk.new ≡ D.disk_faults disk.old }
     ensures cause { IsErrOf result OpenReason.DiskFault → Rose (D.disk_faults disk.old) (D.disk_faults disk.new) }
     ensures journal { (place : _) → IsErrOf result (OpenReason.NotAJournal place) → ⊥ }
 {
@@ -83,18 +83,43 @@ pub fn read_whole<D: Disk>(alloc: Global, disk: &mut D) -> Result<Vec<u8>, OpenR
     read_rest(alloc, disk)
 }
 
-// All the bytes.
-fn read_rest<D: Disk>(alloc: Global, disk: &mut D) -> Result<Vec<u8>, OpenReason>
-    ensures bytes { D.premise → IfOk result (λ bytes. bytes.items ≡ D.seen disk.old) }
+// How many bytes there are to read. Nothing stands on it but how much memory is asked for.
+fn measure<D: Disk>(disk: &mut D) -> Result<usize, DiskFault>
     ensures read { D.premise → IsRead D.seen D.may_leave D.moment D.left_since disk.old disk.new }
     ensures told { D.told disk.new ≡ D.told disk.old }
     ensures later { D.disk_faults disk.old ≤ D.disk_faults disk.new }
     ensures calm { OnOk result (D.disk_faults disk.new ≡ D.disk_faults disk.old) }
+    ensures cause { OnErr result (Rose (D.disk_faults disk.old) (D.disk_faults disk.new)) }
+{
+    let mut len = 0usize;
+    let mut buf = [0; 65536];
+    loop {
+        let count = disk.read(len as u64, &mut buf)?;
+        if count == 0 {
+            return Ok(len);
+        }
+        let Some(next) = len.checked_add(count) else {
+            return Ok(len);
+        };
+        len = next;
+    }
+}
+
+/// All the bytes, in a buffer of their length.
+pub fn read_rest<D: Disk>(alloc: Global, disk: &mut D) -> Result<Vec<u8>, OpenReason>
+    ensures bytes { D.premise → IfOk result (λ bytes. bytes.items ≡ D.seen disk.old) }
+    ensures read { D.premise → IsRead D.seen D.may_leave D.moment D.left_since disk.old disk.new }
+    ensures told { D.told disk.new ≡ D.told disk.old }
+    ensures later { D.disk_faults disk.old ≤ D.disk_faults disk.new }
+    ensures calm { (IsErrOf result OpenReason.DiskFault → ⊥) → D.disk_faults disk.new ≡ D.disk_faults disk.old }
     ensures cause { IsErrOf result OpenReason.DiskFault → Rose (D.disk_faults disk.old) (D.disk_faults disk.new) }
     ensures journal { (place : _) → IsErrOf result (OpenReason.NotAJournal place) → ⊥ }
 {
-    let mut all = Vec::new(alloc);
-    let mut buf = [0; 4096];
+    let len = measure(disk)?;
+    let Ok(mut all) = Vec::with_capacity(alloc, len) else {
+        return Err(OpenReason::Memory);
+    };
+    let mut buf = [0; 65536];
     loop {
         let Ok(count) = disk.read(all.len() as u64, &mut buf) else {
             return Err(OpenReason::DiskFault);

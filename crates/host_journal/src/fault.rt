@@ -1,6 +1,6 @@
 //! Why a call on a journal failed.
 
-use crate::reading::Place;
+use crate::reading::DiskPlace;
 use ps_disks::disk::Disk;
 use ps_ports::fault::Failed;
 use ps_time::memory::Memory;
@@ -19,7 +19,7 @@ impl From<Failed> for DiskFault {
 #[derive(Clone, Copy, PartialEq, Eq)]
 pub enum OpenReason {
     /// The disks are no journal at that place.
-    NotAJournal(Place),
+    NotAJournal(DiskPlace),
     /// A call of a disk failed.
     DiskFault,
     Memory,
@@ -32,6 +32,17 @@ impl From<Failed> for OpenReason {
     ghost from_gives = { λ _ fault. fault ≡ disk_fault };
 
     fn from(_fault: Failed) -> OpenReason {
+        OpenReason::DiskFault
+    }
+}
+
+impl From<DiskFault> for OpenReason {
+    ghost use Rattle.host_journal.specs.declared.fault.OpenReason.TheVariants.{DiskFault as disk_fault};
+    ghost use Rattle.std.specs.Prelude.{◌≡◌};
+
+    ghost from_gives = { λ _ fault. fault ≡ disk_fault };
+
+    fn from(_fault: DiskFault) -> OpenReason {
         OpenReason::DiskFault
     }
 }

@@ -1,19 +1,20 @@
 //! A journal on two disks.
-ghost use Rattle.std.specs.Prelude.{◌≡◌, ◌⊎◌, ◌+◌, ◌-◌, ◌≤◌, ◌<◌, ◌^◌, not, if◌then◌else◌, IsTrue, Ok, Err, length, IfOk, IfErr, OnOk, OnErr, IsErrOf, ◌∷◌, []};
+ghost use Rattle.std.specs.Prelude.{◌≡◌, ◌⊎◌, ◌+◌, ◌-◌, ◌≤◌, ◌<◌, ◌^◌, ℕ, not, if◌then◌else◌, IsTrue, Ok, Err, length, take, IfOk, IfErr, OnOk, OnErr, IsErrOf, ◌∷◌, []};
 ghost use Rattle.ps_ports.specs.Causes.{Rose};
 ghost use Rattle.ps_disks.specs.Disk.{Only};
 ghost use Rattle.ps_disks.specs.MemoryDisk.{armed, armed_number};
 ghost use Rattle.ps_disks.specs.declared.disk.DiskCall.TheVariants.{Sync};
 ghost use Rattle.host_journal.specs.Calls.{IsRead};
-ghost use Rattle.host_journal.specs.Format.{stands};
-ghost use Rattle.host_journal.specs.Pair.{pair_of};
+ghost use Rattle.host_journal.specs.Format.{record_bytes, stands};
+ghost use Rattle.host_journal.specs.Front.{IsFrontOf};
+ghost use Rattle.host_journal.specs.Pair.{AreGatesOf, number_of, pair_of};
 ghost use Rattle.host_journal.specs.State.{is_ready, stored, opened_as, EachImage, IsAt, IsOurs, SameButRoom, first_disk, second_disk};
 ghost use Rattle.host_journal.specs.Told.{TellsAll, TellsSyncs};
 
-use crate::disk_calls::read_whole;
+use crate::disk_calls::{read_rest, read_whole};
 use crate::fault::{OpenFault, OpenReason};
 use crate::pending::Pending;
-use crate::reading::{Counted, is_standing, read_pair};
+use crate::reading::{Counted, Front, SNAPSHOT_AT, choose, disk_number, front_of, read_one};
 use ps_disks::disk::Disk;
 use ps_disks::memory_disk::MemoryDisk;
 use ps_time::items::Items;
@@ -76,6 +77,10 @@ impl<D: Disk> Journal<D> {
         ensures stored { D.premise → IfOk result (λ r. stored D.seen r.0 ≡ pair_of (D.seen first) (D.seen second)) }
         ensures durable { D.premise → IfOk result (λ r. EachImage D.may_leave r.0 (λ pair. pair ≡ pair_of (D.seen first) (D.seen second))) }
         ensures ready { IfOk result (λ r. IsTrue (is_ready r.0.pending)) }
+        ensures gates { IfOk result (λ r. AreGatesOf r.1 r.0.start r.0.end) }
+        // Where `item_place` may be asked.
+        ensures places { IfOk result (λ r. (n : ℕ) → n < length r.1 → 21 + record_bytes (take n r.1) < 2 ^ 64) }
+        ensures shut { D.premise → IfOk result (λ r. r.0.shut ≡ not (stands (if r.0.second then D.seen first else D.seen second))) }
         ensures room { IfOk result (λ r. r.0.room ≡ 0) }
 
         // Until it is done, and where it isn't, each image is one that a crash could have left before.
@@ -93,6 +98,7 @@ impl<D: Disk> Journal<D> {
         ensures place { D.premise → IfErr result (λ f. (place : _) → f.reason ≡ OpenReason.NotAJournal place → pair_of (D.seen first) (D.seen second) ≡ Err place) }
         ensures fault { IfErr result (λ f. f.reason ≡ OpenReason.DiskFault → Rose (D.disk_faults first) (D.disk_faults f.first) ⊎ Rose (D.disk_faults second) (D.disk_faults f.second)) }
         ensures later { IfErr result (λ f. (D.disk_faults first ≤ D.disk_faults f.first) × (D.disk_faults second ≤ D.disk_faults f.second)) }
+        ensures calm_err { IfErr result (λ f. (f.reason ≡ OpenReason.DiskFault → ⊥) → (D.disk_faults f.first ≡ D.disk_faults first) × (D.disk_faults f.second ≡ D.disk_faults second)) }
         ensures calm { IfOk result (λ r. (D.disk_faults (first_disk r.0) ≡ D.disk_faults first) × (D.disk_faults (second_disk r.0) ≡ D.disk_faults second)) }
     {
         let mut first = first;
@@ -165,6 +171,20 @@ impl<D: Disk> Journal<D> {
         self.end - self.start
     }
 
+    /// The bytes of the snapshot.
+    pub fn snapshot_bytes(&self) -> u64
+        ensures { result ≡ self.now.start - 21 }
+    {
+        self.start.saturating_sub(SNAPSHOT_AT)
+    }
+
+    /// Which disk counts: 1 or 2.
+    pub fn counting_disk(&self) -> u8
+        ensures { result ≡ number_of self.now.second }
+    {
+        disk_number(self.second)
+    }
+
     /// The generation of the disk that counts.
     pub fn generation(&self) -> u64
         ensures { result ≡ self.now.generation }
@@ -214,6 +234,7 @@ fn read_disks<D: Disk>(
     ensures pair { D.premise → IfOk result (λ r. pair_of (D.seen first.old) (D.seen second.old) ≡ Ok r.0) }
     ensures shut { D.premise → IfOk result (λ r. r.1 ≡ not (stands (if r.0.second then D.seen first.old else D.seen second.old))) }
     ensures bound { IfOk result (λ r. (r.0.end + 1 < 2 ^ 64) × (r.0.start ≤ r.0.end)) }
+    ensures gates { IfOk result (λ r. AreGatesOf r.0.list r.0.start r.0.end) }
     ensures fixed { D.premise → OnOk result (Only (D.seen first.new) (D.may_leave first.new) × Only (D.seen second.new) (D.may_leave second.new)) }
     ensures read_first { D.premise → IsRead D.seen D.may_leave D.moment D.left_since first.old first.new }
     ensures read_second { D.premise → IsRead D.seen D.may_leave D.moment D.left_since second.old second.new }
@@ -224,20 +245,65 @@ fn read_disks<D: Disk>(
     ensures fault { IsErrOf result OpenReason.DiskFault → Rose (D.disk_faults first.old) (D.disk_faults first.new) ⊎ Rose (D.disk_faults second.old) (D.disk_faults second.new) }
     ensures later_first { D.disk_faults first.old ≤ D.disk_faults first.new }
     ensures later_second { D.disk_faults second.old ≤ D.disk_faults second.new }
-    ensures calm { OnOk result ((D.disk_faults first.new ≡ D.disk_faults first.old) × (D.disk_faults second.new ≡ D.disk_faults second.old)) }
+    ensures calm { (IsErrOf result OpenReason.DiskFault → ⊥) → (D.disk_faults first.new ≡ D.disk_faults first.old) × (D.disk_faults second.new ≡ D.disk_faults second.old) }
 {
-    let one = read_whole(alloc, first)?;
-    let two = read_whole(alloc, second)?;
-    let counted = match read_pair(alloc, &one, &two)? {
+    let one = read_front(alloc, false, first)?;
+    let two = read_front(alloc, true, second)?;
+    let is_second = match choose(one, two) {
+        Ok(is_second) => is_second,
+        Err(at) => return Err(OpenReason::NotAJournal(at)),
+    };
+    let bytes = read_either(alloc, is_second, first, second)?;
+    let counted = match read_one(alloc, is_second, &bytes)? {
         Ok(counted) => counted,
         Err(place) => return Err(OpenReason::NotAJournal(place)),
     };
     let stands = if counted.second {
-        is_standing(&one)
+        one.is_open()
     } else {
-        is_standing(&two)
+        two.is_open()
     };
     Ok((counted, !stands))
+}
+
+// Makes sure of a disk, and looks at it.
+fn read_front<D: Disk>(alloc: Global, second: bool, disk: &mut D) -> Result<Front, OpenReason>
+    ensures front { D.premise → IfOk result (λ front. IsFrontOf second (D.seen disk.old) front) }
+    ensures fixed { D.premise → OnOk result (Only (D.seen disk.old) (D.may_leave disk.new)) }
+    ensures read { D.premise → IsRead D.seen D.may_leave D.moment D.left_since disk.old disk.new }
+    ensures told { TellsAll (D.told disk.old) (D.told disk.new) (Sync ∷ []) }
+    ensures later { D.disk_faults disk.old ≤ D.disk_faults disk.new }
+    ensures calm { (IsErrOf result OpenReason.DiskFault → ⊥) → D.disk_faults disk.new ≡ D.disk_faults disk.old }
+    ensures cause { IsErrOf result OpenReason.DiskFault → Rose (D.disk_faults disk.old) (D.disk_faults disk.new) }
+    ensures journal { (place : _) → IsErrOf result (OpenReason.NotAJournal place) → ⊥ }
+{
+    let bytes = read_whole(alloc, disk)?;
+    Ok(front_of(second, &bytes))
+}
+
+// All the bytes of one of two disks.
+fn read_either<D: Disk>(
+    alloc: Global,
+    is_second: bool,
+    first: &mut D,
+    second: &mut D,
+) -> Result<Vec<u8>, OpenReason>
+    ensures bytes { D.premise → IfOk result (λ bytes. bytes.items ≡ (if is_second then D.seen second.old else D.seen first.old)) }
+    ensures read_first { D.premise → IsRead D.seen D.may_leave D.moment D.left_since first.old first.new }
+    ensures read_second { D.premise → IsRead D.seen D.may_leave D.moment D.left_since second.old second.new }
+    ensures told_first { D.told first.new ≡ D.told first.old }
+    ensures told_second { D.told second.new ≡ D.told second.old }
+    ensures later_first { D.disk_faults first.old ≤ D.disk_faults first.new }
+    ensures later_second { D.disk_faults second.old ≤ D.disk_faults second.new }
+    ensures calm { (IsErrOf result OpenReason.DiskFault → ⊥) → (D.disk_faults first.new ≡ D.disk_faults first.old) × (D.disk_faults second.new ≡ D.disk_faults second.old) }
+    ensures fault { IsErrOf result OpenReason.DiskFault → Rose (D.disk_faults first.old) (D.disk_faults first.new) ⊎ Rose (D.disk_faults second.old) (D.disk_faults second.new) }
+    ensures journal { (place : _) → IsErrOf result (OpenReason.NotAJournal place) → ⊥ }
+{
+    if is_second {
+        read_rest(alloc, second)
+    } else {
+        read_rest(alloc, first)
+    }
 }
 
 impl Journal<MemoryDisk> {
@@ -246,6 +312,9 @@ impl Journal<MemoryDisk> {
         ensures counting { self.new.counting ≡ armed self.old.counting (armed_number call) }
         ensures other { self.new.other ≡ armed self.old.other (armed_number call) }
         ensures second { self.new.second ≡ self.old.second }
+        ensures generation { self.new.generation ≡ self.old.generation }
+        ensures start { self.new.start ≡ self.old.start }
+        ensures shut { self.new.shut ≡ self.old.shut }
         ensures end { self.new.end ≡ self.old.end }
         ensures pending { self.new.pending ≡ self.old.pending }
         ensures room { self.new.room ≡ self.old.room }

@@ -4,6 +4,7 @@
 pub mod append;
 mod disk_calls;
 pub mod fault;
+pub mod image;
 pub mod journal;
 pub mod pending;
 pub mod reading;

@@ -1,7 +1,8 @@
 //! What the bytes of two disks stand for.
-ghost use Rattle.std.specs.Prelude.{◌≡◌, ◌+◌, ◌≤◌, ◌<◌, ◌^◌, true, false, length, drop, IfOk, IfSome, IfNone, Some, None, Ok, [], ◌∷◌};
-ghost use Rattle.host_journal.specs.Format.{agreeing, stands, sized, body_of, records_of};
-ghost use Rattle.host_journal.specs.Pair.{number_of, counted, need_body, headless, greater, pair_of};
+ghost use Rattle.std.specs.Prelude.{◌≡◌, ◌+◌, ◌≤◌, ◌<◌, ◌^◌, true, false, length, take, drop, IfOk, IfSome, IfNone, Some, None, Ok, [], ◌∷◌};
+ghost use Rattle.host_journal.specs.Format.{agreeing, stands, sized, body_of, record_bytes, records_of};
+ghost use Rattle.host_journal.specs.Pair.{number_of, counted, headless, alone};
+ghost use Rattle.host_journal.specs.Front.{is_open, generation_in, IsFrontOf, chosen_open, chosen};
 ghost use Rattle.host_journal.specs.Reading.{Walked, IsWithin};
 
 use ps_time::items::Items;
@@ -13,6 +14,9 @@ const MAGIC: [u8; 8] = *b"PSCHJRN1";
 
 /// The magic, and an open gate.
 const OPEN_HEAD: [u8; 9] = *b"PSCHJRN1\x01";
+
+/// The place of the first byte of a snapshot: behind the head, the generation and a length.
+pub const SNAPSHOT_AT: u64 = 21;
 
 /// What two disks stand for.
 #[derive(Drop)]
@@ -30,7 +34,7 @@ pub struct Counted {
 
 /// Where two disks are no journal.
 #[derive(Clone, Copy, PartialEq, Eq)]
-pub struct Place {
+pub struct DiskPlace {
     /// 1 or 2.
     pub disk: u8,
     pub place: u64,
@@ -44,7 +48,7 @@ struct Body<'a> {
     gates: &'a [u8],
 }
 
-type Read<T> = Result<Result<T, Place>, Memory>;
+type Read<T> = Result<Result<T, DiskPlace>, Memory>;
 
 // How many bytes at the front are as wanted.
 fn agreeing_with(wanted: &[u8], bytes: &[u8]) -> usize
@@ -122,6 +126,20 @@ fn behind_open(gates: &[u8]) -> Option<&[u8]>
     }
 }
 
+/// The place of the first byte of an item of the list that an opening gave: of the snapshot, which is
+/// item 0, or of a record's payload.
+pub fn item_place(list: &[Items<u8>], index: usize) -> u64
+    requires index { index ≤ length list.now }
+    requires bound { 21 + record_bytes (take index list.now) < 2 ^ 64 }
+    ensures { result ≡ 21 + record_bytes (take index list.now) }
+{
+    let mut place = SNAPSHOT_AT;
+    for item in &list[..index] {
+        place += 5 + item.len() as u64;
+    }
+    place
+}
+
 // Adds the records to the list. Answers how many bytes they take, or the place of an open gate that
 // has no whole record.
 fn read_records(
@@ -144,7 +162,7 @@ fn read_records(
     Ok(Ok(gates.len() - rest.len()))
 }
 
-fn disk_number(second: bool) -> u8
+pub(crate) fn disk_number(second: bool) -> u8
     ensures { result ≡ number_of second }
 {
     if second { 2 } else { 1 }
@@ -158,7 +176,7 @@ fn read_counted(alloc: Global, second: bool, body: Body<'_>) -> Read<Counted>
 {
     let mut list = Items::new(alloc);
     list.push(copy_bytes(alloc, body.snapshot)?)?;
-    let start = 21 + body.snapshot.len() as u64;
+    let start = SNAPSHOT_AT + body.snapshot.len() as u64;
     match read_records(alloc, body.gates, &mut list)? {
         Ok(bytes) => Ok(Ok(Counted {
             second,
@@ -167,7 +185,7 @@ fn read_counted(alloc: Global, second: bool, body: Body<'_>) -> Read<Counted>
             end: start + bytes as u64,
             list,
         })),
-        Err(at) => Ok(Err(Place {
+        Err(at) => Ok(Err(DiskPlace {
             disk: disk_number(second),
             place: start + at as u64,
         })),
@@ -175,7 +193,7 @@ fn read_counted(alloc: Global, second: bool, body: Body<'_>) -> Read<Counted>
 }
 
 // Where a disk that doesn't stand isn't the magic and a gate.
-fn headless_at(second: bool, bytes: &[u8]) -> Option<Place>
+fn headless_at(second: bool, bytes: &[u8]) -> Option<DiskPlace>
     ensures { result ≡ headless second bytes.now }
 {
     let agreeing = agreeing_with(&MAGIC, bytes);
@@ -184,71 +202,103 @@ fn headless_at(second: bool, bytes: &[u8]) -> Option<Place>
         if bytes.len() >= 9 {
             None
         } else {
-            Some(Place { disk, place: 8 })
+            Some(DiskPlace { disk, place: 8 })
         }
     } else {
-        Some(Place {
+        Some(DiskPlace {
             disk,
             place: agreeing as u64,
         })
     }
 }
 
-// The one disk that stands.
-fn read_one(alloc: Global, second: bool, bytes: &[u8]) -> Read<Counted>
-    requires { 9 ≤ length bytes.now }
-    ensures counted { IfOk result (λ r. r ≡ need_body second (body_of (drop 9 bytes.now)) (λ body. counted second body)) }
+/// What the disk that counts says.
+pub(crate) fn read_one(alloc: Global, second: bool, bytes: &[u8]) -> Read<Counted>
+    ensures counted { IfOk result (λ r. r ≡ alone second bytes.now) }
     ensures bound { IfOk result (λ r. IfOk r (λ k. (k.end + 1 < 2 ^ 64) × (k.start ≤ k.end))) }
 {
+    let bad = DiskPlace {
+        disk: disk_number(second),
+        place: 9,
+    };
+    if bytes.len() < 9 {
+        return Ok(Err(bad));
+    }
     match read_body(&bytes[9..]) {
         Some(body) => read_counted(alloc, second, body),
-        None => Ok(Err(Place {
-            disk: disk_number(second),
-            place: 9,
-        })),
+        None => Ok(Err(bad)),
+    }
+}
+
+/// What the front of a disk says of the pair.
+#[derive(Clone, Copy)]
+pub(crate) enum Front {
+    /// The disk stands: its generation, where it has a whole snapshot and a gate.
+    Open(Option<u64>),
+    /// It doesn't: how many bytes are those of a disk that stands, and where it isn't the magic and a
+    /// gate.
+    Closed(u64, Option<DiskPlace>),
+}
+
+impl Front {
+    pub(crate) fn is_open(self) -> bool
+        ensures { result ≡ is_open self }
+    {
+        matches!(self, Front::Open(_))
+    }
+}
+
+/// The front of a disk with these bytes.
+pub(crate) fn front_of(second: bool, bytes: &[u8]) -> Front
+    ensures { IsFrontOf second bytes.now result }
+{
+    if is_standing(bytes) {
+        return Front::Open(generation_of(&bytes[9..]));
+    }
+    Front::Closed(
+        agreeing_with(&OPEN_HEAD, bytes) as u64,
+        headless_at(second, bytes),
+    )
+}
+
+fn generation_of(bytes: &[u8]) -> Option<u64>
+    ensures { result ≡ generation_in (body_of bytes.now) }
+{
+    match read_body(bytes) {
+        Some(body) => Some(body.generation),
+        None => None,
+    }
+}
+
+/// Whether the second disk counts, or where the two are no journal.
+pub(crate) fn choose(first: Front, second: Front) -> Result<bool, DiskPlace>
+    ensures { result ≡ chosen first second }
+{
+    match first {
+        Front::Open(one) => match second {
+            Front::Open(two) => choose_open(one, two),
+            Front::Closed(_, Some(place)) => Err(place),
+            Front::Closed(_, None) => Ok(false),
+        },
+        Front::Closed(place, headless) => match second {
+            Front::Closed(_, _) => Err(DiskPlace { disk: 1, place }),
+            Front::Open(_) => match headless {
+                Some(place) => Err(place),
+                None => Ok(true),
+            },
+        },
     }
 }
 
 // Both stand.
-fn read_both(alloc: Global, first: &[u8], second: &[u8]) -> Read<Counted>
-    requires first { 9 ≤ length first.now }
-    requires second { 9 ≤ length second.now }
-    ensures counted { IfOk result (λ r. r ≡ need_body false (body_of (drop 9 first.now)) (λ one. need_body true (body_of (drop 9 second.now)) (λ two. greater one two))) }
-    ensures bound { IfOk result (λ r. IfOk r (λ k. (k.end + 1 < 2 ^ 64) × (k.start ≤ k.end))) }
+fn choose_open(first: Option<u64>, second: Option<u64>) -> Result<bool, DiskPlace>
+    ensures { result ≡ chosen_open first second }
 {
-    let Some(one) = read_body(&first[9..]) else {
-        return Ok(Err(Place { disk: 1, place: 9 }));
+    let Some(one) = first else {
+        return Err(DiskPlace { disk: 1, place: 9 });
     };
-    let Some(two) = read_body(&second[9..]) else {
-        return Ok(Err(Place { disk: 2, place: 9 }));
+    let Some(two) = second else {
+        return Err(DiskPlace { disk: 2, place: 9 });
     };
-    if two.generation <= one.generation {
-        read_counted(alloc, false, one)
-    } else {
-        read_counted(alloc, true, two)
-    }
-}
-
-/// What the bytes of two disks stand for.
-pub(crate) fn read_pair(alloc: Global, first: &[u8], second: &[u8]) -> Read<Counted>
-    ensures pair { IfOk result (λ r. r ≡ pair_of first.now second.now) }
-    ensures bound { IfOk result (λ r. IfOk r (λ k. (k.end + 1 < 2 ^ 64) × (k.start ≤ k.end))) }
-{
-    if is_standing(first) {
-        if is_standing(second) {
-            return read_both(alloc, first, second);
-        }
-        if let Some(place) = headless_at(true, second) {
-            return Ok(Err(place));
-        }
-        return read_one(alloc, false, first);
-    }
-    if !is_standing(second) {
-        let place = agreeing_with(&OPEN_HEAD, first) as u64;
-        return Ok(Err(Place { disk: 1, place }));
-    }
-    if let Some(place) = headless_at(false, first) {
-        return Ok(Err(place));
-    }
-    read_one(alloc, true, second)
+    if two <= one { Ok(false) } else { Ok(true) }
 }

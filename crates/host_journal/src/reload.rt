@@ -1,11 +1,11 @@
 //! Taking a journal up after a call that failed.
-ghost use Rattle.std.specs.Prelude.{◌≡◌, ◌⊎◌, ◌∷◌, [], ◌≤◌, false, if◌then◌else◌, IsTrue, IfOk, OnOk, OnErr};
+ghost use Rattle.std.specs.Prelude.{◌≡◌, ◌⊎◌, ◌∷◌, [], ◌≤◌, false, not, if◌then◌else◌, IsTrue, IfOk, OnOk, OnErr};
 ghost use Rattle.ps_ports.specs.Causes.{Rose};
 ghost use Rattle.ps_disks.specs.Disk.{Only};
 ghost use Rattle.ps_disks.specs.declared.disk.DiskCall.TheVariants.{Sync};
 ghost use Rattle.host_journal.specs.Calls.{IsRead};
 ghost use Rattle.host_journal.specs.Reload.{stood_of, IsOf};
-ghost use Rattle.host_journal.specs.State.{is_ready, stored, has_record, EachImage, IsAt, first_disk, second_disk};
+ghost use Rattle.host_journal.specs.State.{is_ready, stored, has_record, EachImage, IsAt, KeepsPlace, first_disk, second_disk};
 ghost use Rattle.host_journal.specs.Told.{TellsAll, TellsSyncs};
 
 use crate::disk_calls::{is_open_at, sync_both};
@@ -39,6 +39,9 @@ impl<D: Disk> Journal<D> {
         ensures ready { OnOk result (IsTrue (is_ready self.new.pending)) }
         ensures first { D.premise → IsRead D.seen D.may_leave D.moment D.left_since (first_disk self.old) (first_disk self.new) }
         ensures second { D.premise → IsRead D.seen D.may_leave D.moment D.left_since (second_disk self.old) (second_disk self.new) }
+        // A snapshot that stands has turned the disks over, and left its head gate open.
+        ensures shut { OnOk result ((self.new.second ≡ self.old.second → self.new.shut ≡ self.old.shut) × (self.new.second ≡ not self.old.second → self.new.shut ≡ false)) }
+        ensures kept { OnErr result (KeepsPlace self.old self.new × (self.new.end ≡ self.old.end)) }
         ensures pending { OnErr result (self.new.pending ≡ self.old.pending) }
         ensures room { self.new.room ≡ self.old.room }
         ensures told_first { OnOk result (TellsAll (D.told (first_disk self.old)) (D.told (first_disk self.new)) (Sync ∷ [])) }

@@ -1,14 +1,16 @@
 //! Putting a snapshot on the disk that doesn't count.
-ghost use Rattle.std.specs.Prelude.{◌≡◌, ◌⊎◌, ◌+◌, ◌-◌, ◌≤◌, ◌<◌, ◌^◌, ◌∷◌, [], false, not, IsTrue, length, OnOk, OnErr, vec_capacity};
+ghost use Rattle.std.specs.Prelude.{◌≡◌, ◌⊎◌, ◌+◌, ◌-◌, ◌≤◌, ◌<◌, ◌^◌, ◌∷◌, [], true, false, not, IsTrue, length, OnOk, OnErr, vec_capacity};
 ghost use Rattle.ps_ports.specs.Causes.{Rose};
 ghost use Rattle.ps_disks.specs.Disk.{written, Torn, Follows, Only, LeavesOnly};
 ghost use Rattle.ps_disks.specs.declared.disk.DiskCall.TheVariants.{Write, Sync};
 ghost use Rattle.host_journal.specs.Calls.{PartAfter};
-ghost use Rattle.host_journal.specs.State.{is_ready, stored, snapshot_of, snapshot_calls, image_bytes, closing, EachImage, EachSince};
-ghost use Rattle.host_journal.specs.Told.{TellsAll, TellsFirst};
+ghost use Rattle.host_journal.specs.Moments.{Adds, Shows, LiesBeside};
+ghost use Rattle.host_journal.specs.State.{is_ready, stored, has_record, snapshot_of, close_calls, fill_calls, snapshot_calls, image_bytes, closing, EachImage, EachSince, SameButRoom};
+ghost use Rattle.host_journal.specs.Told.{TellsAll, TellsFirst, TellsBoth};
 
 use crate::disk_calls::{replace_rest, write_and_sync};
 use crate::fault::DiskFault;
+use crate::image::SnapshotImage;
 use crate::journal::Journal;
 use crate::pending::Pending;
 use ps_disks::disk::Disk;
@@ -18,24 +20,46 @@ use std::mem;
 pub const HEAD_GATE: u64 = 8;
 
 impl<D: Disk> Journal<D> {
+    /// An empty image in the journal's own buffer. `snapshot` gives the buffer back; where the image is
+    /// let go instead, the journal has no room. Takes no memory.
+    pub fn begin_image(&mut self) -> SnapshotImage
+        requires room { 13 ≤ self.old.room }
+        ensures bytes { result.bytes ≡ [] }
+        ensures room { self.old.room ≤ result.room }
+        ensures same { SameButRoom self.old self.new }
+    {
+        let alloc = *self.buffer.allocator();
+        SnapshotImage::begin(mem::replace(&mut self.buffer, Vec::new(alloc)))
+    }
+
     /// Puts a snapshot on the disk that doesn't count, in place of all that the journal stands for. From
     /// then on that disk counts. Takes no memory.
-    pub fn snapshot(&mut self, image: &[u8]) -> Result<(), DiskFault>
+    pub fn snapshot(&mut self, image: SnapshotImage) -> Result<(), DiskFault>
         requires ready { IsTrue (is_ready self.old.pending) }
-        requires room { length image.now + 13 ≤ self.old.room }
-        requires bound { length image.now ≤ 4294967295 }
+        requires room { length image.bytes + 13 ≤ image.room }
+        requires bound { length image.bytes ≤ 4294967295 }
         requires generation { self.old.generation < 2 ^ 64 - 1 }
-        ensures counts { D.premise → OnOk result (stored D.seen self.new ≡ snapshot_of image.now self.old) }
-        ensures durable { D.premise → OnOk result (EachImage D.may_leave self.new (λ pair. pair ≡ snapshot_of image.now self.old)) }
-        ensures any_moment { D.premise → EachSince D.moment D.left_since self.old self.new (λ pair. (pair ≡ stored D.seen self.old) ⊎ (pair ≡ snapshot_of image.now self.old)) }
-        ensures one_or_other { D.premise → (stored D.seen self.new ≡ stored D.seen self.old) ⊎ (stored D.seen self.new ≡ snapshot_of image.now self.old) }
-        ensures place { OnOk result ((self.new.generation ≡ self.old.generation + 1) × (self.new.start ≡ 21 + length image.now) × (self.new.end ≡ self.new.start) × IsTrue (is_ready self.new.pending)) }
+        ensures counts { D.premise → OnOk result (stored D.seen self.new ≡ snapshot_of image.bytes self.old) }
+        ensures durable { D.premise → OnOk result (EachImage D.may_leave self.new (λ pair. pair ≡ snapshot_of image.bytes self.old)) }
+        ensures any_moment { D.premise → EachSince D.moment D.left_since self.old self.new (λ pair. (pair ≡ stored D.seen self.old) ⊎ (pair ≡ snapshot_of image.bytes self.old)) }
+        // What an outer run joins with the calls before it.
+        ensures adds { D.premise → Adds D.moment D.left_since self.old self.new (λ second c. LiesBeside (stored D.seen self.old) second c ⊎ Shows (snapshot_of image.bytes self.old) second c) }
+        ensures left { D.premise → OnErr result (EachImage D.may_leave self.new (λ pair. (pair ≡ stored D.seen self.old) ⊎ (pair ≡ snapshot_of image.bytes self.old))) }
+        ensures one_or_other { D.premise → (stored D.seen self.new ≡ stored D.seen self.old) ⊎ (stored D.seen self.new ≡ snapshot_of image.bytes self.old) }
+        ensures place { OnOk result ((self.new.generation ≡ self.old.generation + 1) × (self.new.start ≡ 21 + length image.bytes) × (self.new.end ≡ self.new.start) × IsTrue (is_ready self.new.pending)) }
         ensures turned { OnOk result ((self.new.other ≡ self.old.counting) × (self.new.second ≡ not self.old.second)) }
         ensures failed { OnErr result (is_ready self.new.pending ≡ false) }
-        ensures room { self.old.room ≤ self.new.room }
+        ensures room { image.room ≤ self.new.room }
         ensures kept { OnErr result ((self.new.counting ≡ self.old.counting) × (self.new.second ≡ self.old.second)) }
-        ensures told { OnOk result (TellsAll (D.told self.old.other) (D.told self.new.counting) (snapshot_calls self.old.shut (self.old.generation + 1) image.now)) }
-        ensures told_first { OnErr result (TellsFirst (D.told self.old.other) (D.told self.new.other) (snapshot_calls self.old.shut (self.old.generation + 1) image.now)) }
+        ensures place_err { OnErr result ((self.new.generation ≡ self.old.generation) × (self.new.start ≡ self.old.start) × (self.new.end ≡ self.old.end)) }
+        // So `reload` never answers that a record stands.
+        ensures no_record { OnErr result ((pair : _) → has_record self.new.pending pair ≡ false) }
+        // What is then known of the head gate of the disk that doesn't count.
+        ensures shut { OnOk result (self.new.shut ≡ false) }
+        ensures shut_err { OnErr result (((self.new.shut ≡ self.old.shut) × TellsFirst (D.told self.old.other) (D.told self.new.other) (close_calls self.old.shut))
+            ⊎ ((self.new.shut ≡ true) × TellsBoth (D.told self.old.other) (D.told self.new.other) (close_calls self.old.shut) (fill_calls (self.old.generation + 1) image.bytes))) }
+        ensures told { OnOk result (TellsAll (D.told self.old.other) (D.told self.new.counting) (snapshot_calls self.old.shut (self.old.generation + 1) image.bytes)) }
+        ensures told_first { OnErr result (TellsFirst (D.told self.old.other) (D.told self.new.other) (snapshot_calls self.old.shut (self.old.generation + 1) image.bytes)) }
         ensures calm { OnOk result (D.disk_faults self.new.counting ≡ D.disk_faults self.old.other) }
         ensures cause { OnErr result (Rose (D.disk_faults self.old.other) (D.disk_faults self.new.other)) }
     {
@@ -77,17 +101,12 @@ fn close_head<D: Disk>(disk: &mut D, shut: bool) -> Result<(), DiskFault>
     }
 }
 
-// Takes no memory.
-fn put_image(buffer: &mut Vec<u8>, generation: u64, image: &[u8])
-    requires room { length image.now + 13 ≤ vec_capacity buffer.old }
-    requires bound { length image.now < 2 ^ 32 }
-    ensures items { buffer.new.items ≡ image_bytes generation image.now }
-    ensures capacity { vec_capacity buffer.old ≤ vec_capacity buffer.new }
+// The image takes the place of the buffer. Takes no memory.
+fn put_image(buffer: &mut Vec<u8>, generation: u64, image: SnapshotImage)
+    requires room { length image.bytes + 13 ≤ image.room }
+    requires bound { length image.bytes < 2 ^ 32 }
+    ensures items { buffer.new.items ≡ image_bytes generation image.bytes }
+    ensures capacity { image.room ≤ vec_capacity buffer.new }
 {
-    let size = image.len() as u32;
-    buffer.clear();
-    let _generation = buffer.extend_from_slice(&generation.to_be_bytes());
-    let _size = buffer.extend_from_slice(&size.to_be_bytes());
-    let _image = buffer.extend_from_slice(image);
-    let _gate = buffer.extend_from_slice(&[0]);
+    drop(mem::replace(buffer, image.into_piece(generation)));
 }

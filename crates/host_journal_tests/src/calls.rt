@@ -88,11 +88,13 @@ pub fn add(journal: &mut Journal<MemoryDisk>, payload: &[u8]) -> Result<bool, Me
 }
 
 // Whether it was `Ok`.
-pub fn snap(journal: &mut Journal<MemoryDisk>, image: &[u8]) -> Result<bool, Memory> {
-    journal.reserve(image.len())?;
-    if !journal.is_ready() || image.len() > 4_294_967_295 || journal.generation() == u64::MAX {
+pub fn snap(journal: &mut Journal<MemoryDisk>, bytes: &[u8]) -> Result<bool, Memory> {
+    journal.reserve(bytes.len())?;
+    if !journal.is_ready() || bytes.len() > 4_294_967_295 || journal.generation() == u64::MAX {
         return Ok(false);
     }
+    let mut image = journal.begin_image();
+    image.write(bytes)?;
     Ok(journal.snapshot(image).is_ok())
 }
 

@@ -12,4 +12,6 @@ mod open_tests;
 #[cfg(test)]
 mod reload_tests;
 #[cfg(test)]
+mod run_tests;
+#[cfg(test)]
 mod snapshot_tests;

@@ -1,10 +1,14 @@
 //! What the bytes of two disks stand for: pairs worked out by hand from the format.
+ghost use Rattle.std.specs.Prelude.{◌+◌, ◌<◌, ◌^◌, ℕ, length, take};
+ghost use Rattle.host_journal.specs.Format.{record_bytes};
+
 use crate::calls::{ONE_RECORD, Pair, SNAPSHOT, add, gives_back, opened, pair_of};
 use host_journal::fault::OpenReason;
 use host_journal::journal::Journal;
-use host_journal::reading::Place;
+use host_journal::reading::{DiskPlace, item_place};
 use ps_disks::memory_disk::MemoryDisk;
 use ps_disks::rack::{FRESH_FIRST, FRESH_SECOND};
+use ps_time::items::Items;
 use ps_time::memory::Memory;
 use std::alloc::Global;
 use std::process::Abort;
@@ -56,6 +60,8 @@ fn is_at(journal: Journal<MemoryDisk>, at: At) -> Result<bool, Memory> {
     let (is_second, generation, start, end) = at;
     let mut journal = journal;
     if journal.generation() != generation
+        || journal.counting_disk() != if is_second { 2 } else { 1 }
+        || Some(journal.snapshot_bytes()) != start.checked_sub(21)
         || Some(journal.record_bytes()) != end.checked_sub(start)
     {
         return Ok(false);
@@ -124,7 +130,7 @@ fn is_refused(alloc: Global, pair: Pair, wanted: OpenReason) -> bool {
 
 fn check_refusals(alloc: Global, rows: &[(&[u8], &[u8], u8, u64)]) -> Result<(), Fail> {
     for (first, second, disk, place) in rows {
-        let wanted = OpenReason::NotAJournal(Place {
+        let wanted = OpenReason::NotAJournal(DiskPlace {
             disk: *disk,
             place: *place,
         });
@@ -163,5 +169,33 @@ fn an_opening_meets_a_fault(rt: HostRuntime) -> Result<(), Fail> {
     let mut second = second;
     second.fail_at(Some(1));
     assert!(rt; is_refused(alloc, (first, second), OpenReason::DiskFault));
+    Ok(())
+}
+
+// The places of the snapshot and of both payloads of that pair.
+static PLACES: [u64; 3] = [21, 27, 32];
+
+fn has_places(alloc: Global, places: &[u64]) -> Result<bool, Memory> {
+    let (first, second) = pair_of(alloc, &TWO_RECORDS, &FRESH_SECOND)?;
+    match Journal::open(alloc, first, second) {
+        Ok((_journal, list)) => Ok(are_at(list.as_slice(), places)),
+        Err(_fault) => Ok(false),
+    }
+}
+
+fn are_at(list: &[Items<u8>], places: &[u64]) -> bool
+    requires { (n : ℕ) → n < length list.now → 21 + record_bytes (take n list.now) < 2 ^ 64 }
+{
+    for (index, place) in places.iter().enumerate() {
+        if index >= list.len() || item_place(list, index) != *place {
+            return false;
+        }
+    }
+    list.len() == places.len()
+}
+
+#[test]
+fn the_places_of_items(rt: HostRuntime) -> Result<(), Fail> {
+    assert!(rt; has_places(rt.alloc(), &PLACES)?);
     Ok(())
 }

@@ -1,9 +1,9 @@
 //! A fault at each disk call of a snapshot, of an append and of a cut, `reload` after it, and one more
 //! append.
-use crate::calls::{OLDER, ONE_RECORD, add, goes_on, journal_on, snap};
+use crate::calls::{OLDER, ONE_RECORD, add, found, goes_on, journal_on, snap};
 use host_journal::journal::Journal;
 use ps_disks::memory_disk::MemoryDisk;
-use ps_disks::rack::FRESH_FIRST;
+use ps_disks::rack::{FRESH_FIRST, FRESH_SECOND};
 use ps_time::memory::Memory;
 use std::alloc::Global;
 use std::test::Fail;
@@ -139,5 +139,65 @@ fn a_cut_that_fails_and_a_reload(rt: HostRuntime) -> Result<(), Fail> {
             return Err(Fail::new(format_args!("{call}")));
         }
     }
+    Ok(())
+}
+
+// A journal on a new pair of which the calls with these numbers fail, reads counted too. The opening syncs
+// each disk, and reads it twice with two reads, a read and a read at the end: five calls. Then it reads
+// the first disk, which counts, in the same way: nine calls there.
+fn failing(
+    alloc: Global,
+    first: &[u64],
+    second: &[u64],
+) -> Result<Option<Journal<MemoryDisk>>, Memory> {
+    let first = MemoryDisk::new(alloc, FRESH_FIRST.to_vec(alloc)?, first.to_vec(alloc)?);
+    let second = MemoryDisk::new(alloc, FRESH_SECOND.to_vec(alloc)?, second.to_vec(alloc)?);
+    match found(alloc, (first, second)) {
+        Some((journal, _list)) => Ok(Some(journal)),
+        None => Ok(None),
+    }
+}
+
+// `reload` answers so, and the next call of the disk that counts fails: it was the last one.
+fn reloads_with(journal: &mut Journal<MemoryDisk>, stood: bool) -> Result<bool, Memory> {
+    if journal.is_ready() || !matches!(journal.reload(), Ok(found) if found == stood) {
+        return Ok(false);
+    }
+    Ok(!add(journal, &[3])?)
+}
+
+// After an append a sync and the read of one gate: calls 14 and 15.
+fn append_reads(alloc: Global) -> Result<bool, Memory> {
+    match failing(alloc, &[13, 16], &[])? {
+        Some(mut journal) => Ok(!add(&mut journal, &[1, 2])? && reloads_with(&mut journal, true)?),
+        None => Ok(false),
+    }
+}
+
+// After a snapshot the same on the other disk: calls 13 and 14.
+fn snapshot_reads(alloc: Global) -> Result<bool, Memory> {
+    match failing(alloc, &[], &[12, 15])? {
+        Some(mut journal) => Ok(
+            !snap(&mut journal, &[0xab])? && reloads_with(&mut journal, false)?,
+        ),
+        None => Ok(false),
+    }
+}
+
+// After a cut a sync alone: call 11.
+fn cut_reads(alloc: Global) -> Result<bool, Memory> {
+    match failing(alloc, &[10, 12], &[])? {
+        Some(mut journal) => Ok(
+            journal.is_ready() && journal.cut_tail().is_err() && reloads_with(&mut journal, false)?,
+        ),
+        None => Ok(false),
+    }
+}
+
+#[test]
+fn a_reload_reads_one_gate_or_none(rt: HostRuntime) -> Result<(), Fail> {
+    assert!(rt; append_reads(rt.alloc())?);
+    assert!(rt; snapshot_reads(rt.alloc())?);
+    assert!(rt; cut_reads(rt.alloc())?);
     Ok(())
 }

@@ -1,6 +1,6 @@
 use Rattle.std.proofs.Common.{◌∙◌, ap, arith, length}
 use Rattle.host_journal.proofs.CallLemmas.{on_err}
-use Rattle.host_journal.proofs.RecordLemmas.{append_unopened, unopened_same, append_at_gate, gate_which, append_done, appended, append_durable}
+use Rattle.host_journal.proofs.RecordLemmas.{append_unopened, unopened_same, append_at_gate, gate_which, append_done, appended, append_durable, exit_left}
 use Rattle.host_journal.proofs.ToldLemmas.{append_told_behind, append_told_gate}
 use Rattle.host_journal.proofs.journal.Journal.append.Goals as goal
 
@@ -15,6 +15,15 @@ invariant_of-self g c = (
 pub returns-in_err-write_and_sync-clause-any_moment : goal.returns-in_err-write_and_sync-clause-any_moment
 returns-in_err-write_and_sync-clause-any_moment g c p =
     (append_unopened g.D.Disk.seen g.D.Disk.may_leave g.D.Disk.moment g.D.Disk.left_since (λ d. g.met.D.Disk.reads_now d p) (λ d b left. g.met.D.Disk.only_now d b p left) _ _ c.self.view_is c.requires.ready (c.self.invariant.2 p) c.write_and_sync.new.disk 0 c.args.payload.now c.deref.result.now (c.deref.ensures.value ∙ c.put_record.ensures.items) c.write_and_sync.new.disk (c.write_and_sync.ensures.moments p) (c.write_and_sync.ensures.part p) (c.write_and_sync.ensures.images p)).since
+
+pub returns-in_err-write_and_sync-clause-adds : goal.returns-in_err-write_and_sync-clause-adds
+returns-in_err-write_and_sync-clause-adds g c p =
+    (append_unopened g.D.Disk.seen g.D.Disk.may_leave g.D.Disk.moment g.D.Disk.left_since (λ d. g.met.D.Disk.reads_now d p) (λ d b left. g.met.D.Disk.only_now d b p left) _ _ c.self.view_is c.requires.ready (c.self.invariant.2 p) c.write_and_sync.new.disk _ c.args.payload.now c.deref.result.now (c.deref.ensures.value ∙ c.put_record.ensures.items) c.write_and_sync.new.disk (c.write_and_sync.ensures.moments p) (c.write_and_sync.ensures.part p) (c.write_and_sync.ensures.images p)).adds
+
+pub returns-in_err-write_and_sync-clause-left : goal.returns-in_err-write_and_sync-clause-left
+returns-in_err-write_and_sync-clause-left g c p =
+    on_err _ c.from_residual.result (exit_left g.D.Disk.seen g.D.Disk.may_leave g.D.Disk.moment g.D.Disk.left_since (λ d t b le now. g.met.D.Disk.counts_now d t b p le now) _ _ _ _
+    (append_unopened g.D.Disk.seen g.D.Disk.may_leave g.D.Disk.moment g.D.Disk.left_since (λ d. g.met.D.Disk.reads_now d p) (λ d b left. g.met.D.Disk.only_now d b p left) _ _ c.self.view_is c.requires.ready (c.self.invariant.2 p) c.write_and_sync.new.disk 0 c.args.payload.now c.deref.result.now (c.deref.ensures.value ∙ c.put_record.ensures.items) c.write_and_sync.new.disk (c.write_and_sync.ensures.moments p) (c.write_and_sync.ensures.part p) (c.write_and_sync.ensures.images p)))
 
 pub returns-in_err-write_and_sync-clause-whole_or_not : goal.returns-in_err-write_and_sync-clause-whole_or_not
 returns-in_err-write_and_sync-clause-whole_or_not g c p =
@@ -39,6 +48,15 @@ invariant_of-self-in_err-write_and_sync-2 g c = (
 pub returns-in_err-write_and_sync-2-clause-any_moment : goal.returns-in_err-write_and_sync-2-clause-any_moment
 returns-in_err-write_and_sync-2-clause-any_moment g c p =
     (append_at_gate g.D.Disk.seen g.D.Disk.may_leave g.D.Disk.moment g.D.Disk.left_since (λ d. g.met.D.Disk.reads_now d p) (λ d b left. g.met.D.Disk.only_now d b p left) _ _ c.self.view_is c.requires.ready (c.self.invariant.2 p) c.write_and_sync-2.new.disk 0 c.args.payload.now c.deref.result.now (c.deref.ensures.value ∙ c.put_record.ensures.items) c.write_and_sync.new.disk (c.write_and_sync.ensures.moments p) c.requires.bound (c.in_ok-write_and_sync.ensures.written p) (c.in_ok-write_and_sync.ensures.fixed p) (c.write_and_sync-2.ensures.moments p) c.len.result (omega (arith, c.len.ensures, ap length c.deref.ensures.value)) (c.write_and_sync-2.ensures.images p)).since
+
+pub returns-in_err-write_and_sync-2-clause-adds : goal.returns-in_err-write_and_sync-2-clause-adds
+returns-in_err-write_and_sync-2-clause-adds g c p =
+    (append_at_gate g.D.Disk.seen g.D.Disk.may_leave g.D.Disk.moment g.D.Disk.left_since (λ d. g.met.D.Disk.reads_now d p) (λ d b left. g.met.D.Disk.only_now d b p left) _ _ c.self.view_is c.requires.ready (c.self.invariant.2 p) c.write_and_sync-2.new.disk _ c.args.payload.now c.deref.result.now (c.deref.ensures.value ∙ c.put_record.ensures.items) c.write_and_sync.new.disk (c.write_and_sync.ensures.moments p) c.requires.bound (c.in_ok-write_and_sync.ensures.written p) (c.in_ok-write_and_sync.ensures.fixed p) (c.write_and_sync-2.ensures.moments p) c.len.result (omega (arith, c.len.ensures, ap length c.deref.ensures.value)) (c.write_and_sync-2.ensures.images p)).adds
+
+pub returns-in_err-write_and_sync-2-clause-left : goal.returns-in_err-write_and_sync-2-clause-left
+returns-in_err-write_and_sync-2-clause-left g c p =
+    on_err _ c.from_residual-in_err-write_and_sync-2.result (exit_left g.D.Disk.seen g.D.Disk.may_leave g.D.Disk.moment g.D.Disk.left_since (λ d t b le now. g.met.D.Disk.counts_now d t b p le now) _ _ _ _
+    (append_at_gate g.D.Disk.seen g.D.Disk.may_leave g.D.Disk.moment g.D.Disk.left_since (λ d. g.met.D.Disk.reads_now d p) (λ d b left. g.met.D.Disk.only_now d b p left) _ _ c.self.view_is c.requires.ready (c.self.invariant.2 p) c.write_and_sync-2.new.disk 0 c.args.payload.now c.deref.result.now (c.deref.ensures.value ∙ c.put_record.ensures.items) c.write_and_sync.new.disk (c.write_and_sync.ensures.moments p) c.requires.bound (c.in_ok-write_and_sync.ensures.written p) (c.in_ok-write_and_sync.ensures.fixed p) (c.write_and_sync-2.ensures.moments p) c.len.result (omega (arith, c.len.ensures, ap length c.deref.ensures.value)) (c.write_and_sync-2.ensures.images p)))
 
 pub returns-in_err-write_and_sync-2-clause-whole_or_not : goal.returns-in_err-write_and_sync-2-clause-whole_or_not
 returns-in_err-write_and_sync-2-clause-whole_or_not g c p =
@@ -71,6 +89,10 @@ returns-clause-durable g c p =
 pub returns-clause-any_moment : goal.returns-clause-any_moment
 returns-clause-any_moment g c p =
     (append_done g.D.Disk.seen g.D.Disk.may_leave g.D.Disk.moment g.D.Disk.left_since (λ d. g.met.D.Disk.reads_now d p) (λ d b left. g.met.D.Disk.only_now d b p left) _ _ c.self.view_is c.requires.ready (c.self.invariant.2 p) c.write_and_sync-2.new.disk 0 c.args.payload.now c.deref.result.now (c.deref.ensures.value ∙ c.put_record.ensures.items) c.write_and_sync.new.disk (c.write_and_sync.ensures.moments p) c.requires.bound (c.in_ok-write_and_sync.ensures.written p) (c.in_ok-write_and_sync.ensures.fixed p) (c.write_and_sync-2.ensures.moments p) c.len.result (omega (arith, c.len.ensures, ap length c.deref.ensures.value)) (c.in_ok-write_and_sync-2.ensures.written p) (c.in_ok-write_and_sync-2.ensures.fixed p)).since
+
+pub returns-clause-adds : goal.returns-clause-adds
+returns-clause-adds g c p =
+    (append_done g.D.Disk.seen g.D.Disk.may_leave g.D.Disk.moment g.D.Disk.left_since (λ d. g.met.D.Disk.reads_now d p) (λ d b left. g.met.D.Disk.only_now d b p left) _ _ c.self.view_is c.requires.ready (c.self.invariant.2 p) c.write_and_sync-2.new.disk _ c.args.payload.now c.deref.result.now (c.deref.ensures.value ∙ c.put_record.ensures.items) c.write_and_sync.new.disk (c.write_and_sync.ensures.moments p) c.requires.bound (c.in_ok-write_and_sync.ensures.written p) (c.in_ok-write_and_sync.ensures.fixed p) (c.write_and_sync-2.ensures.moments p) c.len.result (omega (arith, c.len.ensures, ap length c.deref.ensures.value)) (c.in_ok-write_and_sync-2.ensures.written p) (c.in_ok-write_and_sync-2.ensures.fixed p)).adds
 
 pub returns-clause-whole_or_not : goal.returns-clause-whole_or_not
 returns-clause-whole_or_not g c p =

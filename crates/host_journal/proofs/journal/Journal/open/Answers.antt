@@ -1,4 +1,4 @@
-use Rattle.host_journal.proofs.OpenLemmas.{opened_journal}
+use Rattle.host_journal.proofs.OpenLemmas.{opened_journal, place_fits}
 use Rattle.host_journal.proofs.journal.Journal.open.Goals as goal
 
 pub invariant_of-journal : goal.invariant_of-journal
@@ -12,3 +12,6 @@ invariant_of-journal g c = (
       fixed.0 fixed.1 c.in_order-counting.ensures.one c.in_order-counting.ensures.two,
   tt,
 )
+
+pub returns-in-Ok-clause-places : goal.returns-in-Ok-clause-places
+returns-in-Ok-clause-places g c n less = place_fits n c.in-Ok.counted.list c.in-Ok.counted.start c.in-Ok.counted.end c.in-Ok.ensures.gates c.in-Ok.ensures.bound.0 less
