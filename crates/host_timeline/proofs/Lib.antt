@@ -1,3 +1,6 @@
 pub mod Free
+mod GatherLemmas
 pub mod Least
+mod NearLemmas
 mod Place
+mod SweepLemmas

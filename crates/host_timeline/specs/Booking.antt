@@ -1,5 +1,5 @@
 -- When bookings conflict with a run, and which of them it may preempt.
-use Rattle.std.specs.Prelude.{ℕ, ℤ, Bool, not, ◌&&◌, ◌-◌, nat_lt, List, [], ◌∷◌, Option, Some, None, map, filter, if◌then◌else◌}
+use Rattle.std.specs.Prelude.{ℕ, ℤ, Bool, true, not, ◌&&◌, ◌-◌, nat_lt, List, [], ◌∷◌, Option, Some, None, map, filter, if◌then◌else◌}
 use Rattle.std.specs.Ordering.{is_lt, int_cmp}
 use Rattle.ps_time.specs.declared.class.Class.{Class}
 use Rattle.ps_time.specs.declared.key.RunKey.{RunKey}
@@ -45,6 +45,15 @@ lesser k (Some j) = if is_lt (key_cmp j k) then j else k
 abbrev pub least_key : List RunKey → Option RunKey
 least_key [] = None
 least_key (k ∷ ks) = Some (lesser k (least_key ks))
+
+-- a key is above another, if that is there
+abbrev pub is_after : Option RunKey → RunKey → Bool
+is_after None k = true
+is_after (Some low) k = is_lt (key_cmp low k)
+
+-- the bookings in conflict with the run whose keys are above another
+abbrev pub conflicting_after : Class → Span → Option RunKey → List Booking → List Booking
+conflicting_after class interval after bookings = filter (λ b. is_after after b.key && conflicts_with class interval b) bookings
 
 -- the bookings without those in conflict with the run
 abbrev pub without_conflicts : Class → Span → List Booking → List Booking

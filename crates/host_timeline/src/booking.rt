@@ -1,6 +1,6 @@
 //! Bookings: when they conflict with a run, and when they can be preempted.
 ghost use Rattle.std.specs.Prelude.{◌≡◌, ℕ, ◌+◌, ◌&&◌, not, nat_lt};
-ghost use Rattle.host_timeline.specs.Booking.{conflicts_with, can_preempt, is_firm, firm_from_of};
+ghost use Rattle.host_timeline.specs.Booking.{conflicts_with, can_preempt, is_after, is_firm, firm_from_of};
 
 use ps_time::class::{Class, classes_conflict};
 use ps_time::interval::Interval;
@@ -51,5 +51,15 @@ impl Booking {
         ensures { result ≡ is_firm class interval.now priority moment self.now }
     {
         self.conflicts_with(class, interval) && !self.can_be_preempted(priority, moment)
+    }
+
+    /// Whether its key is above another, if that is there.
+    pub fn is_after(&self, low: Option<RunKey>) -> bool
+        ensures { result ≡ is_after low self.now.key }
+    {
+        match low {
+            Some(low) => low.order(&self.key).is_lt(),
+            None => true,
+        }
     }
 }

@@ -2,4 +2,5 @@
 #![tactic(auto)]
 
 pub mod booking;
+pub mod free_starts;
 pub mod timeline;

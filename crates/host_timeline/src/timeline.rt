@@ -1,19 +1,24 @@
 //! The timeline: the bookings of a host, ascending by key, with reserved places.
-ghost use Rattle.std.specs.Prelude.{◌≡◌, ◌+◌, ◌<◌, ◌≤◌, [], None, IfOk, IfErr, OnOk, is_some, if◌then◌else◌};
+ghost use Rattle.std.specs.Prelude.{◌≡◌, ◌+◌, ◌<◌, ◌≤◌, [], None, IfOk, IfErr, OnOk, drop, is_some, length, if◌then◌else◌};
 ghost use Rattle.std.specs.List.{list_all};
 ghost use Rattle.std.specs.Option.{is_none};
 ghost use Rattle.ps_time.specs.Key.{key_cmp};
+ghost use Rattle.ps_time.specs.Span.{Span};
+ghost use Rattle.ps_time.specs.declared.class.Class.{Class};
 ghost use Rattle.ps_time.specs.Sorted.{IsAscending};
-ghost use Rattle.host_timeline.specs.Booking.{conflicting, can_preempt, firm, keys_of, least_key, without_conflicts};
-ghost use Rattle.host_timeline.specs.Timeline.{find_booking, with_booking, without_booking, with_started, IsAscendingBookings, IsConflictFree, IsPlaceOf, IsGapFor};
+ghost use Rattle.host_timeline.specs.Booking.{conflicting, conflicting_after, can_preempt, firm, keys_of, least_key, without_conflicts};
+ghost use Rattle.host_timeline.specs.Free.{free_tiers};
+ghost use Rattle.host_timeline.specs.Timeline.{find_booking, with_booking, without_booking, with_started, IsAscendingBookings, IsConflictFree, IsInOrder, IsPlaceOf, IsGapFor};
 
 use crate::booking::Booking;
+use crate::free_starts::{keep_firm, near_bookings, windows_beside};
 use ps_time::class::Class;
-use ps_time::interval::Interval;
+use ps_time::interval::{Interval, Window};
 use ps_time::items::Items;
 use ps_time::key::RunKey;
 use ps_time::memory::Memory;
-use ps_time::moment::Moment;
+use ps_time::moment::{Length, Moment};
+use ps_time::tiers::Tiers;
 use std::alloc::Global;
 use std::marker::Model;
 
@@ -100,6 +105,45 @@ impl Timeline {
         Ok(Items::from_vec(keys))
     }
 
+    /// The least key above `after` among all bookings in conflict with a run; from `None` on it goes through the keys of all,
+    /// ascending, and takes no memory.
+    pub fn next_conflict(
+        &self,
+        class: Class,
+        interval: &Interval,
+        after: Option<RunKey>,
+    ) -> Option<RunKey>
+        ensures { result ≡ least_key (keys_of (conflicting_after class interval.now after self.now.list)) }
+    {
+        let from = self.place_after(after);
+        for later in &self.bookings[from..] {
+            if later.is_after(after) && later.conflicts_with(class, interval) {
+                return Some(later.key);
+            }
+        }
+        None
+    }
+
+    /// Where a run could start: the first 128 windows of the starts without a conflict, and of those whose conflicts it may
+    /// all preempt at the moment.
+    pub fn free(
+        &self,
+        alloc: Global,
+        class: Class,
+        length: Length,
+        priority: i16,
+        window: Window,
+        moment: Moment,
+    ) -> Result<Tiers, Memory>
+        ensures { IfOk result (λ tiers. tiers ≡ free_tiers class length priority window moment self.now.list) }
+    {
+        let mut near = near_bookings(alloc, self.bookings.as_slice(), class, length, &window)?;
+        let first = windows_beside(alloc, near.as_slice(), length, &window)?;
+        keep_firm(&mut near, priority, moment);
+        let second = windows_beside(alloc, near.as_slice(), length, &window)?;
+        Ok(Tiers { first, second })
+    }
+
     /// Takes a booking in. What conflicts with it was released before.
     pub fn book(&mut self, booking: Booking)
         requires room { 0 < self.old.room }
@@ -149,10 +193,25 @@ impl Timeline {
         }
     }
 
+    // A place before which no booking has a key above this one.
+    fn place_after(&self, after: Option<RunKey>) -> usize
+        ensures bound { result ≤ length self.now.list }
+        ensures passed { (class : Class) (interval : Span) → conflicting_after class interval after self.now.list ≡ conflicting_after class interval after (drop result self.now.list) }
+    {
+        let Some(key) = after else {
+            return 0;
+        };
+        match self.search(key) {
+            Ok(at) => at,
+            Err(at) => at,
+        }
+    }
+
     // Where the key is, or where it would go.
     fn search(&self, key: RunKey) -> Result<usize, usize>
         ensures found { IfOk result (IsPlaceOf self.now.list key) }
         ensures absent { IfErr result (IsGapFor self.now.list key) }
+        ensures ordered { IsInOrder self.now.list }
     {
         self.bookings
             .binary_search_by_key(&key, |booking| booking.key)

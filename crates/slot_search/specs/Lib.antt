@@ -1,0 +1,2 @@
+pub mod CommonStart
+pub mod Search
