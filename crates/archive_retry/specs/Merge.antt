@@ -11,9 +11,17 @@ use Rattle.ps_json.specs.TreeText.{IsTreeText as IsKept, kept_tree}
 abbrev pub IsTreeText : List ℕ → Type 0
 IsTreeText bs = IsKept 64 bs
 
--- a result that was heard is such a text
+-- what may be merged: such a text, or none
+abbrev pub IsMergeable : Option (List ℕ) → Type 0
+IsMergeable result = IfSome result IsTreeText
+
+-- the result of a participant: a tree at most 60 levels deep, so that the merged one is at most 64
+abbrev pub IsResultText : List ℕ → Type 0
+IsResultText bs = IsKept 60 bs
+
+-- there is none, or it is such a text
 abbrev pub IsResult : Option (List ℕ) → Type 0
-IsResult result = IfSome result IsTreeText
+IsResult result = IfSome result IsResultText
 
 -- the result says that it succeeded
 abbrev pub is_good : Data → Bool

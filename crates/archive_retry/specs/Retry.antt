@@ -1,5 +1,5 @@
 -- When an archiver is tried again.
-use Rattle.std.specs.Prelude.{ℕ, ◌+◌, Bool, true, false, nat_le, max, min, List, [], ◌∷◌, ◌++◌, Option, Some, None, if◌then◌else◌, replicate}
+use Rattle.std.specs.Prelude.{ℕ, ◌+◌, sum_by, Bool, true, false, nat_le, max, min, List, [], ◌∷◌, ◌++◌, Option, Some, None, if◌then◌else◌, replicate}
 use Rattle.std.specs.List.{slice_get}
 use Rattle.archive_retry.specs.declared.policy.Entry.{Entry}
 use Rattle.archive_retry.specs.declared.policy.Policy.{Policy}
@@ -9,6 +9,14 @@ use Rattle.archive_retry.specs.declared.state.ArchiveState.{ArchiveState}
 abbrev pub written_out : List Entry → List ℕ
 written_out [] = []
 written_out (e ∷ es) = replicate e.attempts e.wait ++ written_out es
+
+-- the attempts of all entries
+abbrev pub attempts_of : Policy → ℕ
+attempts_of policy = sum_by (λ e. e.attempts) policy.entries
+
+-- an archive that is due from m on
+abbrev pub due_from : ℕ → ArchiveState
+due_from m = record { tried = 0; next = Some m; done = false }
 
 -- the wait after the next failure, where so many attempts were made before
 abbrev pub wait_after : Policy → ℕ → Option ℕ

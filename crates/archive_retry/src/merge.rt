@@ -1,12 +1,13 @@
 //! The results of a run's participants, made one.
-ghost use Rattle.std.specs.Prelude.{◌≡◌, ◌≤◌, Ok, length, map, All, IfOk};
+ghost use Rattle.std.specs.Prelude.{◌≡◌, ◌≤◌, ◌↔◌, ℕ, List, Option, IsTrue, Ok, length, map, All, IfOk};
 ghost use Rattle.serde_json.specs.Data.{depth};
 ghost use Rattle.serde_json.specs.View.{view};
 ghost use Rattle.serde_json.specs.Written.{compact_text};
 ghost use Rattle.ps_json.specs.Tree.{IsWhole, tree_of};
 ghost use Rattle.ps_json.specs.TreeText.{kept_tree};
-ghost use Rattle.archive_retry.specs.Merge.{IsResult, is_good, participant, participants, all_good, merged};
+ghost use Rattle.archive_retry.specs.Merge.{IsTreeText, IsMergeable, IsResultText, IsResult, is_good, participant, participants, all_good, merged};
 
+use ps_json::kept::is_tree_text;
 pub use ps_json::kept::read_kept;
 use ps_json::tree::write_text;
 use ps_time::memory::Memory;
@@ -14,9 +15,20 @@ use ps_time::text::Text;
 use serde_json::{Value, json};
 use std::alloc::Global;
 
+/// The most levels that the result of a participant nests.
+pub const MAX_RESULT_DEPTH: usize = 60;
+
+/// Whether a text may be the result of a participant: `read_tree` reads it, it nests at most 60 levels, and
+/// its numbers are whole.
+pub fn is_result(alloc: Global, text: &str) -> Result<bool, Memory>
+    ensures { IfOk result (λ is. IsTrue is ↔ IsResultText text.now) }
+{
+    is_tree_text(alloc, text, MAX_RESULT_DEPTH)
+}
+
 /// The tree of a result, null where there is none.
 fn read_result(alloc: Global, heard: &Option<Text>) -> Result<Value, Memory>
-    requires { IsResult heard.now }
+    requires { IsMergeable heard.now }
     ensures { IfOk result (λ value. view value ≡ kept_tree heard.now) }
 {
     match heard {
@@ -45,7 +57,7 @@ fn write_participants(
     results: &[Option<Text>],
 ) -> Result<(Vec<Value>, bool), Memory>
     requires alike { length hosts.now ≡ length results.now }
-    requires results { All IsResult results.now }
+    requires results { All IsMergeable results.now }
     ensures values { IfOk result (λ made. map view made.0.items ≡ participants hosts.now results.now) }
     ensures good { IfOk result (λ made. made.1 ≡ all_good results.now) }
 {
@@ -61,7 +73,7 @@ fn write_participants(
 
 fn merged_tree(alloc: Global, hosts: &[Text], results: &[Option<Text>]) -> Result<Value, Memory>
     requires alike { length hosts.now ≡ length results.now }
-    requires results { All IsResult results.now }
+    requires results { All IsMergeable results.now }
     ensures { IfOk result (λ value. view value ≡ merged hosts.now results.now) }
 {
     let (values, all_good) = write_participants(alloc, hosts, results)?;
@@ -70,16 +82,22 @@ fn merged_tree(alloc: Global, hosts: &[Text], results: &[Option<Text>]) -> Resul
 }
 
 /// The merged result of a run, from those of its participants in their order, where `None` is one that
-/// wasn't heard: compact JSON. It is read again where each result nests at most 60 levels.
+/// wasn't heard: compact JSON. It is read again, and may be kept, where each result nests at most 60 levels.
 pub fn merge(alloc: Global, hosts: &[Text], results: &[Option<Text>]) -> Result<Text, Memory>
     requires alike { length hosts.now ≡ length results.now }
-    requires results { All IsResult results.now }
+    requires results { All IsMergeable results.now }
     ensures text { IfOk result (λ text. text ≡ compact_text (merged hosts.now results.now)) }
     ensures reads { IfOk result (λ text. All (λ r. depth (kept_tree r) ≤ 60) results.now
         → tree_of text ≡ Ok (merged hosts.now results.now)) }
+    ensures kept { All IsResult results.now → IfOk result IsTreeText }
     ensures whole { IfOk result (λ _. IsWhole (merged hosts.now results.now)) }
 {
     let value = merged_tree(alloc, hosts, results)?;
     let text = write_text(alloc, &value)?;
     Ok(text)
 }
+
+/// A law: results of participants may be merged.
+pub fn law_results()
+    ensures { (results : List (Option (List ℕ))) → All IsResult results → All IsMergeable results }
+{}

@@ -1,5 +1,7 @@
 //! How often an archiver is tried again, and how long after a failure.
-ghost use Rattle.std.specs.Prelude.{◌≡◌, IfOk};
+ghost use Rattle.std.specs.Prelude.{◌≡◌, ◌≤◌, IfOk, All, length, sum_by};
+ghost use Rattle.archive_retry.specs.Bounds.{IsEntry, IsPolicy};
+ghost use Rattle.archive_retry.specs.Retry.{attempts_of, written_out};
 
 use ps_time::duplicate::Duplicate;
 use ps_time::items::Items;
@@ -37,6 +39,17 @@ pub struct Policy {
 }
 
 impl Policy {
+    /// The attempts of all entries: how many failures are followed by another attempt, 16,000 at most.
+    pub fn attempts(&self) -> u32
+        requires { IsPolicy self.now }
+        ensures sum { result ≡ attempts_of self.now }
+        ensures written { result ≡ length (written_out self.now.entries) }
+        ensures bound { result ≤ 16000 }
+    {
+        total_attempts(self.entries.as_slice())
+    }
+
+    /// The same policy once more.
     pub fn copy(&self, alloc: Global) -> Result<Policy, Memory>
         ensures { IfOk result (λ made. made ≡ self.now) }
     {
@@ -44,6 +57,19 @@ impl Policy {
             entries: self.entries.copy(alloc)?,
         })
     }
+}
+
+fn total_attempts(entries: &[Entry]) -> u32
+    requires few { length entries.now ≤ 16 }
+    requires entries { All IsEntry entries.now }
+    ensures sum { result ≡ sum_by (λ e. e.attempts) entries.now }
+    ensures bound { result ≤ 16000 }
+{
+    let mut total = 0;
+    for entry in entries {
+        total += entry.attempts;
+    }
+    total
 }
 
 impl Duplicate for Policy {

@@ -3,7 +3,7 @@ ghost use Rattle.std.specs.Prelude.{◌≡◌, ◌≤◌, ◌+◌, ◌↔◌, �
 ghost use Rattle.std.specs.List.{slice_get};
 ghost use Rattle.std.specs.Option.{ForSome};
 ghost use Rattle.ps_time.specs.declared.moment.TheConstants.{MAX_LENGTH, MAX_MOMENT};
-ghost use Rattle.archive_retry.specs.Bounds.{IsEntry, IsPolicy};
+ghost use Rattle.archive_retry.specs.Bounds.{IsEntry, IsPolicy, IsStateOf};
 ghost use Rattle.archive_retry.specs.Retry.{written_out, wait_after, next_after, counted, state_after, is_due};
 
 use crate::policy::{Entry, Policy};
@@ -33,6 +33,7 @@ pub fn tried(
     ensures bound { IfSome result.next (λ next. next ≤ MAX_MOMENT + MAX_LENGTH) }
     ensures given_up { good ≡ false
         → IsNone result.next ↔ (IsNone retry ⊎ (length (written_out policy.now.entries) ≤ state.tried)) }
+    ensures lawful { IsStateOf policy.now result }
     ensures over { good ≡ true → (m : ℕ) → is_due result m ≡ false }
 {
     let count = state.tried.saturating_add(1);

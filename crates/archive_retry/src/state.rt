@@ -1,5 +1,9 @@
 //! How far one archiver has come with one result.
-ghost use Rattle.std.specs.Prelude.{◌≡◌};
+ghost use Rattle.std.specs.Prelude.{◌≡◌, ◌≤◌, ℕ, nat_le};
+ghost use Rattle.ps_time.specs.declared.moment.TheConstants.{MAX_LENGTH, MAX_MOMENT};
+ghost use Rattle.archive_retry.specs.Bounds.{IsStateOf};
+ghost use Rattle.archive_retry.specs.Retry.{due_from, is_due};
+ghost use Rattle.archive_retry.specs.declared.policy.Policy.{Policy};
 
 use ps_time::duplicate::Duplicate;
 use ps_time::memory::Memory;
@@ -16,6 +20,22 @@ pub struct ArchiveState {
     pub next: Option<Moment>,
     /// Whether an attempt succeeded.
     pub done: bool,
+}
+
+impl ArchiveState {
+    /// The first state of an archive, where the run is merged at this moment: due from then on.
+    pub fn due_from(moment: Moment) -> ArchiveState
+        requires { moment ≤ MAX_MOMENT }
+        ensures state { result ≡ due_from moment }
+        ensures due { (m : ℕ) → is_due result m ≡ nat_le moment m }
+        ensures lawful { (policy : Policy) → IsStateOf policy result }
+    {
+        ArchiveState {
+            tried: 0,
+            next: Some(moment),
+            done: false,
+        }
+    }
 }
 
 impl Duplicate for ArchiveState {

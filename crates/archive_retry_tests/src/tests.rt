@@ -1,11 +1,11 @@
 //! Policies, attempts and merging: docs/specification/archives.md, worked out by hand.
-ghost use Rattle.std.specs.Prelude.{◌≤◌, IfOk};
+ghost use Rattle.std.specs.Prelude.{◌≡◌, ◌≤◌, IfOk, All, length};
 ghost use Rattle.std.specs.Option.{ForSome};
 ghost use Rattle.archive_retry.specs.Bounds.{IsPolicy};
-ghost use Rattle.archive_retry.specs.Merge.{IsResult};
+ghost use Rattle.archive_retry.specs.Merge.{IsMergeable};
 
 use archive_retry::fault::PolicyFault;
-use archive_retry::merge::merge;
+use archive_retry::merge::{is_result, merge};
 use archive_retry::policy::{Entry, Policy};
 use archive_retry::read_policy::read_policy;
 use archive_retry::retry::{due, tried};
@@ -133,11 +133,10 @@ fn moments(alloc: Global, policy: &Policy, retry: Option<u64>) -> Result<String,
     requires retry { ForSome retry (λ r. r ≤ 100) }
 {
     let mut text = String::new(alloc);
-    let mut state = ArchiveState {
-        tried: 0,
-        next: Some(1_000),
-        done: false,
-    };
+    let mut state = ArchiveState::due_from(1_000);
+    if due(&state, 999) || !due(&state, 1_000) {
+        return Err(Fail::new("first due at another moment"));
+    }
     for _attempt in 0..8 {
         if tried(policy, state, 1_000, retry, true).next.is_some() {
             return Err(Fail::new("due after a success"));
@@ -202,7 +201,7 @@ fn walks(rt: HostRuntime) -> Result<(), Fail> {
 
 // A result that was heard; null stands for none.
 fn heard(alloc: Global, text: &str) -> Result<Option<Text>, Fail>
-    ensures { IfOk result IsResult }
+    ensures { IfOk result IsMergeable }
 {
     if text == "null" {
         return Ok(None);
@@ -261,4 +260,141 @@ fn check_merged(alloc: Global, table: &[(&str, &str, &str)]) -> Result<(), Fail>
 #[test]
 fn merging(rt: HostRuntime) -> Result<(), Fail> {
     check_merged(rt.alloc(), &MERGED)
+}
+
+// As many opening brackets as this, and as many closing ones.
+fn nested(alloc: Global, depth: usize) -> Result<String, Fail> {
+    let mut text = String::new(alloc);
+    for _level in 0..depth {
+        text.push_str("[")?;
+    }
+    for _level in 0..depth {
+        text.push_str("]")?;
+    }
+    Ok(text)
+}
+
+// Texts, and whether they may be results.
+static TEXTS: [(&str, bool); 8] = [
+    ("{}", true),
+    ("null", true),
+    ("[1,-1]", true),
+    (" [ ] ", true),
+    ("[1.0]", false),
+    ("1e2", false),
+    ("[", false),
+    ("", false),
+];
+
+fn check_texts(alloc: Global, table: &[(&str, bool)]) -> Result<(), Fail> {
+    for (text, expected) in table {
+        if is_result(alloc, text)? != *expected {
+            return Err(Fail::new(format_args!("{text}")));
+        }
+    }
+    Ok(())
+}
+
+fn is_nested_result(alloc: Global, depth: usize) -> Result<bool, Fail> {
+    let text = nested(alloc, depth)?;
+    Ok(is_result(alloc, text.as_str())?)
+}
+
+#[test]
+fn results(rt: HostRuntime) -> Result<(), Fail> {
+    let alloc = rt.alloc();
+    check_texts(alloc, &TEXTS)?;
+    assert!(rt; is_nested_result(alloc, 60)?);
+    assert!(rt; !is_nested_result(alloc, 61)?);
+    assert!(rt; !is_nested_result(alloc, 64)?);
+    Ok(())
+}
+
+// So many hosts of the name `a`.
+fn hosts(alloc: Global, count: usize) -> Result<Vec<Text>, Fail>
+    ensures { IfOk result (λ hosts. length hosts.items ≡ count) }
+{
+    let mut hosts = Vec::new(alloc);
+    for host in 0..count {
+        hosts.push(Text::new(alloc, "a")?)?;
+    }
+    Ok(hosts)
+}
+
+// So many results, each `{"succeeded":true}`.
+fn successes(alloc: Global, count: usize) -> Result<Vec<Option<Text>>, Fail>
+    ensures count { IfOk result (λ results. length results.items ≡ count) }
+    ensures bounds { IfOk result (λ results. All IsMergeable results.items) }
+{
+    let mut results = Vec::new(alloc);
+    for host in 0..count {
+        results.push(heard(alloc, r#"{"succeeded":true}"#)?)?;
+    }
+    Ok(results)
+}
+
+fn merged_of(alloc: Global, count: usize) -> Result<Text, Fail> {
+    let hosts = hosts(alloc, count)?;
+    let results = successes(alloc, count)?;
+    Ok(merge(alloc, hosts.as_slice(), results.as_slice())?)
+}
+
+fn expected_of(alloc: Global, count: usize) -> Result<String, Fail> {
+    let mut text = String::from_str(alloc, r#"{"participants":["#)?;
+    for host in 0..count {
+        if host > 0 {
+            text.push_str(",")?;
+        }
+        text.push_str(r#"{"host":"a","result":{"succeeded":true}}"#)?;
+    }
+    text.push_str(r#"],"schema":1,"succeeded":true}"#)?;
+    Ok(text)
+}
+
+#[test]
+fn merging_of_1_to_8_hosts(rt: HostRuntime) -> Result<(), Fail> {
+    let alloc = rt.alloc();
+    for count in 1..9_usize {
+        let text = merged_of(alloc, count)?;
+        if !text.is(expected_of(alloc, count)?.as_str()) {
+            return Err(Fail::new(format_args!("{text}")));
+        }
+    }
+    Ok(())
+}
+
+// A policy of so many entries, each of 1,000 attempts.
+fn long_policy(alloc: Global, count: usize) -> Result<String, Fail> {
+    let mut text = String::from_str(alloc, "[")?;
+    for entry in 0..count {
+        if entry > 0 {
+            text.push_str(",")?;
+        }
+        text.push_str(r#"{"attempts":1000,"wait":"PT1S"}"#)?;
+    }
+    text.push_str("]")?;
+    Ok(text)
+}
+
+// The attempts of the policy, or 0 where it is none.
+fn attempts(alloc: Global, text: &str) -> Result<u32, Fail> {
+    match read_policy(alloc, read_tree(alloc, text.as_bytes())?) {
+        Ok(policy) => Ok(policy.attempts()),
+        Err(PolicyFault::Memory) => Err(Fail::new("out of memory")),
+        Err(_) => Ok(0),
+    }
+}
+
+fn long_attempts(alloc: Global, count: usize) -> Result<u32, Fail> {
+    let text = long_policy(alloc, count)?;
+    attempts(alloc, text.as_str())
+}
+
+#[test]
+fn policies_of_16_entries(rt: HostRuntime) -> Result<(), Fail> {
+    let alloc = rt.alloc();
+    assert!(rt; long_attempts(alloc, 1)? == 1_000);
+    assert!(rt; long_attempts(alloc, 16)? == 16_000);
+    assert!(rt; long_attempts(alloc, 17)? == 0);
+    Ok(())
 }

@@ -1,4 +1,6 @@
 pub mod BoundLemmas
+pub mod ChoiceLemmas
+pub mod LengthLemmas
 pub mod ResultLemmas
 pub mod ShapeLemmas
 pub mod WrittenLemmas

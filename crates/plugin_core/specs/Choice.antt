@@ -1,6 +1,8 @@
 -- Which tools run a test, and which of them is chosen.
-use Rattle.std.specs.Prelude.{ℕ, ◌*◌, Bool, true, false, nat_lt, List, [], ◌∷◌, length, Option, Some, None, if◌then◌else◌, codes}
+use Rattle.std.specs.Prelude.{ℕ, ◌*◌, ◌≡◌, ◌≤◌, Bool, true, false, ◌&&◌, nat_lt, List, [], ◌∷◌, ◌++◌, length, Option, Some, None, if◌then◌else◌, codes, sum_by}
+use Rattle.std.specs.Cmp.Lexicographic.{slice_cmp}
 use Rattle.std.specs.List.{list_all}
+use Rattle.std.specs.Ordering.{nat_cmp, is_le}
 use Rattle.std.specs.Str.{bytes_eq}
 use Rattle.plugin_core.specs.declared.kind.TestKind.{TestKind}
 use Rattle.plugin_core.specs.declared.kind.TestKind.TheVariants.{Idle, Idleex, Idlebgm, Idlemany, Simplestream}
@@ -62,6 +64,7 @@ abbrev pub first_wanted : List (List (List ℕ)) → List (List ℕ) → Option 
 first_wanted lists [] = None
 first_wanted lists (name ∷ names) = or_else (offered lists (tool_of_text name)) (first_wanted lists names)
 
+-- every tool, ascending by name
 abbrev pub tools_by_name : List Tool
 tools_by_name = Simplestreamer ∷ Sleep ∷ Sleepbgm ∷ Snooze ∷ []
 
@@ -86,3 +89,37 @@ best_of lists (tool ∷ tools) = or_better lists tool (best_of lists tools)
 abbrev pub chosen : List (List (List ℕ)) → List (List ℕ) → Option Tool
 chosen lists [] = best_of lists tools_by_name
 chosen lists (name ∷ names) = first_wanted lists (name ∷ names)
+
+-- ---- what the choice means
+
+-- each list adds the tool's preference
+abbrev pub sum_of_preferences : List (List (List ℕ)) → Tool → ℕ
+sum_of_preferences lists tool = sum_by (λ list. preference tool) lists
+
+-- the name of the one isn't after that of the other
+abbrev pub is_named_first : Tool → Tool → Bool
+is_named_first tool other = is_le (slice_cmp nat_cmp (tool_text tool) (tool_text other))
+
+-- each list has the tool, and none that each list has comes before it by preferences and then by name
+pub record IsBest (lists : List (List (List ℕ))) (tool : Tool) : Type 0 where
+  pub everywhere : in_all lists tool ≡ true
+  pub greatest : (other : Tool) → in_all lists other ≡ true → sum_of_preferences lists other ≤ sum_of_preferences lists tool
+  pub first : (other : Tool) → in_all lists other ≡ true → sum_of_preferences lists other ≡ sum_of_preferences lists tool → is_named_first tool other ≡ true
+
+-- each list has the tool, it is wanted, and none of those wanted before it is one that each list has
+pub record IsFirstWanted (lists : List (List (List ℕ))) (wanted : List (List ℕ)) (tool : Tool) : Type 0 where
+  pub everywhere : in_all lists tool ≡ true
+  pub before : List (List ℕ)
+  pub after : List (List ℕ)
+  pub place : wanted ≡ before ++ tool_text tool ∷ after
+  pub passed : (other : Tool) → is_named (tool_text other) before ≡ true → in_all lists other ≡ false
+
+-- by preferences where none is wanted, and else by the order in which they are wanted
+abbrev pub IsChoice : List (List (List ℕ)) → List (List ℕ) → Tool → Type 0
+IsChoice lists [] tool = IsBest lists tool
+IsChoice lists (name ∷ names) tool = IsFirstWanted lists (name ∷ names) tool
+
+-- each list has the tool, and it is wanted, where some are
+abbrev pub qualifies : List (List (List ℕ)) → List (List ℕ) → Tool → Bool
+qualifies lists [] tool = in_all lists tool
+qualifies lists (name ∷ names) tool = in_all lists tool && is_named (tool_text tool) (name ∷ names)

@@ -1,6 +1,8 @@
 -- Kinds of tests and their names.
-use Rattle.std.specs.Prelude.{ℕ, List, Option, Some, None, if◌then◌else◌, codes}
+use Rattle.std.specs.Prelude.{ℕ, List, [], ◌∷◌, Option, Some, None, if◌then◌else◌, codes}
 use Rattle.std.specs.Str.{bytes_eq}
+use Rattle.ps_time.specs.declared.class.Class.{Class}
+use Rattle.ps_time.specs.declared.class.Class.TheVariants.{BackgroundMulti, Background, Normal, Exclusive}
 use Rattle.plugin_core.specs.declared.kind.TestKind.{TestKind}
 use Rattle.plugin_core.specs.declared.kind.TestKind.TheVariants.{Idle, Idleex, Idlebgm, Idlemany, Simplestream}
 use Rattle.plugin_core.specs.declared.test_spec.TestSpec.{TestSpec}
@@ -29,3 +31,15 @@ test_kind (an_idleex duration starting parting) = Idleex
 test_kind (an_idlebgm duration starting parting interval) = Idlebgm
 test_kind (an_idlemany duration starting parting hosts) = Idlemany
 test_kind (a_simplestream dest material dawdle timeout) = Simplestream
+
+-- the class in which tests of a kind run
+abbrev pub kind_class : TestKind → Class
+kind_class Idle = Background
+kind_class Idleex = Exclusive
+kind_class Idlebgm = BackgroundMulti
+kind_class Idlemany = Exclusive
+kind_class Simplestream = Normal
+
+-- every kind, ascending by name
+abbrev pub kinds_by_name : List TestKind
+kinds_by_name = Idle ∷ Idlebgm ∷ Idleex ∷ Idlemany ∷ Simplestream ∷ []

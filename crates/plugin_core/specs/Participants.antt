@@ -1,7 +1,9 @@
 -- Who takes part in a run, and how.
-use Rattle.std.specs.Prelude.{ℕ, Bool, List, [], ◌∷◌, if◌then◌else◌}
-use Rattle.std.specs.List.{list_any}
+use Rattle.std.specs.Prelude.{ℕ, ◌≡◌, ◌≤◌, Bool, true, List, [], ◌∷◌, length, if◌then◌else◌}
+use Rattle.std.specs.List.{list_all, list_any}
 use Rattle.std.specs.Str.{bytes_eq}
+use Rattle.ps_time.specs.Name.{is_name}
+use Rattle.ps_time.specs.Numbers.{most_participants}
 use Rattle.plugin_core.specs.declared.run.Role.{Role}
 use Rattle.plugin_core.specs.declared.run.Role.TheVariants.{Only, Source, Dest}
 use Rattle.plugin_core.specs.declared.test_spec.TestSpec.{TestSpec}
@@ -24,3 +26,9 @@ abbrev pub role_in : TestSpec → List ℕ → List ℕ → Role
 role_in (Simplestream dest material dawdle timeout) lead host =
     if bytes_eq dest lead then Only else if bytes_eq host lead then Source else Dest
 role_in _ lead host = Only
+
+-- 1 to 8 participants, each a name
+pub record HasParticipants (names : List (List ℕ)) : Type 0 where
+  pub some : 1 ≤ length names
+  pub few : length names ≤ most_participants
+  pub named : list_all is_name names ≡ true

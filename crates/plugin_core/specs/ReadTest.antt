@@ -1,5 +1,5 @@
 -- Which test a JSON tree is.
-use Rattle.std.specs.Prelude.{ℕ, ◌/◌, ◌+◌, Bool, true, not, ◌&&◌, ◌==◌, nat_lt, nat_le, List, [], ◌∷◌, ◌++◌, length, Option, Some, None, Result, Ok, Err, if◌then◌else◌, codes}
+use Rattle.std.specs.Prelude.{ℕ, ◌/◌, ◌+◌, Bool, true, not, ◌&&◌, ◌==◌, nat_lt, nat_le, List, [], ◌∷◌, length, Option, Some, None, Result, Ok, Err, if◌then◌else◌, codes}
 use Rattle.serde_json.specs.Data.{Data, Members}
 use Rattle.ps_json.specs.Each.{read_each}
 use Rattle.ps_json.specs.Answer.{then_with, lifted}
@@ -15,7 +15,7 @@ use Rattle.plugin_core.specs.declared.kind.TestKind.{TestKind}
 use Rattle.plugin_core.specs.declared.kind.TestKind.TheVariants.{Idle as idle, Idleex as idleex, Idlebgm as idlebgm, Idlemany as idlemany, Simplestream as simplestream}
 use Rattle.plugin_core.specs.declared.test_spec.TestSpec.{TestSpec}
 use Rattle.plugin_core.specs.declared.test_spec.TestSpec.TheVariants.{Idle, Idleex, Idlebgm, Idlemany, Simplestream}
-use Rattle.plugin_core.specs.declared.read_test.Sleeping.{Sleeping}
+use Rattle.plugin_core.specs.declared.test_spec.Sleeping.{Sleeping}
 use Rattle.plugin_core.specs.Fault.{wrapped, in_json}
 use Rattle.plugin_core.specs.Kind.{kind_of_text}
 use Rattle.ps_json.specs.Member.{required, optional, member_then}

@@ -7,6 +7,10 @@ use Rattle.plugin_core.specs.declared.test_spec.TestSpec.{TestSpec}
 use Rattle.plugin_core.specs.declared.test_spec.TestSpec.TheVariants.{Idle, Idleex, Idlebgm, Idlemany, Simplestream}
 use Rattle.plugin_core.specs.Kind.{kind_text, test_kind}
 
+-- the most bytes that the compact text of a test has
+abbrev pub most_test_bytes : ℕ
+most_test_bytes = 65_536
+
 -- a length as it is written
 abbrev pub length_data : ℕ → Data
 length_data len = string (length_text_of len)

@@ -1,9 +1,13 @@
 //! Which tools run a test, and which of them is chosen.
-ghost use Rattle.std.specs.Prelude.{◌≡◌, IfOk, length};
+ghost use Rattle.std.specs.Prelude.{◌≡◌, ◌↔◌, false, IfOk, IfSome, IsNone, Contains, length};
+ghost use Rattle.std.specs.Cmp.Lexicographic.{slice_cmp};
 ghost use Rattle.std.specs.List.{filter};
+ghost use Rattle.std.specs.Ordering.{nat_cmp};
+ghost use Rattle.ps_time.specs.Sorted.{IsAscending};
 ghost use Rattle.plugin_core.specs.Kind.{test_kind};
 ghost use Rattle.plugin_core.specs.Tool.{tool_text};
-ghost use Rattle.plugin_core.specs.Choice.{tool_of_text, tool_runs, is_tool_for, preference, in_all, offered, first_wanted, exceeds, or_better, best_of, tools_by_name, chosen};
+ghost use Rattle.plugin_core.specs.Choice.{tool_of_text, tool_runs, is_tool_for, preference, in_all, offered, first_wanted, exceeds, or_better, best_of, tools_by_name, chosen, IsChoice, qualifies};
+ghost use Rattle.plugin_core.specs.declared.tool.Tool.{Tool};
 
 use crate::kind::{TestKind, kind_of};
 use crate::participants::is_named;
@@ -13,6 +17,22 @@ use ps_time::items::Items;
 use ps_time::memory::Memory;
 use ps_time::text::Text;
 use std::alloc::Global;
+
+static TOOLS: [Tool; 4] = [
+    Tool::Simplestreamer,
+    Tool::Sleep,
+    Tool::Sleepbgm,
+    Tool::Snooze,
+];
+
+/// Every tool, ascending by name.
+pub fn tools() -> &'static [Tool]
+    ensures list { result.now ≡ tools_by_name }
+    ensures every { (tool : Tool) → Contains result.now tool }
+    ensures ascending { IsAscending (slice_cmp nat_cmp) tool_text result.now }
+{
+    &TOOLS
+}
 
 /// The tool of a name; `None` exactly for every other text.
 pub fn read_tool(text: &str) -> Option<Tool>
@@ -66,6 +86,14 @@ fn is_tool_for(name: &str, kind: TestKind) -> bool
 /// where none is wanted, the one in all lists with the greatest sum of preferences, and of equal ones
 /// the first by name. `None` exactly where there is none.
 pub fn choose_tool(lists: &[Items<Text>], wanted: &[Text]) -> Option<Tool>
+    ensures value { result ≡ chosen lists.now wanted.now }
+    ensures choice { IfSome result (IsChoice lists.now wanted.now) }
+    ensures none { IsNone result ↔ ((tool : Tool) → qualifies lists.now wanted.now tool ≡ false) }
+{
+    chosen(lists, wanted)
+}
+
+fn chosen(lists: &[Items<Text>], wanted: &[Text]) -> Option<Tool>
     ensures { result ≡ chosen lists.now wanted.now }
 {
     if wanted.is_empty() {

@@ -1,6 +1,9 @@
 //! Who takes part in a run, and how.
-ghost use Rattle.std.specs.Prelude.{◌≡◌, [], ◌∷◌, IfOk};
-ghost use Rattle.plugin_core.specs.Participants.{participants, role_in, is_named};
+ghost use Rattle.std.specs.Prelude.{◌≡◌, [], ◌∷◌, ℕ, List, true, IfOk};
+ghost use Rattle.ps_time.specs.Name.{is_name};
+ghost use Rattle.plugin_core.specs.Bounds.{IsTest};
+ghost use Rattle.plugin_core.specs.Participants.{participants, role_in, is_named, HasParticipants};
+ghost use Rattle.plugin_core.specs.declared.test_spec.TestSpec.{TestSpec};
 
 use crate::run::Role;
 use crate::test_spec::TestSpec;
@@ -11,7 +14,8 @@ use std::alloc::Global;
 
 /// The names of those that take part in a run that this lead leads.
 pub fn participants_of(alloc: Global, test: &TestSpec, lead: &str) -> Result<Items<Text>, Memory>
-    ensures { IfOk result (λ names. names ≡ participants test.now lead.now) }
+    ensures names { IfOk result (λ names. names ≡ participants test.now lead.now) }
+    ensures bounds { IsTest test.now → is_name lead.now ≡ true → IfOk result HasParticipants }
 {
     match test {
         TestSpec::Idlemany { hosts, .. } => hosts.copy(alloc),
@@ -70,3 +74,10 @@ pub fn role_of(test: &TestSpec, lead: &str, host: &str) -> Role
         _ => Role::Only,
     }
 }
+
+/// A law: a run of a test that keeps its bounds has 1 to 8 participants, each a name, where the lead's is
+/// one.
+pub fn law_participants()
+    ensures { (test : TestSpec) (lead : List ℕ) → IsTest test → is_name lead ≡ true
+        → HasParticipants (participants test lead) }
+{}

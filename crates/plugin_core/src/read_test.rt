@@ -17,7 +17,7 @@ ghost use Rattle.plugin_core.specs.ReadTest.{schema, length_in, duration_in, tex
 use crate::fault::SpecFault;
 use crate::kind::{TestKind, read_kind};
 use crate::participants::is_named;
-use crate::test_spec::TestSpec;
+use crate::test_spec::{Sleeping, TestSpec};
 use ps_json::fault::JsonFault;
 use ps_json::fields::Fields;
 use ps_json::kinds::{read_count, read_list, read_text};
@@ -28,14 +28,6 @@ use ps_time::read_length::read_length;
 use ps_time::text::Text;
 use serde_json::Value;
 use std::alloc::Global;
-
-/// What the tests that sleep have in common.
-#[derive(Drop)]
-pub struct Sleeping {
-    pub duration: Length,
-    pub starting_comment: Option<Text>,
-    pub parting_comment: Option<Text>,
-}
 
 fn take_schema(alloc: Global, fields: &mut Fields) -> Result<u64, SpecFault>
     ensures value { GivesUnless SpecFault.Memory result (optional 1 schema (codes "schema") fields.old) }
@@ -137,15 +129,7 @@ fn read_idle(alloc: Global, mut fields: Fields) -> Result<TestSpec, SpecFault>
     ensures bounds { IfOk result IsTest }
 {
     let sleeping = take_sleeping(alloc, &mut fields)?;
-    end_with(
-        alloc,
-        fields,
-        TestSpec::Idle {
-            duration: sleeping.duration,
-            starting_comment: sleeping.starting_comment,
-            parting_comment: sleeping.parting_comment,
-        },
-    )
+    end_with(alloc, fields, sleeping.idle())
 }
 
 fn read_idleex(alloc: Global, mut fields: Fields) -> Result<TestSpec, SpecFault>
@@ -153,15 +137,7 @@ fn read_idleex(alloc: Global, mut fields: Fields) -> Result<TestSpec, SpecFault>
     ensures bounds { IfOk result IsTest }
 {
     let sleeping = take_sleeping(alloc, &mut fields)?;
-    end_with(
-        alloc,
-        fields,
-        TestSpec::Idleex {
-            duration: sleeping.duration,
-            starting_comment: sleeping.starting_comment,
-            parting_comment: sleeping.parting_comment,
-        },
-    )
+    end_with(alloc, fields, sleeping.idleex())
 }
 
 /// The interval, which is at most the duration and goes into it at most 64 times.
@@ -187,16 +163,7 @@ fn read_idlebgm(alloc: Global, mut fields: Fields) -> Result<TestSpec, SpecFault
 {
     let sleeping = take_sleeping(alloc, &mut fields)?;
     let interval = read_interval(alloc, &mut fields, sleeping.duration)?;
-    end_with(
-        alloc,
-        fields,
-        TestSpec::Idlebgm {
-            duration: sleeping.duration,
-            starting_comment: sleeping.starting_comment,
-            parting_comment: sleeping.parting_comment,
-            interval,
-        },
-    )
+    end_with(alloc, fields, sleeping.idlebgm(interval))
 }
 
 fn read_names(alloc: Global, values: Vec<Value>, name: &str) -> Result<Items<Text>, SpecFault>
@@ -240,16 +207,7 @@ fn read_idlemany(alloc: Global, mut fields: Fields) -> Result<TestSpec, SpecFaul
 {
     let sleeping = take_sleeping(alloc, &mut fields)?;
     let hosts = read_hosts(alloc, fields.need(alloc, "hosts")?)?;
-    end_with(
-        alloc,
-        fields,
-        TestSpec::Idlemany {
-            duration: sleeping.duration,
-            starting_comment: sleeping.starting_comment,
-            parting_comment: sleeping.parting_comment,
-            hosts,
-        },
-    )
+    end_with(alloc, fields, sleeping.idlemany(hosts))
 }
 
 fn take_material(alloc: Global, fields: &mut Fields) -> Result<Text, SpecFault>
@@ -350,7 +308,8 @@ pub fn read_test(alloc: Global, value: Value) -> Result<TestSpec, SpecFault>
     end_with(alloc, fields, test)
 }
 
-/// A law: the length of every test that keeps its bounds is a length.
+/// A law: the length of every test that keeps its bounds is a length, and at least 1 s.
 pub fn law_test_length()
-    ensures { (test : TestSpec) → IsTest test → test_length test ≤ MAX_LENGTH }
+    ensures lasts { (test : TestSpec) → IsTest test → 1 ≤ test_length test }
+    ensures within { (test : TestSpec) → IsTest test → test_length test ≤ MAX_LENGTH }
 {}

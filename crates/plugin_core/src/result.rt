@@ -1,9 +1,10 @@
 //! The results of runs.
-ghost use Rattle.std.specs.Prelude.{◌≡◌, ◌≤◌, ◌+◌, ◌*◌, ◌/◌, Ok, map, IfOk};
+ghost use Rattle.std.specs.Prelude.{◌≡◌, ◌≤◌, ◌+◌, ◌*◌, ◌/◌, Ok, length, map, IfOk};
 ghost use Rattle.serde_json.specs.Data.{array, depth};
 ghost use Rattle.serde_json.specs.View.{view, items_of};
 ghost use Rattle.serde_json.specs.Written.{compact_text};
 ghost use Rattle.ps_json.specs.Tree.{IsWhole, tree_of};
+ghost use Rattle.ps_time.specs.Numbers.{most_result_bytes};
 ghost use Rattle.ps_time.specs.declared.moment.TheConstants.{MAX_LENGTH, MAX_MOMENT};
 ghost use Rattle.plugin_core.specs.Bounds.{IsTest};
 ghost use Rattle.plugin_core.specs.ResultText.{failed, slept, tick, ticks, ticked, streamed, good_result, result_data, TicksFit};
@@ -141,6 +142,7 @@ pub fn result_text(
     ensures reads { IfOk result (λ text. tree_of text ≡ Ok (result_data test.now tool.now outcome)) }
     ensures whole { IsWhole (result_data test.now tool.now outcome) }
     ensures flat { depth (result_data test.now tool.now outcome) ≤ 3 }
+    ensures short { IfOk result (λ text. length text ≤ most_result_bytes) }
 {
     let value = write_result(alloc, test, tool, outcome)?;
     write_text(alloc, &value)

@@ -33,9 +33,11 @@ pub enum Outcome {
 /// What a tool knows of its run.
 #[derive(Clone, Copy)]
 pub struct ToolView {
+    /// When the run started, up to `MAX_MOMENT`.
     pub started: Moment,
     /// The end of the run's interval: up to `MAX_MOMENT + MAX_LENGTH`.
     pub end: Moment,
+    /// The host's part.
     pub role: Role,
     /// Whether the material was acknowledged, at a source, or was heard, at a dest.
     pub material: bool,

@@ -1,7 +1,8 @@
 //! What a run measures, with the parameters of each kind of test.
-ghost use Rattle.std.specs.Prelude.{◌≡◌, ◌≤◌, IfOk};
+ghost use Rattle.std.specs.Prelude.{◌≡◌, ◌≤◌, ◌↔◌, IsTrue, IfOk};
 ghost use Rattle.ps_time.specs.declared.moment.TheConstants.{MAX_LENGTH};
 ghost use Rattle.plugin_core.specs.TestSpec.{test_class, test_length};
+ghost use Rattle.plugin_core.specs.declared.test_spec.TestSpec.{TestSpec};
 
 use ps_time::class::Class;
 use ps_time::duplicate::Duplicate;
@@ -127,7 +128,100 @@ pub fn length_of(test: &TestSpec) -> Length
     }
 }
 
+/// What the tests that sleep have in common.
+#[derive(Drop)]
+pub struct Sleeping {
+    /// At least 1 s.
+    pub duration: Length,
+    /// At most 1,024 bytes.
+    pub starting_comment: Option<Text>,
+    /// At most 1,024 bytes.
+    pub parting_comment: Option<Text>,
+}
+
+impl Sleeping {
+    /// The test `idle` with these parameters.
+    pub fn idle(self) -> TestSpec
+        ensures { result ≡ TestSpec.Idle self.duration self.starting_comment self.parting_comment }
+    {
+        TestSpec::Idle {
+            duration: self.duration,
+            starting_comment: self.starting_comment,
+            parting_comment: self.parting_comment,
+        }
+    }
+
+    /// The test `idleex` with these parameters.
+    pub fn idleex(self) -> TestSpec
+        ensures { result ≡ TestSpec.Idleex self.duration self.starting_comment self.parting_comment }
+    {
+        TestSpec::Idleex {
+            duration: self.duration,
+            starting_comment: self.starting_comment,
+            parting_comment: self.parting_comment,
+        }
+    }
+
+    /// The test `idlebgm` with these parameters and this interval.
+    pub fn idlebgm(self, interval: Length) -> TestSpec
+        ensures { result ≡ TestSpec.Idlebgm self.duration self.starting_comment self.parting_comment interval }
+    {
+        TestSpec::Idlebgm {
+            duration: self.duration,
+            starting_comment: self.starting_comment,
+            parting_comment: self.parting_comment,
+            interval,
+        }
+    }
+
+    /// The test `idlemany` with these parameters, on these hosts.
+    pub fn idlemany(self, hosts: Items<Text>) -> TestSpec
+        ensures { result ≡ TestSpec.Idlemany self.duration self.starting_comment self.parting_comment hosts }
+    {
+        TestSpec::Idlemany {
+            duration: self.duration,
+            starting_comment: self.starting_comment,
+            parting_comment: self.parting_comment,
+            hosts,
+        }
+    }
+}
+
+fn copied(
+    alloc: Global,
+    duration: Length,
+    starting: &Option<Text>,
+    parting: &Option<Text>,
+) -> Result<Sleeping, Memory>
+    ensures { IfOk result (λ made. made
+        ≡ record { duration = duration; starting_comment = starting.now; parting_comment = parting.now }) }
+{
+    Ok(Sleeping {
+        duration,
+        starting_comment: starting.duplicate(alloc)?,
+        parting_comment: parting.duplicate(alloc)?,
+    })
+}
+
+fn copy_stream(
+    alloc: Global,
+    dest: &Text,
+    material: &Text,
+    dawdle: Length,
+    timeout: Length,
+) -> Result<TestSpec, Memory>
+    ensures { IfOk result (λ made. made ≡ TestSpec.Simplestream dest.now material.now dawdle timeout) }
+{
+    Ok(TestSpec::Simplestream {
+        dest: dest.copy(alloc)?,
+        test_material: material.copy(alloc)?,
+        dawdle,
+        timeout,
+    })
+}
+
 impl TestSpec {
+    /// The same test once more.
     pub fn copy(&self, alloc: Global) -> Result<TestSpec, Memory>
         ensures { IfOk result (λ made. made ≡ self.now) }
     {
@@ -136,53 +230,35 @@ impl TestSpec {
                 duration,
                 starting_comment,
                 parting_comment,
-            } => Ok(TestSpec::Idle {
-                duration: *duration,
-                starting_comment: starting_comment.duplicate(alloc)?,
-                parting_comment: parting_comment.duplicate(alloc)?,
-            }),
+            } => Ok(copied(alloc, *duration, starting_comment, parting_comment)?.idle()),
             TestSpec::Idleex {
                 duration,
                 starting_comment,
                 parting_comment,
-            } => Ok(TestSpec::Idleex {
-                duration: *duration,
-                starting_comment: starting_comment.duplicate(alloc)?,
-                parting_comment: parting_comment.duplicate(alloc)?,
-            }),
+            } => Ok(copied(alloc, *duration, starting_comment, parting_comment)?.idleex()),
             TestSpec::Idlebgm {
                 duration,
                 starting_comment,
                 parting_comment,
                 interval,
-            } => Ok(TestSpec::Idlebgm {
-                duration: *duration,
-                starting_comment: starting_comment.duplicate(alloc)?,
-                parting_comment: parting_comment.duplicate(alloc)?,
-                interval: *interval,
-            }),
+            } => Ok(copied(alloc, *duration, starting_comment, parting_comment)?.idlebgm(
+                *interval,
+            )),
             TestSpec::Idlemany {
                 duration,
                 starting_comment,
                 parting_comment,
                 hosts,
-            } => Ok(TestSpec::Idlemany {
-                duration: *duration,
-                starting_comment: starting_comment.duplicate(alloc)?,
-                parting_comment: parting_comment.duplicate(alloc)?,
-                hosts: hosts.copy(alloc)?,
-            }),
+            } => {
+                let sleeping = copied(alloc, *duration, starting_comment, parting_comment)?;
+                Ok(sleeping.idlemany(hosts.copy(alloc)?))
+            }
             TestSpec::Simplestream {
                 dest,
                 test_material,
                 dawdle,
                 timeout,
-            } => Ok(TestSpec::Simplestream {
-                dest: dest.copy(alloc)?,
-                test_material: test_material.copy(alloc)?,
-                dawdle: *dawdle,
-                timeout: *timeout,
-            }),
+            } => copy_stream(alloc, dest, test_material, *dawdle, *timeout),
         }
     }
 }
@@ -193,76 +269,139 @@ impl Duplicate for TestSpec {
     }
 }
 
+fn is_idle(
+    test: &TestSpec,
+    duration: Length,
+    starting: &Option<Text>,
+    parting: &Option<Text>,
+) -> bool
+    ensures { IsTrue result ↔ (TestSpec.Idle duration starting.now parting.now ≡ test.now) }
+{
+    match test {
+        TestSpec::Idle {
+            duration: d,
+            starting_comment: s,
+            parting_comment: p,
+        } => duration == *d && starting.same(s) && parting.same(p),
+        _ => false,
+    }
+}
+
+fn is_idleex(
+    test: &TestSpec,
+    duration: Length,
+    starting: &Option<Text>,
+    parting: &Option<Text>,
+) -> bool
+    ensures { IsTrue result ↔ (TestSpec.Idleex duration starting.now parting.now ≡ test.now) }
+{
+    match test {
+        TestSpec::Idleex {
+            duration: d,
+            starting_comment: s,
+            parting_comment: p,
+        } => duration == *d && starting.same(s) && parting.same(p),
+        _ => false,
+    }
+}
+
+fn is_idlebgm(
+    test: &TestSpec,
+    duration: Length,
+    starting: &Option<Text>,
+    parting: &Option<Text>,
+    interval: Length,
+) -> bool
+    ensures { IsTrue result ↔ (TestSpec.Idlebgm duration starting.now parting.now interval ≡ test.now) }
+{
+    match test {
+        TestSpec::Idlebgm {
+            duration: d,
+            starting_comment: s,
+            parting_comment: p,
+            interval: i,
+        } => duration == *d && starting.same(s) && parting.same(p) && interval == *i,
+        _ => false,
+    }
+}
+
+fn is_idlemany(
+    test: &TestSpec,
+    duration: Length,
+    starting: &Option<Text>,
+    parting: &Option<Text>,
+    hosts: &Items<Text>,
+) -> bool
+    ensures { IsTrue result ↔ (TestSpec.Idlemany duration starting.now parting.now hosts.now ≡ test.now) }
+{
+    match test {
+        TestSpec::Idlemany {
+            duration: d,
+            starting_comment: s,
+            parting_comment: p,
+            hosts: h,
+        } => duration == *d && starting.same(s) && parting.same(p) && hosts.same(h),
+        _ => false,
+    }
+}
+
+fn is_simplestream(
+    test: &TestSpec,
+    dest: &Text,
+    material: &Text,
+    dawdle: Length,
+    timeout: Length,
+) -> bool
+    ensures { IsTrue result ↔ (TestSpec.Simplestream dest.now material.now dawdle timeout ≡ test.now) }
+{
+    match test {
+        TestSpec::Simplestream {
+            dest: d,
+            test_material: m,
+            dawdle: w,
+            timeout: t,
+        } => dest.same(d) && material.same(m) && dawdle == *w && timeout == *t,
+        _ => false,
+    }
+}
+
 impl Same for TestSpec {
     fn same(&self, other: &TestSpec) -> bool {
-        match (self, other) {
-            (
-                TestSpec::Idle {
-                    duration: d,
-                    starting_comment: s,
-                    parting_comment: p,
-                },
-                TestSpec::Idle {
-                    duration: e,
-                    starting_comment: t,
-                    parting_comment: q,
-                },
-            ) => d == e && s.same(t) && p.same(q),
-            (
-                TestSpec::Idleex {
-                    duration: d,
-                    starting_comment: s,
-                    parting_comment: p,
-                },
-                TestSpec::Idleex {
-                    duration: e,
-                    starting_comment: t,
-                    parting_comment: q,
-                },
-            ) => d == e && s.same(t) && p.same(q),
-            (
-                TestSpec::Idlebgm {
-                    duration: d,
-                    starting_comment: s,
-                    parting_comment: p,
-                    interval: i,
-                },
-                TestSpec::Idlebgm {
-                    duration: e,
-                    starting_comment: t,
-                    parting_comment: q,
-                    interval: j,
-                },
-            ) => d == e && s.same(t) && p.same(q) && i == j,
-            (
-                TestSpec::Idlemany {
-                    duration: d,
-                    starting_comment: s,
-                    parting_comment: p,
-                    hosts: h,
-                },
-                TestSpec::Idlemany {
-                    duration: e,
-                    starting_comment: t,
-                    parting_comment: q,
-                    hosts: i,
-                },
-            ) => d == e && s.same(t) && p.same(q) && h.same(i),
-            (
-                TestSpec::Simplestream {
-                    dest: a,
-                    test_material: m,
-                    dawdle: d,
-                    timeout: t,
-                },
-                TestSpec::Simplestream {
-                    dest: b,
-                    test_material: n,
-                    dawdle: e,
-                    timeout: u,
-                },
-            ) => a.same(b) && m.same(n) && d == e && t == u,
-            _ => false,
+        match self {
+            TestSpec::Idle {
+                duration,
+                starting_comment,
+                parting_comment,
+            } => is_idle(other, *duration, starting_comment, parting_comment),
+            TestSpec::Idleex {
+                duration,
+                starting_comment,
+                parting_comment,
+            } => is_idleex(other, *duration, starting_comment, parting_comment),
+            TestSpec::Idlebgm {
+                duration,
+                starting_comment,
+                parting_comment,
+                interval,
+            } => is_idlebgm(
+                other,
+                *duration,
+                starting_comment,
+                parting_comment,
+                *interval,
+            ),
+            TestSpec::Idlemany {
+                duration,
+                starting_comment,
+                parting_comment,
+                hosts,
+            } => is_idlemany(other, *duration, starting_comment, parting_comment, hosts),
+            TestSpec::Simplestream {
+                dest,
+                test_material,
+                dawdle,
+                timeout,
+            } => is_simplestream(other, dest, test_material, *dawdle, *timeout),
         }
     }
 }

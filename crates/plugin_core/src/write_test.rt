@@ -1,12 +1,13 @@
 //! The writer of tests.
-ghost use Rattle.std.specs.Prelude.{◌≡◌, ◌≤◌, ◌<◌, Ok, map, IfOk, OnOk};
+ghost use Rattle.std.specs.Prelude.{◌≡◌, ◌≤◌, ◌<◌, Ok, length, map, IfOk, OnOk};
 ghost use Rattle.serde_json.specs.Data.{string, put as with_member, depth};
 ghost use Rattle.serde_json.specs.View.{view, members_view};
+ghost use Rattle.serde_json.specs.Written.{compact_text};
 ghost use Rattle.ps_json.specs.Tree.{IsWhole};
 ghost use Rattle.ps_time.specs.declared.moment.TheConstants.{MAX_LENGTH};
 ghost use Rattle.plugin_core.specs.Bounds.{IsTest, IsSleep};
 ghost use Rattle.plugin_core.specs.ReadTest.{test_of};
-ghost use Rattle.plugin_core.specs.WriteTest.{length_data, names_data, with_comment, sleeping_members, spec_members, test_data};
+ghost use Rattle.plugin_core.specs.WriteTest.{length_data, names_data, with_comment, sleeping_members, spec_members, test_data, most_test_bytes};
 ghost use Rattle.plugin_core.specs.declared.test_spec.TestSpec.{TestSpec};
 
 use crate::kind::{kind_name, kind_of};
@@ -111,6 +112,39 @@ fn stream_members(
     Ok(members)
 }
 
+fn paced_members(
+    alloc: Global,
+    duration: Length,
+    starting: &Option<Text>,
+    parting: &Option<Text>,
+    interval: Length,
+) -> Result<Map<String, Value>, Memory>
+    requires { (duration ≤ MAX_LENGTH) × (interval ≤ MAX_LENGTH) }
+    ensures { IfOk result (λ members. members_view members.entries
+        ≡ spec_members (TestSpec.Idlebgm duration starting.now parting.now interval)) }
+{
+    let mut members = sleeping_members(alloc, duration, starting, parting)?;
+    put_length(&mut members, alloc, "interval", interval)?;
+    Ok(members)
+}
+
+fn many_members(
+    alloc: Global,
+    duration: Length,
+    starting: &Option<Text>,
+    parting: &Option<Text>,
+    hosts: &Items<Text>,
+) -> Result<Map<String, Value>, Memory>
+    requires { duration ≤ MAX_LENGTH }
+    ensures { IfOk result (λ members. members_view members.entries
+        ≡ spec_members (TestSpec.Idlemany duration starting.now parting.now hosts.now)) }
+{
+    let mut members = sleeping_members(alloc, duration, starting, parting)?;
+    let hosts = write_names(alloc, hosts.as_slice())?;
+    put(&mut members, alloc, "hosts", hosts)?;
+    Ok(members)
+}
+
 fn spec_members(alloc: Global, test: &TestSpec) -> Result<Map<String, Value>, Memory>
     requires { IsTest test.now }
     ensures { IfOk result (λ members. members_view members.entries ≡ spec_members test.now) }
@@ -129,34 +163,15 @@ fn spec_members(alloc: Global, test: &TestSpec) -> Result<Map<String, Value>, Me
         TestSpec::Idlebgm {
             duration,
             starting_comment,
-            parting_comment,
+            parting_comment: parting,
             interval,
-        } => {
-            let mut members = sleeping_members(
-                alloc,
-                *duration,
-                starting_comment,
-                parting_comment,
-            )?;
-            put_length(&mut members, alloc, "interval", *interval)?;
-            Ok(members)
-        }
+        } => paced_members(alloc, *duration, starting_comment, parting, *interval),
         TestSpec::Idlemany {
             duration,
             starting_comment,
             parting_comment,
             hosts,
-        } => {
-            let mut members = sleeping_members(
-                alloc,
-                *duration,
-                starting_comment,
-                parting_comment,
-            )?;
-            let hosts = write_names(alloc, hosts.as_slice())?;
-            put(&mut members, alloc, "hosts", hosts)?;
-            Ok(members)
-        }
+        } => many_members(alloc, *duration, starting_comment, parting_comment, hosts),
         TestSpec::Simplestream {
             dest,
             test_material,
@@ -185,6 +200,11 @@ pub fn write_test(alloc: Global, test: &TestSpec) -> Result<Value, Memory>
     let value = test_tree(alloc, test)?;
     Ok(value)
 }
+
+/// A law: the compact text of the tree of every test has at most 65,536 bytes.
+pub fn law_test_text()
+    ensures { (test : TestSpec) → IsTest test → length (compact_text (test_data test)) ≤ most_test_bytes }
+{}
 
 /// A law: the tree of every test is read again as that test.
 pub fn law_test()

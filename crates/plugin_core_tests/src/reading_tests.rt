@@ -4,7 +4,7 @@ ghost use Rattle.plugin_core.specs.Bounds.{IsTest};
 use plugin_core::fault::SpecFault;
 use plugin_core::read_test::read_test;
 use plugin_core::test_spec::TestSpec;
-use plugin_core::write_test::{law_test, write_test};
+use plugin_core::write_test::{law_test, law_test_text, write_test};
 use ps_json::tree::{read_tree, write_text};
 use ps_time::text::Text;
 use std::alloc::Global;
@@ -208,10 +208,98 @@ fn check(alloc: Global, table: &[(&str, &str)]) -> Result<(), Fail> {
     Ok(())
 }
 
+// What stands before and after a text of so many letters, and what is told of the test.
+static LENGTHS: [(&str, usize, &str, &str); 8] = [
+    (
+        r#"{"type":"idle","spec":{"duration":"PT1S","starting-comment":""#,
+        1_024,
+        r#""}}"#,
+        "",
+    ),
+    (
+        r#"{"type":"idle","spec":{"duration":"PT1S","starting-comment":""#,
+        1_025,
+        r#""}}"#,
+        "wrong kind starting-comment",
+    ),
+    (
+        r#"{"type":"idlebgm","spec":{"duration":"PT1S","interval":"PT1S","parting-comment":""#,
+        1_024,
+        r#""}}"#,
+        "",
+    ),
+    (
+        r#"{"type":"idlebgm","spec":{"duration":"PT1S","interval":"PT1S","parting-comment":""#,
+        1_025,
+        r#""}}"#,
+        "wrong kind parting-comment",
+    ),
+    (
+        r#"{"type":"simplestream","spec":{"dest":"b","test-material":""#,
+        8_192,
+        r#""}}"#,
+        "",
+    ),
+    (
+        r#"{"type":"simplestream","spec":{"dest":"b","test-material":""#,
+        8_193,
+        r#""}}"#,
+        "wrong kind test-material",
+    ),
+    (
+        r#"{"type":"simplestream","spec":{"dest":""#,
+        63,
+        r#""}}"#,
+        "",
+    ),
+    (
+        r#"{"type":"simplestream","spec":{"dest":""#,
+        64,
+        r#""}}"#,
+        "wrong kind dest",
+    ),
+];
+
+fn of_letters(alloc: Global, before: &str, count: usize, after: &str) -> Result<String, Fail> {
+    let mut text = String::from_str(alloc, before)?;
+    for _letter in 0..count {
+        text.push_str("a")?;
+    }
+    text.push_str(after)?;
+    Ok(text)
+}
+
+fn refusal(alloc: Global, text: &str) -> Result<Text, Fail> {
+    match read_test(alloc, read_tree(alloc, text.as_bytes())?) {
+        Err(fault) => {
+            let text = fault_text(alloc, &fault);
+            drop(fault);
+            text
+        }
+        Ok(_) => Ok(Text::new(alloc, "")?),
+    }
+}
+
+fn check_lengths(alloc: Global, table: &[(&str, usize, &str, &str)]) -> Result<(), Fail> {
+    for (before, count, after, expected) in table {
+        let told = refusal(alloc, of_letters(alloc, before, *count, after)?.as_str())?;
+        if !told.is(expected) {
+            return Err(Fail::new(format_args!("{count} letters are told {told}")));
+        }
+    }
+    Ok(())
+}
+
+#[test]
+fn texts_at_their_bounds(rt: HostRuntime) -> Result<(), Fail> {
+    check_lengths(rt.alloc(), &LENGTHS)
+}
+
 #[test]
 fn trees_of_tests(rt: HostRuntime) -> Result<(), Fail> {
     check(rt.alloc(), &SLEEPING)?;
     check(rt.alloc(), &OTHERS)?;
     law_test();
+    law_test_text();
     Ok(())
 }

@@ -2,7 +2,8 @@
 ghost use Rattle.std.specs.Prelude.{◌≡◌, IfOk};
 ghost use Rattle.plugin_core.specs.Bounds.{IsTest};
 
-use plugin_core::choice::{choose_tool, tools_for};
+use plugin_core::choice::{choose_tool, tools, tools_for};
+use plugin_core::kind::{class_of_kind, kind_name, kinds};
 use plugin_core::participants::{is_participant, participants_of, role_of};
 use plugin_core::read_test::read_test;
 use plugin_core::result::result_text;
@@ -10,6 +11,7 @@ use plugin_core::run::{Outcome, Role, ToolView, done};
 use plugin_core::test_spec::TestSpec;
 use plugin_core::tool::Tool;
 use ps_json::tree::read_tree;
+use ps_time::class::class_name;
 use ps_time::items::Items;
 use ps_time::memory::Memory;
 use ps_time::text::Text;
@@ -19,6 +21,8 @@ use std::test::Fail;
 const IDLE: &str = r#"{"type":"idle","spec":{"duration":"PT10S"}}"#;
 
 const IDLEBGM: &str = r#"{"type":"idlebgm","spec":{"duration":"PT7S","interval":"PT3S"}}"#;
+
+const IDLEEX: &str = r#"{"type":"idleex","spec":{"duration":"PT90M"}}"#;
 
 const MANY: &str = r#"{"type":"idlemany","spec":{"duration":"PT10S","hosts":["b","c"]}}"#;
 
@@ -46,7 +50,7 @@ fn chosen(alloc: Global, lists: &str, wanted: &str) -> Result<Option<Tool>, Memo
 }
 
 // The lists of the participants, the wanted tools, and the one that is chosen.
-static CHOICES: [(&str, &str, Option<Tool>); 9] = [
+static CHOICES: [(&str, &str, Option<Tool>); 14] = [
     ("sleep snooze|snooze sleep", "", Some(Tool::Sleep)),
     (
         "sleep snooze|snooze sleep",
@@ -64,6 +68,23 @@ static CHOICES: [(&str, &str, Option<Tool>); 9] = [
     ("sleep", "ping sleep", Some(Tool::Sleep)),
     ("sleep", "snooze", None),
     ("ping", "ping", None),
+    ("sleep snooze", "snooze snooze sleep", Some(Tool::Snooze)),
+    ("sleep|", "", None),
+    (
+        "sleep snooze|snooze|snooze sleep|snooze|snooze|snooze|snooze|snooze",
+        "",
+        Some(Tool::Snooze),
+    ),
+    (
+        "snooze|snooze|snooze|snooze|snooze|snooze|snooze|sleep",
+        "",
+        None,
+    ),
+    (
+        "sleep|sleep",
+        "snooze sleepbgm simplestreamer ping snooze sleepbgm snooze sleep",
+        Some(Tool::Sleep),
+    ),
 ];
 
 fn check_choices(alloc: Global, table: &[(&str, &str, Option<Tool>)]) -> Result<(), Fail> {
@@ -93,7 +114,7 @@ fn joined(alloc: Global, names: &[Text]) -> Result<String, Memory> {
     Ok(text)
 }
 
-fn tools(alloc: Global, test: &TestSpec) -> Result<String, Memory> {
+fn tools_of(alloc: Global, test: &TestSpec) -> Result<String, Memory> {
     let installed = names(alloc, "snooze sleepbgm simplestreamer ping sleep")?;
     let tools = tools_for(alloc, test, installed.as_slice())?;
     joined(alloc, tools.as_slice())
@@ -107,7 +128,7 @@ fn hosts(alloc: Global, test: &TestSpec, lead: &str) -> Result<String, Memory> {
 // The tools for a test, the participants under this lead, the parts of `a` and `b`, and whether `c`
 // takes part.
 fn parts(alloc: Global, test: &TestSpec, lead: &str) -> Result<String, Fail> {
-    let tools = tools(alloc, test)?;
+    let tools = tools_of(alloc, test)?;
     let hosts = hosts(alloc, test, lead)?;
     let a = role_of(test, lead, "a");
     let b = role_of(test, lead, "b");
@@ -157,12 +178,54 @@ fn result(alloc: Global, text: &str, role: Role, outcome: Outcome) -> Result<Tex
     Ok(text?)
 }
 
-static RESULTS: [(&str, Role, Outcome, &str); 8] = [
+static RESULTS: [(&str, Role, Outcome, &str); 28] = [
     (
         IDLE,
         Role::Only,
         Outcome::Good,
         r#"{"duration":"PT10S","schema":1,"succeeded":true}"#,
+    ),
+    (
+        IDLE,
+        Role::Only,
+        Outcome::TimedOut,
+        r#"{"error":"timed out","schema":1,"succeeded":false}"#,
+    ),
+    (
+        IDLE,
+        Role::Only,
+        Outcome::NotTaken,
+        r#"{"error":"not taken","schema":1,"succeeded":false}"#,
+    ),
+    (
+        IDLE,
+        Role::Only,
+        Outcome::Restarted,
+        r#"{"error":"host restarted","schema":1,"succeeded":false}"#,
+    ),
+    (
+        IDLEEX,
+        Role::Only,
+        Outcome::Good,
+        r#"{"duration":"PT1H30M","schema":1,"succeeded":true}"#,
+    ),
+    (
+        IDLEEX,
+        Role::Only,
+        Outcome::TimedOut,
+        r#"{"error":"timed out","schema":1,"succeeded":false}"#,
+    ),
+    (
+        IDLEEX,
+        Role::Only,
+        Outcome::NotTaken,
+        r#"{"error":"not taken","schema":1,"succeeded":false}"#,
+    ),
+    (
+        IDLEEX,
+        Role::Only,
+        Outcome::Restarted,
+        r#"{"error":"host restarted","schema":1,"succeeded":false}"#,
     ),
     (
         IDLEBGM,
@@ -171,6 +234,48 @@ static RESULTS: [(&str, Role, Outcome, &str); 8] = [
         r#"{"duration":"PT7S","results":[{"at":"1970-01-01T00:16:50Z"},{"at":"1970-01-01T00:16:53Z"}],"schema":1,"succeeded":true}"#,
     ),
     (
+        IDLEBGM,
+        Role::Only,
+        Outcome::TimedOut,
+        r#"{"error":"timed out","schema":1,"succeeded":false}"#,
+    ),
+    (
+        IDLEBGM,
+        Role::Only,
+        Outcome::NotTaken,
+        r#"{"error":"not taken","schema":1,"succeeded":false}"#,
+    ),
+    (
+        IDLEBGM,
+        Role::Only,
+        Outcome::Restarted,
+        r#"{"error":"host restarted","schema":1,"succeeded":false}"#,
+    ),
+    (
+        MANY,
+        Role::Only,
+        Outcome::Good,
+        r#"{"duration":"PT10S","schema":1,"succeeded":true}"#,
+    ),
+    (
+        MANY,
+        Role::Only,
+        Outcome::TimedOut,
+        r#"{"error":"timed out","schema":1,"succeeded":false}"#,
+    ),
+    (
+        MANY,
+        Role::Only,
+        Outcome::NotTaken,
+        r#"{"error":"not taken","schema":1,"succeeded":false}"#,
+    ),
+    (
+        MANY,
+        Role::Only,
+        Outcome::Restarted,
+        r#"{"error":"host restarted","schema":1,"succeeded":false}"#,
+    ),
+    (
         STREAM,
         Role::Only,
         Outcome::Good,
@@ -178,9 +283,45 @@ static RESULTS: [(&str, Role, Outcome, &str); 8] = [
     ),
     (
         STREAM,
+        Role::Only,
+        Outcome::TimedOut,
+        r#"{"error":"timed out","schema":1,"succeeded":false}"#,
+    ),
+    (
+        STREAM,
+        Role::Only,
+        Outcome::NotTaken,
+        r#"{"error":"not taken","schema":1,"succeeded":false}"#,
+    ),
+    (
+        STREAM,
+        Role::Only,
+        Outcome::Restarted,
+        r#"{"error":"host restarted","schema":1,"succeeded":false}"#,
+    ),
+    (
+        STREAM,
         Role::Source,
         Outcome::Good,
         r#"{"schema":1,"sent":"m","succeeded":true}"#,
+    ),
+    (
+        STREAM,
+        Role::Source,
+        Outcome::TimedOut,
+        r#"{"error":"timed out","schema":1,"succeeded":false}"#,
+    ),
+    (
+        STREAM,
+        Role::Source,
+        Outcome::NotTaken,
+        r#"{"error":"not taken","schema":1,"succeeded":false}"#,
+    ),
+    (
+        STREAM,
+        Role::Source,
+        Outcome::Restarted,
+        r#"{"error":"host restarted","schema":1,"succeeded":false}"#,
     ),
     (
         STREAM,
@@ -196,13 +337,13 @@ static RESULTS: [(&str, Role, Outcome, &str); 8] = [
     ),
     (
         STREAM,
-        Role::Source,
+        Role::Dest,
         Outcome::NotTaken,
         r#"{"error":"not taken","schema":1,"succeeded":false}"#,
     ),
     (
-        MANY,
-        Role::Only,
+        STREAM,
+        Role::Dest,
         Outcome::Restarted,
         r#"{"error":"host restarted","schema":1,"succeeded":false}"#,
     ),
@@ -271,6 +412,51 @@ fn participants(rt: HostRuntime) -> Result<(), Fail> {
 #[test]
 fn results(rt: HostRuntime) -> Result<(), Fail> {
     check_results(rt.alloc(), &RESULTS)
+}
+
+// A `simplestream` whose material is 8,192 times a byte that is written as six.
+fn escaped(alloc: Global) -> Result<String, Fail> {
+    let mut text = String::from_str(
+        alloc,
+        r#"{"type":"simplestream","spec":{"dest":"b","test-material":""#,
+    )?;
+    for _byte in 0..8_192 {
+        text.push_str("\\u0001")?;
+    }
+    text.push_str(r#""}}"#)?;
+    Ok(text)
+}
+
+// 8,192 bytes of material make 49,152 bytes, besides the 39 around them.
+#[test]
+fn the_longest_result(rt: HostRuntime) -> Result<(), Fail> {
+    let alloc = rt.alloc();
+    let text = result(alloc, escaped(alloc)?.as_str(), Role::Source, Outcome::Good)?;
+    assert!(rt; text.len() == 49_152 + 39);
+    Ok(())
+}
+
+fn kinds_told(alloc: Global) -> Result<String, Fail> {
+    let mut text = String::new(alloc);
+    for kind in kinds() {
+        let name = kind_name(*kind);
+        let class = class_name(class_of_kind(*kind));
+        text.push_str(format!(in alloc; "{name} {class};")?.as_str())?;
+    }
+    for tool in tools() {
+        text.push_str(format!(in alloc; " {tool}")?.as_str())?;
+    }
+    Ok(text)
+}
+
+#[test]
+fn kinds_and_tools(rt: HostRuntime) -> Result<(), Fail> {
+    let text = kinds_told(rt.alloc())?;
+    assert!(rt;
+        text.as_str()
+            == "idle background;idlebgm background-multi;idleex exclusive;idlemany exclusive;simplestream normal; simplestreamer sleep sleepbgm snooze"
+    );
+    Ok(())
 }
 
 #[test]

@@ -1,10 +1,13 @@
 -- The tree of an archive is read again.
-use Rattle.std.proofs.Common.{◌≡◌, ℕ, ◌&&◌, ◌≤◌, nat_le, List, [], ◌∷◌, ◌++◌, length, map, All, true, false, Option, Some, None, Ok, refl, sym, ap, append_assoc, codes, arith}
+use Rattle.std.proofs.Common.{◌≡◌, ℕ, ◌&&◌, ◌≤◌, nat_le, if◌then◌else◌, Bool, List, [], ◌∷◌, length, map, All, true, false, Option, Some, None, Ok, refl, sym, codes, arith}
 use Rattle.std.proofs.lemmas.Bool.Decides.{nat_tests}
-use Rattle.std.proofs.lemmas.List.{append-nil, length-map}
-use Rattle.std.proofs.lemmas.List.Elements.{All-head, All-tail}
+use Rattle.std.proofs.lemmas.List.{length-map}
+use Rattle.std.proofs.lemmas.Slice.Eq.{bytes_eq-Decides}
+use Rattle.std.specs.List.{Contains}
+use Rattle.std.specs.Option.{unwrap_or, option_and_then}
 use Rattle.std.specs.Str.{bytes_eq}
-use Rattle.serde_json.specs.Data.{array}
+use Rattle.serde_json.specs.Data.{array, object}
+use Rattle.serde_json.specs.Find.{get, as_number, as_u64}
 use Rattle.serde_json.specs.View.{items_of}
 use Rattle.ps_json.proofs.EachLemmas.{read_each-back}
 use Rattle.ps_json.specs.Each.{read_each}
@@ -15,7 +18,7 @@ use Rattle.archive_retry.specs.Bounds.{IsEntry, IsPolicy}
 use Rattle.archive_retry.specs.ReadPolicy.{entry_of, policy_of}
 use Rattle.archive_retry.specs.declared.policy.Entry.{Entry}
 use Rattle.task_spec.specs.Bounds.{FitsArchiver, IsArchive}
-use Rattle.task_spec.specs.ReadArchive.{settings_members, settings_text, data_members, archive_of, archives_in}
+use Rattle.task_spec.specs.ReadArchive.{is_archiver, archivers_by_name, fails_by, settings_members, settings_text, data_members, archive_of, archives_in}
 use Rattle.task_spec.specs.WriteTask.{entry_data, with_policy, archive_data}
 use Rattle.task_spec.specs.declared.task.Archive.{Archive}
 
@@ -59,3 +62,22 @@ module _ (lengths : (n : ℕ) → n ≤ MAX_LENGTH → length_of (length_text_of
   archives_back name archives are few =
       let count : nat_le (length (map archive_data archives)) 8 ≡ true = rw (length-map archives archive_data) (grind (arith, nat_tests)) in
       rw (items_list-items_of (map archive_data archives), count) (read_each-back archive_of IsArchive archive_data archive_back archives are)
+
+-- each archiver stands in the list of all
+pub every_archiver : (name : List ℕ) → is_archiver name ≡ true → Contains archivers_by_name name
+every_archiver name = by_test (bytes_eq name (codes "bitbucket")) refl
+  where
+    by_test : (b : Bool) → bytes_eq name (codes "bitbucket") ≡ b → (if b then true else bytes_eq name (codes "failer")) ≡ true → Contains archivers_by_name name
+    by_test true here is = (0, omega arith, sym ((bytes_eq-Decides name (codes "bitbucket")).0 here))
+    by_test false other is = (1, omega arith, sym ((bytes_eq-Decides name (codes "failer")).0 is))
+
+-- what the settings of an archive say
+fails_given : (a : Archive) (is : IsArchive a) → fails_by a.settings ≡ unwrap_or is.fail 0
+fails_given a is = rw is.reads (by_fail is.fail)
+  where
+    by_fail : (fail : Option ℕ) → unwrap_or (option_and_then as_u64 (option_and_then as_number (get (codes "fail") (object (settings_members fail))))) 0 ≡ unwrap_or fail 0
+    by_fail None = refl
+    by_fail (Some n) = refl
+
+pub fails_given_by : (settings : List ℕ) (a : Archive) (is : IsArchive a) → a.settings ≡ settings → fails_by settings ≡ unwrap_or is.fail 0
+fails_given_by settings a is same = rw (sym same) (fails_given a is)

@@ -1,4 +1,5 @@
 pub mod ArchiveLemmas
+pub mod LengthLemmas
 pub mod ScheduleLemmas
 pub mod ShapeLemmas
 pub mod StartLemmas

@@ -1,13 +1,15 @@
 -- Which archive a JSON tree is.
-use Rattle.std.specs.Prelude.{ℕ, Bool, true, nat_le, List, [], ◌∷◌, ◌++◌, length, Option, Some, None, Result, Ok, Err, if◌then◌else◌, codes}
+use Rattle.std.specs.Prelude.{ℕ, Bool, true, nat_le, List, [], ◌∷◌, length, Option, Some, None, option_and_then, unwrap_or, Result, Ok, Err, if◌then◌else◌, codes}
 use Rattle.std.specs.Str.{bytes_eq}
 use Rattle.serde_json.specs.Data.{Data, unsigned, number, object, Members, no_members, member}
+use Rattle.serde_json.specs.Find.{get, as_number, as_u64}
 use Rattle.serde_json.specs.Written.{compact_text}
 use Rattle.ps_json.specs.Each.{read_each}
 use Rattle.ps_json.specs.Answer.{then_with, lifted}
 use Rattle.ps_json.specs.Fields.{without_member, end_of}
 use Rattle.ps_json.specs.Kinds.{count_of, text_of, list_of, members_of}
 use Rattle.ps_json.specs.declared.fault.JsonFault.TheVariants.{WrongKind}
+use Rattle.ps_json.specs.TreeText.{kept_tree}
 use Rattle.ps_json.specs.Member.{required, optional, member_then}
 use Rattle.archive_retry.specs.ReadPolicy.{policy_of}
 use Rattle.archive_retry.specs.declared.policy.Policy.{Policy}
@@ -19,6 +21,10 @@ use Rattle.task_spec.specs.Fault.{wrapped, in_json, wrapped_policy}
 -- the archivers that there are
 abbrev pub is_archiver : List ℕ → Bool
 is_archiver name = if bytes_eq name (codes "bitbucket") then true else bytes_eq name (codes "failer")
+
+-- their names, ascending
+abbrev pub archivers_by_name : List (List ℕ)
+archivers_by_name = codes "bitbucket" ∷ codes "failer" ∷ []
 
 abbrev pub archiver_in : List ℕ → Data → Result (List ℕ) TaskFault
 archiver_in name d = then_with (in_json (text_of name d)) (λ bs. if is_archiver bs then Ok bs else Err (UnknownArchiver bs))
@@ -42,6 +48,10 @@ settings_members (Some n) = member (codes "fail") (number (unsigned n)) no_membe
 
 abbrev pub settings_text : Option ℕ → List ℕ
 settings_text fail = compact_text (object (settings_members fail))
+
+-- how many attempts fail by settings; none where these don't say
+abbrev pub fails_by : List ℕ → ℕ
+fails_by settings = unwrap_or (option_and_then as_u64 (option_and_then as_number (get (codes "fail") (kept_tree (Some settings))))) 0
 
 abbrev pub policy_in : List ℕ → Data → Result Policy TaskFault
 policy_in name d = lifted wrapped_policy (policy_of d)

@@ -11,6 +11,10 @@ use Rattle.schedule_rule.specs.Rule.{Schedule}
 use Rattle.task_spec.specs.declared.task.Archive.{Archive}
 use Rattle.task_spec.specs.declared.task.Task.{Task}
 
+-- the most bytes that the compact text of a task has
+abbrev pub most_task_bytes : ℕ
+most_task_bytes = 163_840
+
 -- a member, where there is something to be written
 abbrev pub with_some : {A : Type 0} → List ℕ → (A → Data) → Option A → Members → Members
 with_some name write None ms = ms

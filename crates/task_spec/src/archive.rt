@@ -1,6 +1,10 @@
 //! The reader of archives.
-ghost use Rattle.std.specs.Prelude.{◌≡◌, ◌≤◌, [], true, Ok, length, map, All, IfOk, codes};
+ghost use Rattle.std.specs.Prelude.{◌≡◌, ◌≤◌, ℕ, List, [], true, Ok, Contains, length, map, option_and_then, unwrap_or, All, IfOk, codes};
+ghost use Rattle.std.specs.Cmp.Lexicographic.{slice_cmp};
+ghost use Rattle.std.specs.Ordering.{nat_cmp};
+ghost use Rattle.ps_time.specs.Sorted.{IsAscending};
 ghost use Rattle.serde_json.specs.Data.{object};
+ghost use Rattle.serde_json.specs.Find.{get, as_number, as_u64};
 ghost use Rattle.serde_json.specs.View.{view};
 ghost use Rattle.ps_json.specs.Each.{read_each};
 ghost use Rattle.ps_json.specs.Answer.{GivesUnless};
@@ -9,7 +13,8 @@ ghost use Rattle.ps_json.specs.Tree.{tree_of};
 ghost use Rattle.archive_retry.specs.Bounds.{IsPolicy};
 ghost use Rattle.ps_json.specs.Member.{optional};
 ghost use Rattle.task_spec.specs.Bounds.{FitsArchiver, IsArchive};
-ghost use Rattle.task_spec.specs.ReadArchive.{is_archiver, archiver_in, fail_of, after_fail, settings_members, settings_text, policy_in, data_members, data_in, plain, archive_of, archives_in};
+ghost use Rattle.task_spec.specs.declared.task.Archive.{Archive};
+ghost use Rattle.task_spec.specs.ReadArchive.{is_archiver, archivers_by_name, fails_by, archiver_in, fail_of, after_fail, settings_members, settings_text, policy_in, data_members, data_in, plain, archive_of, archives_in};
 
 use crate::fault::TaskFault;
 use crate::task::Archive;
@@ -18,12 +23,23 @@ use archive_retry::read_policy::read_policy;
 use ps_json::fault::JsonFault;
 use ps_json::fields::Fields;
 use ps_json::kinds::{read_count, read_list, read_text};
-use ps_json::tree::write_text;
+use ps_json::tree::{read_tree, write_text};
 use ps_time::items::Items;
 use ps_time::memory::Memory;
 use ps_time::text::Text;
 use serde_json::{Value, json};
 use std::alloc::Global;
+
+static ARCHIVERS: [&str; 2] = ["bitbucket", "failer"];
+
+/// The names of all archivers, ascending.
+pub fn archivers() -> &'static [&'static str]
+    ensures list { map (λ name. name.now) result.now ≡ archivers_by_name }
+    ensures every { (name : List ℕ) → is_archiver name ≡ true → Contains archivers_by_name name }
+    ensures ascending { IsAscending (slice_cmp nat_cmp) (λ name. name) archivers_by_name }
+{
+    &ARCHIVERS
+}
 
 fn is_archiver(name: &str) -> bool
     ensures { result ≡ is_archiver name.now }
@@ -170,4 +186,28 @@ pub fn read_archives(alloc: Global, value: Value) -> Result<Items<Archive>, Task
         return Err(JsonFault::wrong_kind(alloc, "archives").into());
     }
     read_all(alloc, values)
+}
+
+/// How many attempts of `failer` fail before one succeeds, by an archive's settings: 0 where these are no
+/// tree, or have no such number.
+#[tactic(auto, using(crate::proofs::ArchiveLemmas::fails_given_by))]
+pub fn fails_by(alloc: Global, settings: &str) -> Result<u64, Memory>
+    ensures value { IfOk result (λ count. count ≡ fails_by settings.now) }
+    ensures given { (archive : Archive) (is : IsArchive archive) → archive.settings ≡ settings.now
+        → fails_by settings.now ≡ unwrap_or is.fail 0 }
+{
+    match read_tree(alloc, settings.as_bytes()) {
+        Ok(value) => Ok(fail_member(&value)),
+        Err(JsonFault::Memory) => Err(Memory),
+        Err(_) => Ok(0),
+    }
+}
+
+fn fail_member(value: &Value) -> u64
+    ensures { result ≡ unwrap_or (option_and_then as_u64 (option_and_then as_number (get (codes "fail") (view value.now)))) 0 }
+{
+    match value.get("fail") {
+        Some(count) => count.as_u64().unwrap_or(0),
+        None => 0,
+    }
 }

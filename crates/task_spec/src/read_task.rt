@@ -7,7 +7,9 @@ ghost use Rattle.ps_json.specs.Each.{read_each};
 ghost use Rattle.ps_json.specs.Answer.{GivesUnless, then_with};
 ghost use Rattle.ps_json.specs.Fields.{without_member};
 ghost use Rattle.ps_time.specs.declared.moment.TheConstants.{MAX_MOMENT};
+ghost use Rattle.ps_time.specs.Name.{is_name};
 ghost use Rattle.plugin_core.specs.Bounds.{IsTest};
+ghost use Rattle.plugin_core.specs.Participants.{participants, HasParticipants};
 ghost use Rattle.ps_json.specs.Member.{required, optional};
 ghost use Rattle.task_spec.specs.Bounds.{IsArchive, IsReference, IsRest, IsTask};
 ghost use Rattle.task_spec.specs.Fault.{wrapped};
@@ -20,6 +22,7 @@ use crate::fault::TaskFault;
 use crate::schedule::read_schedule;
 use crate::task::{Archive, Task};
 use plugin_core::choice::read_tool;
+use plugin_core::participants::law_participants;
 use plugin_core::read_test::read_test;
 use plugin_core::test_spec::TestSpec;
 use ps_json::fault::JsonFault;
@@ -37,10 +40,15 @@ use std::alloc::Global;
 /// What a task has besides its test.
 #[derive(Drop)]
 pub struct Rest {
+    /// The names of the wanted tools, at most 8.
     pub tools: Items<Text>,
+    /// When the runs may start.
     pub rule: Rule,
+    /// At most 8.
     pub archives: Items<Archive>,
+    /// The compact text of a tree, at most 65,536 bytes.
     pub reference: Option<Text>,
+    /// From -1000 to 1000.
     pub priority: i16,
 }
 
@@ -261,7 +269,10 @@ impl Task {
         requires { now ≤ MAX_MOMENT }
         ensures value { GivesUnless TaskFault.Memory result (task_of now lead.now (view value)) }
         ensures bounds { IfOk result (IsTask lead.now) }
+        ensures participants { is_name lead.now ≡ true
+            → IfOk result (λ task. HasParticipants (participants task.test lead.now)) }
     {
+        law_participants();
         let mut fields = Fields::open(alloc, value, "task")?;
         take_schema(alloc, &mut fields)?;
         let test = read_test_in(alloc, fields.need(alloc, "test")?, lead)?;

@@ -22,6 +22,7 @@ pub struct Archive {
 }
 
 impl Archive {
+    /// The same archive once more.
     pub fn copy(&self, alloc: Global) -> Result<Archive, Memory>
         ensures { IfOk result (λ made. made ≡ self.now) }
     {
@@ -57,6 +58,7 @@ pub struct Task {
 }
 
 impl Task {
+    /// The same task once more.
     pub fn copy(&self, alloc: Global) -> Result<Task, Memory>
         ensures { IfOk result (λ made. made ≡ self.now) }
     {

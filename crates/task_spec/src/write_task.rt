@@ -1,7 +1,8 @@
 //! The writer of tasks.
-ghost use Rattle.std.specs.Prelude.{◌≡◌, ◌≤◌, ℕ, List, Ok, Some, map, All, IfOk, IfSome, OnOk, codes};
+ghost use Rattle.std.specs.Prelude.{◌≡◌, ◌≤◌, ℕ, List, Ok, Some, length, map, All, IfOk, IfSome, OnOk, codes};
 ghost use Rattle.serde_json.specs.Data.{array, object, depth, put as with_member};
 ghost use Rattle.serde_json.specs.View.{view, members_view, items_of};
+ghost use Rattle.serde_json.specs.Written.{compact_text};
 ghost use Rattle.ps_json.specs.Tree.{IsWhole};
 ghost use Rattle.ps_time.specs.declared.moment.TheConstants.{MAX_LENGTH, MAX_MOMENT};
 ghost use Rattle.plugin_core.specs.Bounds.{IsTest};
@@ -11,7 +12,7 @@ ghost use Rattle.archive_retry.specs.Merge.{result_tree as kept_tree, IsTreeText
 ghost use Rattle.schedule_rule.specs.Rule.{Schedule};
 ghost use Rattle.task_spec.specs.Bounds.{IsArchive, IsReference, IsRest, IsTask};
 ghost use Rattle.task_spec.specs.ReadTask.{without_test, task_of};
-ghost use Rattle.task_spec.specs.WriteTask.{with_some, moment_data, count_data, schedule_data, entry_data, with_policy, members_in, archive_data, with_tools, task_data};
+ghost use Rattle.task_spec.specs.WriteTask.{with_some, moment_data, count_data, schedule_data, entry_data, with_policy, members_in, archive_data, with_tools, task_data, most_task_bytes};
 ghost use Rattle.task_spec.specs.declared.task.Task.{Task};
 
 use crate::task::{Archive, Task};
@@ -248,6 +249,12 @@ impl Task {
         Ok(value)
     }
 }
+
+/// A law: the compact text of the tree of every task has at most 163,840 bytes.
+pub fn law_task_text()
+    ensures { (host : List ℕ) (task : Task) → IsTask host task
+        → length (compact_text (task_data task)) ≤ most_task_bytes }
+{}
 
 /// A law: the tree of every task is read again as that task, by the host that leads it and whatever the
 /// moment.

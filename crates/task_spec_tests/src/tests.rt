@@ -6,9 +6,10 @@ use ps_json::tree::{read_tree, write_text};
 use ps_time::text::Text;
 use std::alloc::Global;
 use std::test::Fail;
+use task_spec::archive::{archivers, fails_by};
 use task_spec::fault::TaskFault;
 use task_spec::task::Task;
-use task_spec::write_task::law_task;
+use task_spec::write_task::{law_task, law_task_text};
 
 // What stands before the members of a table, and between the columns of what is written.
 const TEST: &str = r#"{"test":{"type":"idle","spec":{"duration":"PT10S"}}"#;
@@ -355,6 +356,146 @@ fn check_bodies(alloc: Global, table: &[(&str, &str)]) -> Result<(), Fail> {
             return Err(Fail::new(format_args!("{text} is told {told}")));
         }
     }
+    Ok(())
+}
+
+// One word so many times, with commas between.
+fn repeated(
+    alloc: Global,
+    before: &str,
+    word: &str,
+    count: usize,
+    after: &str,
+) -> Result<String, Fail> {
+    let mut text = String::from_str(alloc, before)?;
+    for index in 0..count {
+        if index > 0 {
+            text.push_str(",")?;
+        }
+        text.push_str(word)?;
+    }
+    text.push_str(after)?;
+    Ok(text)
+}
+
+// An archive whose policy has so many entries.
+fn archive(alloc: Global, entries: usize) -> Result<String, Fail> {
+    repeated(
+        alloc,
+        r#"{"archiver":"failer","data":{"fail":1000,"retry-policy":["#,
+        r#"{"attempts":1000,"wait":"P3650D"}"#,
+        entries,
+        "]}}",
+    )
+}
+
+fn with_tools(alloc: Global, count: usize) -> Result<String, Fail> {
+    repeated(alloc, r#","tools":["#, r#""sleep""#, count, "]")
+}
+
+// So many archives, as they are written.
+fn archives(alloc: Global, count: usize, entries: usize) -> Result<String, Fail> {
+    let archive = archive(alloc, entries)?;
+    repeated(alloc, r#""archives":["#, archive.as_str(), count, "]")
+}
+
+fn with_archives(alloc: Global, count: usize, entries: usize) -> Result<String, Fail> {
+    let archive = archive(alloc, entries)?;
+    repeated(alloc, r#","archives":["#, archive.as_str(), count, "]")
+}
+
+// A reference of so many bytes, as a text of letters in quotation marks.
+fn with_reference(alloc: Global, bytes: usize) -> Result<String, Fail> {
+    let mut text = String::from_str(alloc, r#","reference":""#)?;
+    for _letter in 2..bytes {
+        text.push_str("a")?;
+    }
+    text.push_str("\"")?;
+    Ok(text)
+}
+
+// The task of these members is written with exactly these among its own; or it is refused so.
+fn holds(alloc: Global, members: &str, expected: &str) -> Result<bool, Fail> {
+    let told = told(alloc, body(alloc, members)?.as_str())?;
+    Ok(told.as_str().contains(expected))
+}
+
+fn check_counts(alloc: Global) -> Result<bool, Fail> {
+    let tools = with_tools(alloc, 8)?;
+    let reference = with_reference(alloc, 65_536)?;
+    Ok(
+        holds(alloc, tools.as_str(), tools.as_str())?
+            && holds(alloc, reference.as_str(), reference.as_str())?
+            && are_archives_written(alloc, 8, 16)?,
+    )
+}
+
+fn are_archives_written(alloc: Global, count: usize, entries: usize) -> Result<bool, Fail> {
+    let given = with_archives(alloc, count, entries)?;
+    let written = archives(alloc, count, entries)?;
+    holds(alloc, given.as_str(), written.as_str())
+}
+
+fn check_refusals(alloc: Global) -> Result<bool, Fail> {
+    let tools = with_tools(alloc, 9)?;
+    let archives = with_archives(alloc, 9, 16)?;
+    let policies = with_archives(alloc, 1, 17)?;
+    let reference = with_reference(alloc, 65_537)?;
+    Ok(
+        holds(alloc, tools.as_str(), "wrong kind tools")?
+            && holds(alloc, archives.as_str(), "wrong kind archives")?
+            && holds(alloc, policies.as_str(), "wrong kind retry-policy")?
+            && holds(alloc, reference.as_str(), "bad spec reference")?,
+    )
+}
+
+#[test]
+fn the_longest_tasks(rt: HostRuntime) -> Result<(), Fail> {
+    assert!(rt; check_counts(rt.alloc())?);
+    assert!(rt; check_refusals(rt.alloc())?);
+    law_task_text();
+    Ok(())
+}
+
+// Settings of an archive, and how many attempts fail by them.
+static SETTINGS: [(&str, u64); 8] = [
+    ("{}", 0),
+    (r#"{"fail":3}"#, 3),
+    (r#"{"fail":1000}"#, 1_000),
+    (r#"{"fail":-1}"#, 0),
+    (r#"{"fail":"3"}"#, 0),
+    ("[3]", 0),
+    ("", 0),
+    ("{", 0),
+];
+
+fn check_settings(alloc: Global, table: &[(&str, u64)]) -> Result<(), Fail> {
+    for (settings, expected) in table {
+        if fails_by(alloc, settings)? != *expected {
+            return Err(Fail::new(format_args!("{settings}")));
+        }
+    }
+    Ok(())
+}
+
+#[test]
+fn settings(rt: HostRuntime) -> Result<(), Fail> {
+    check_settings(rt.alloc(), &SETTINGS)
+}
+
+fn joined(alloc: Global) -> Result<String, Fail> {
+    let mut text = String::new(alloc);
+    for name in archivers() {
+        text.push_str(name)?;
+        text.push_str(" ")?;
+    }
+    Ok(text)
+}
+
+#[test]
+fn names_of_archivers(rt: HostRuntime) -> Result<(), Fail> {
+    let text = joined(rt.alloc())?;
+    assert!(rt; text.as_str() == "bitbucket failer ");
     Ok(())
 }
 

@@ -1,7 +1,10 @@
-use Rattle.std.proofs.Common.{◌≡◌, ◌≤◌, Ok, subst, arith}
+use Rattle.std.proofs.Common.{◌≡◌, ◌≤◌, ℕ, List, length, Ok, subst, sym, ap, ◌∙◌, arith}
 use Rattle.std.proofs.lemmas.Result.{IfOk-weaker}
 use Rattle.serde_json.specs.Data.{Data, depth}
+use Rattle.serde_json.specs.Written.{compact_text}
 use Rattle.ps_json.specs.Tree.{tree_of}
+use Rattle.ps_time.specs.Numbers.{most_result_bytes}
+use Rattle.plugin_core.proofs.LengthLemmas.{result_short}
 use Rattle.plugin_core.proofs.ShapeLemmas.{result_whole, result_flat}
 use Rattle.plugin_core.proofs.result.result_text.Goals as goal
 
@@ -27,3 +30,7 @@ pub returns-clause-reads : goal.returns-clause-reads
 returns-clause-reads c =
     let flat = result_flat c.args.test.now c.args.tool.now c.args.outcome in
     IfOk-weaker c.write_text.result _ _ (λ text reads. subst (λ (d : Data). depth d ≤ 64 → tree_of text ≡ Ok d) c.in_ok-value.ensures reads (omega (arith, flat))) c.write_text.ensures.reads
+
+pub returns-clause-short : goal.returns-clause-short
+returns-clause-short c =
+    IfOk-weaker c.write_text.result _ _ (λ text is. subst (λ (bs : List ℕ). length bs ≤ most_result_bytes) (sym (is ∙ ap compact_text c.in_ok-value.ensures)) (result_short c.args.test.now c.args.tool.now c.args.outcome c.requires.test)) c.write_text.ensures.text
