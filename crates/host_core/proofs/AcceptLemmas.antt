@@ -40,7 +40,7 @@ confirmed_moments m k r within =
 
 preempted_moments : (m : ℕ) (key : RunKey) (class : Class) (s : Span) (r : RunRow) → HasMoments r → HasMoments (preempted_row m key class s r)
 preempted_moments m key class s r within =
-    elim (in_conflict class s r) as (λ b. HasMoments (cond b (close_row (record { moment = m; why = Preempted key }) r) r)) [
+    elim (in_conflict key class s r) as (λ b. HasMoments (cond b (close_row (record { moment = m; why = Preempted key }) r) r)) [
       | true ↦ record { asked = within.asked; accepted = within.accepted; interval = within.interval }
       | false ↦ within
     ]
@@ -67,7 +67,7 @@ module _ (m : ℕ) (p : Proposal) (ps : List (List ℕ)) (rows : List RunRow) (c
     left = without_conflicts (test_class p.test) (span_of p.start (test_length p.test)) bs
 
     left_is : left ≡ bookings_of given
-    left_is = ap (without_conflicts (test_class p.test) (span_of p.start (test_length p.test))) index ∙ sym (bookings_preempted m p.key (test_class p.test) (span_of p.start (test_length p.test)) rows)
+    left_is = ap (without_conflicts (test_class p.test) (span_of p.start (test_length p.test))) index ∙ sym (bookings_preempted m p.key (test_class p.test) (span_of p.start (test_length p.test)) rows can.0)
 
     pub left_none : find_booking left p.key ≡ None
     left_none = ap (λ l. find_booking l p.key) left_is ∙ find_booking_none given p.key given_none

@@ -1,5 +1,5 @@
 -- No two rows come into conflict: a run that is accepted closes what it conflicts with, and nothing that is booked moves.
-use Rattle.std.proofs.Common.{◌≡◌, ◌≢◌, ◌⊎◌, inl, inr, ℕ, Bool, true, false, cond, ◌&&◌, nat_lt, List, [], ◌∷◌, map, Option, Some, None, option_map, refl, sym, ap, ap₂, ◌∙◌, subst}
+use Rattle.std.proofs.Common.{◌≡◌, ◌≢◌, ◌⊎◌, inl, inr, ℕ, Bool, true, false, not, cond, ◌&&◌, nat_lt, List, [], ◌∷◌, map, Option, Some, None, option_map, refl, sym, ap, ap₂, ◌∙◌, subst}
 use Rattle.std.proofs.Math.Bool.{and_comm}
 use Rattle.std.specs.Ordering.{is_eq}
 use Rattle.ps_time.specs.Class.{conflicting_classes, clash}
@@ -13,7 +13,7 @@ use Rattle.run_states.specs.declared.proposal.Proposal.{Proposal}
 use Rattle.run_states.specs.declared.row.RunRow.{RunRow}
 use Rattle.run_states.specs.declared.why.Closing.{Closing}
 use Rattle.run_states.specs.declared.why.Why.TheVariants.{Preempted}
-use Rattle.run_states.specs.Conflict.{clashes, in_conflict}
+use Rattle.run_states.specs.Conflict.{blocks, clashes, in_conflict}
 use Rattle.run_states.specs.Life.{is_booked, close_row, closed_by, lapse_of, settled_row, settled_rows}
 use Rattle.run_states.specs.Rows.{find_row}
 use Rattle.host_core.specs.declared.change.Change.{Change}
@@ -25,7 +25,7 @@ use Rattle.host_core.specs.Change.{accepted_row, Incoming, incoming, give_way, e
 use Rattle.host_core.specs.Grown.{NoClash}
 use Rattle.host_core.specs.Step.{step, step_book}
 use Rattle.host_core.proofs.IndexLemmas.{closed_not_booked, closed_no_conflict}
-use Rattle.host_core.proofs.Placed.{put_from}
+use Rattle.host_core.proofs.Placed.{find_row-key, key_is, put_from}
 use Rattle.host_core.proofs.RowLemmas.{find_row-map}
 use Rattle.host_core.proofs.Standing.{changed_evolves, settled_evolves}
 
@@ -42,7 +42,7 @@ clash_same a s b t = ap₂ (λ x y. x && y) (classes_same a b) (and_comm (nat_lt
 
 -- no booked row is in conflict with another: the same, in the word of a change
 abbrev Free : List RunRow → Type 0
-Free rows = (j k : RunKey) (r s : RunRow) (i : Span) → j ≢ k → find_row rows j ≡ Some r → find_row rows k ≡ Some s → is_booked r ≡ true → r.interval ≡ Some i → in_conflict (test_class r.test) i s ≡ false
+Free rows = (j k : RunKey) (r s : RunRow) (i : Span) → j ≢ k → find_row rows j ≡ Some r → find_row rows k ≡ Some s → is_booked r ≡ true → r.interval ≡ Some i → blocks (test_class r.test) i s ≡ false
 
 free_from : (rows : List RunRow) → NoClash rows → Free rows
 free_from rows none j k r s i apart e g booked at = go (is_booked s) s.interval refl refl
@@ -85,7 +85,7 @@ own_calm m c q = either_calm (is_eq (key_cmp q.key (change_key c))) q (effect m 
 
 way_calm : (m : ℕ) (o : Option Incoming) (q : RunRow) → Calm q (give_way m o q)
 way_calm m None q = Calm-refl q
-way_calm m (Some i) q = either_calm (in_conflict i.class i.interval q) q _ q (close_calm _ q) (Calm-refl q)
+way_calm m (Some i) q = either_calm (in_conflict i.key i.class i.interval q) q _ q (close_calm _ q) (Calm-refl q)
 
 changed_calm : (m : ℕ) (c : Change) (q : RunRow) → Calm q (own m c (give_way m (incoming c) q))
 changed_calm m c q = Calm-trans q (give_way m (incoming c) q) _ (way_calm m (incoming c) q) (own_calm m c (give_way m (incoming c) q))
@@ -99,7 +99,7 @@ settled_calm m q = closed_by_calm (lapse_of m q) q
 
 -- ---- rows that are mapped calmly ----
 -- a row that isn't in conflict with a run comes into none
-calm_free : (class : Class) (i : Span) (q r : RunRow) → Calm q r → in_conflict class i q ≡ false → in_conflict class i r ≡ false
+calm_free : (class : Class) (i : Span) (q r : RunRow) → Calm q r → blocks class i q ≡ false → blocks class i r ≡ false
 calm_free class i q r calm free = go (is_booked r) refl
   where
     go : (b : Bool) → is_booked r ≡ b → (b && clashes class i (test_class r.test) r.interval) ≡ false
@@ -123,12 +123,12 @@ map_free f same calm rows free j k r s i apart e g booked at =
     let y = found_map f same rows k s g in
     let a : Calm x.0 r = subst (λ z. Calm x.0 z) x.2 (calm x.0) in
     let b : Calm y.0 s = subst (λ z. Calm y.0 z) y.2 (calm y.0) in
-    let before : in_conflict (test_class x.0.test) i y.0 ≡ false = free j k x.0 y.0 i apart x.1 y.1 (a.booked booked) (sym a.interval ∙ at) in
-    calm_free (test_class r.test) i y.0 s b (subst (λ c. in_conflict c i y.0 ≡ false) (sym a.class) before)
+    let before : blocks (test_class x.0.test) i y.0 ≡ false = free j k x.0 y.0 i apart x.1 y.1 (a.booked booked) (sym a.interval ∙ at) in
+    calm_free (test_class r.test) i y.0 s b (subst (λ c. blocks c i y.0 ≡ false) (sym a.class) before)
 
 -- ---- a row that comes ----
 -- not in conflict with a run, so a row of that run is in no conflict with it
-turned : (n r : RunRow) (i l : Span) → n.interval ≡ Some i → is_booked r ≡ true → r.interval ≡ Some l → in_conflict (test_class n.test) i r ≡ false → in_conflict (test_class r.test) l n ≡ false
+turned : (n r : RunRow) (i l : Span) → n.interval ≡ Some i → is_booked r ≡ true → r.interval ≡ Some l → blocks (test_class n.test) i r ≡ false → blocks (test_class r.test) l n ≡ false
 turned n r i l at booked there free =
     let here : clash (test_class n.test) i (test_class r.test) l ≡ false = ap₂ (λ b o. b && clashes (test_class n.test) i (test_class r.test) o) (sym booked) (sym there) ∙ free in
     let back : clashes (test_class r.test) l (test_class n.test) n.interval ≡ false = ap (λ o. clashes (test_class r.test) l (test_class n.test) o) at ∙ clash_same (test_class r.test) l (test_class n.test) i ∙ here in
@@ -138,29 +138,30 @@ turned n r i l at booked there free =
     go true e = e
     go false e = refl
 
-put_free : (n : RunRow) (i : Span) → n.interval ≡ Some i → (rows : List RunRow) → ((k : RunKey) (s : RunRow) → find_row rows k ≡ Some s → in_conflict (test_class n.test) i s ≡ false) → Free rows → Free (put_new (Some n) rows)
+put_free : (n : RunRow) (i : Span) → n.interval ≡ Some i → (rows : List RunRow) → ((k : RunKey) (s : RunRow) → n.key ≢ k → find_row rows k ≡ Some s → blocks (test_class n.test) i s ≡ false) → Free rows → Free (put_new (Some n) rows)
 put_free n i at rows clear free j k r s l apart e g booked there = go (put_from n rows j r e) (put_from n rows k s g)
   where
-    new : (n ≡ r) → find_row rows k ≡ Some s → in_conflict (test_class r.test) l s ≡ false
-    new is f =
+    new : (n.key ≡ j) → (n ≡ r) → find_row rows k ≡ Some s → blocks (test_class r.test) l s ≡ false
+    new here is f =
         let own : n.interval ≡ Some l = ap (λ x. x.interval) is ∙ there in
         let same : i ≡ l = cc in
-        subst (λ x. in_conflict (test_class x.test) l s ≡ false) is (subst (λ x. in_conflict (test_class n.test) x s ≡ false) same (clear k s f))
+        subst (λ x. blocks (test_class x.test) l s ≡ false) is (subst (λ x. blocks (test_class n.test) x s ≡ false) same (clear k s (λ same. apart (sym here ∙ same)) f))
 
-    go : (find_row rows j ≡ Some r) ⊎ ((n.key ≡ j) × (n ≡ r)) → (find_row rows k ≡ Some s) ⊎ ((n.key ≡ k) × (n ≡ s)) → in_conflict (test_class r.test) l s ≡ false
+    go : (find_row rows j ≡ Some r) ⊎ ((n.key ≡ j) × (n ≡ r)) → (find_row rows k ≡ Some s) ⊎ ((n.key ≡ k) × (n ≡ s)) → blocks (test_class r.test) l s ≡ false
     go (inl e) (inl g) = free j k r s l apart e g booked there
-    go (inl e) (inr y) = subst (λ x. in_conflict (test_class r.test) l x ≡ false) y.1 (turned n r i l at booked there (clear j r e))
-    go (inr x) (inl g) = new x.1 g
+    go (inl e) (inr y) = subst (λ x. blocks (test_class r.test) l x ≡ false) y.1 (turned n r i l at booked there (clear j r (λ same. apart (sym same ∙ y.0)) e))
+    go (inr x) (inl g) = new x.0 x.1 g
     go (inr x) (inr y) = absurd (apart (sym x.0 ∙ y.0))
 
 -- ---- a change ----
--- what gave way isn't in conflict with the run any more
-gave_way : (m : ℕ) (i : Incoming) (q : RunRow) → in_conflict i.class i.interval (give_way m (Some i) q) ≡ false
-gave_way m i q = go (in_conflict i.class i.interval q) refl
+-- a row of another run that gave way doesn't block the run any more
+gave_way : (m : ℕ) (i : Incoming) (q : RunRow) → i.key ≢ q.key → blocks i.class i.interval (give_way m (Some i) q) ≡ false
+gave_way m i q apart = go (is_eq (key_cmp q.key i.key)) (blocks i.class i.interval q) refl refl
   where
-    go : (b : Bool) → in_conflict i.class i.interval q ≡ b → in_conflict i.class i.interval (cond b (close_row (record { moment = m; why = Preempted i.key }) q) q) ≡ false
-    go true e = closed_no_conflict i.class i.interval (record { moment = m; why = Preempted i.key }) q
-    go false e = e
+    go : (e b : Bool) → is_eq (key_cmp q.key i.key) ≡ e → blocks i.class i.interval q ≡ b → blocks i.class i.interval (cond (not e && b) (close_row (record { moment = m; why = Preempted i.key }) q) q) ≡ false
+    go true b same is = absurd (apart (sym (key_is q.key i.key same)))
+    go false true other is = closed_no_conflict i.class i.interval (record { moment = m; why = Preempted i.key }) q
+    go false false other is = is
 
 changed_key : (m : ℕ) (c : Change) (r : RunRow) → (own m c (give_way m (incoming c) r)).key ≡ r.key
 changed_key m c r = (changed_evolves m c r).key
@@ -168,13 +169,14 @@ changed_key m c r = (changed_evolves m c r).key
 changed_free : (m : ℕ) (c : Change) (rows : List RunRow) → Free rows → Free (map (λ r. own m c (give_way m (incoming c) r)) rows)
 changed_free m c rows free = map_free _ (changed_key m c) (changed_calm m c) rows free
 
--- so no row is, once they have all given way
-cleared : (m : ℕ) (c : Change) (i : Incoming) → incoming c ≡ Some i → (rows : List RunRow) (k : RunKey) (s : RunRow) → find_row (map (λ r. own m c (give_way m (incoming c) r)) rows) k ≡ Some s → in_conflict i.class i.interval s ≡ false
-cleared m c i comes rows k s e =
+-- so none of another run does, once they have all given way
+cleared : (m : ℕ) (c : Change) (i : Incoming) → incoming c ≡ Some i → (rows : List RunRow) (k : RunKey) (s : RunRow) → i.key ≢ k → find_row (map (λ r. own m c (give_way m (incoming c) r)) rows) k ≡ Some s → blocks i.class i.interval s ≡ false
+cleared m c i comes rows k s apart e =
     let x = found_map (λ r. own m c (give_way m (incoming c) r)) (changed_key m c) rows k s e in
-    let gone : in_conflict i.class i.interval (give_way m (incoming c) x.0) ≡ false = subst (λ o. in_conflict i.class i.interval (give_way m o x.0) ≡ false) (sym comes) (gave_way m i x.0) in
-    let after : in_conflict i.class i.interval (own m c (give_way m (incoming c) x.0)) ≡ false = calm_free i.class i.interval (give_way m (incoming c) x.0) _ (own_calm m c (give_way m (incoming c) x.0)) gone in
-    subst (λ z. in_conflict i.class i.interval z ≡ false) x.2 after
+    let other : i.key ≢ x.0.key = λ same. apart (same ∙ find_row-key rows k x.0 x.1) in
+    let gone : blocks i.class i.interval (give_way m (incoming c) x.0) ≡ false = subst (λ o. blocks i.class i.interval (give_way m o x.0) ≡ false) (sym comes) (gave_way m i x.0 other) in
+    let after : blocks i.class i.interval (own m c (give_way m (incoming c) x.0)) ≡ false = calm_free i.class i.interval (give_way m (incoming c) x.0) _ (own_calm m c (give_way m (incoming c) x.0)) gone in
+    subst (λ z. blocks i.class i.interval z ≡ false) x.2 after
 
 comes_free : (m : ℕ) (p : Proposal) (participants : List (List ℕ)) (rows : List RunRow) → Free rows → Free (apply m (Accepted p participants) rows)
 comes_free m p participants rows free =

@@ -1,5 +1,5 @@
 -- The reservations of rows, as rows settle, give way, come and are confirmed.
-use Rattle.std.proofs.Common.{◌≡◌, ℕ, ◌&&◌, Bool, true, false, cond, List, [], ◌∷◌, Option, Some, None, not, is_some, refl, ap, ap₂, sym, subst, ◌∙◌}
+use Rattle.std.proofs.Common.{◌≡◌, ℕ, filter, ◌&&◌, Bool, true, false, cond, List, [], ◌∷◌, Option, Some, None, not, is_some, refl, ap, ap₂, sym, subst, ◌∙◌}
 use Rattle.std.specs.List.{AllByRecursion}
 use Rattle.std.specs.Ordering.{is_eq, match_ordering, ordering_reverse}
 use Rattle.std.specs.declared.cmp.Ordering.{Ordering}
@@ -15,14 +15,14 @@ use Rattle.plugin_core.specs.TestSpec.{test_class}
 use Rattle.run_states.specs.declared.row.RunRow.{RunRow}
 use Rattle.run_states.specs.declared.why.Closing.{Closing}
 use Rattle.run_states.specs.declared.why.Why.TheVariants.{Preempted}
-use Rattle.run_states.specs.Conflict.{clashes, in_conflict, preempted_row, preempted_rows}
+use Rattle.run_states.specs.Conflict.{blocks, clashes, preempted_rows}
 use Rattle.run_states.specs.Life.{first, is_booked, close_row, confirm_row, closed_by, lapse_of, settled_row, settled_rows}
 use Rattle.run_states.specs.Rows.{find_row, put_row, change_row, IsAscendingRows}
 use Rattle.host_timeline.specs.declared.booking.Booking.{Booking}
 use Rattle.host_timeline.specs.Booking.{conflicts_with, conflicting, firm_from_of, without_conflicts, keys_of}
 use Rattle.host_timeline.specs.Timeline.{find_booking, with_booking, without_booking}
 use Rattle.host_core.specs.Booking.{conflicts, keys_of_rows}
-use Rattle.host_core.specs.Reservations.{closed_each, reserved, booking_of, with_some, bookings_of, lapses, released}
+use Rattle.host_core.specs.Reservations.{blocking, closed_each, freed_row, freed_rows, reserved, booking_of, with_some, bookings_of, lapses, released}
 
 -- ---- one row and its reservation ----
 abbrev HasKey : RunKey → Option Booking → Type 0
@@ -51,8 +51,27 @@ closed_is_gone : (c : Closing) (r : RunRow) → booking_of (close_row c r) ≡ N
 closed_is_gone c r = ap (λ x. cond x (reserved (close_row c r) r.interval) None) (closed_not_booked c r)
 
 -- and conflicts no more
-pub closed_no_conflict : (class : Class) (s : Span) (c : Closing) (r : RunRow) → in_conflict class s (close_row c r) ≡ false
+pub closed_no_conflict : (class : Class) (s : Span) (c : Closing) (r : RunRow) → blocks class s (close_row c r) ≡ false
 closed_no_conflict class s c r = ap (λ x. x && clashes class s (test_class r.test) r.interval) (closed_not_booked c r)
+
+-- ---- rows that don't have the key of the run ----
+-- the rows in conflict with it are those that block it, and those give way
+module _ (key : RunKey) (class : Class) (s : Span) where
+  first_apart : (r : RunRow) (b : Bool) (o : Option RunRow) → cond b (Some r) o ≡ None → (b ≡ false) × (o ≡ None)
+  first_apart r true o none = cc
+  first_apart r false o none = (refl, none)
+
+  pub conflicts_apart : (rows : List RunRow) → find_row rows key ≡ None → conflicts key class s rows ≡ blocking class s rows
+  conflicts_apart [] none = refl
+  conflicts_apart (r ∷ rs) none =
+      let apart = first_apart r (is_eq (key_cmp r.key key)) (find_row rs key) none in
+      ap₂ (λ b l. cond (not b && blocks class s r) (r ∷ l) l) apart.0 (conflicts_apart rs apart.1)
+
+  pub preempted_apart : (m : ℕ) (rows : List RunRow) → find_row rows key ≡ None → preempted_rows m key class s rows ≡ freed_rows m key class s rows
+  preempted_apart m [] none = refl
+  preempted_apart m (r ∷ rs) none =
+      let apart = first_apart r (is_eq (key_cmp r.key key)) (find_row rs key) none in
+      ap₂ (λ b l. cond (not b && blocks class s r) (close_row (record { moment = m; why = Preempted key }) r) r ∷ l) apart.0 (preempted_apart m rs apart.1)
 
 -- ---- giving way ----
 module _ (m : ℕ) (key : RunKey) (class : Class) (s : Span) where
@@ -63,7 +82,7 @@ module _ (m : ℕ) (key : RunKey) (class : Class) (s : Span) where
   abbrev closing : Closing
   closing = record { moment = m; why = Preempted key }
 
-  preempted_booking : (r : RunRow) → booking_of (preempted_row m key class s r) ≡ gone (booking_of r)
+  preempted_booking : (r : RunRow) → booking_of (freed_row m key class s r) ≡ gone (booking_of r)
   preempted_booking r = go (is_booked r) r.interval refl refl
     where
       own : (b : Bool) (o : Option Span) → is_booked r ≡ b → r.interval ≡ o → booking_of r ≡ cond b (reserved r o) None
@@ -85,9 +104,12 @@ module _ (m : ℕ) (key : RunKey) (class : Class) (s : Span) where
       let rest = without_conflicts class s bs in
       elim (conflicts_with class s b) as (λ x. with_some (cond x None (Some b)) rest ≡ cond (not x) (b ∷ rest) rest) [ true ↦ refl | false ↦ refl ]
 
-  pub bookings_preempted : (rows : List RunRow) → bookings_of (preempted_rows m key class s rows) ≡ without_conflicts class s (bookings_of rows)
-  bookings_preempted [] = refl
-  bookings_preempted (r ∷ rs) = ap₂ with_some (preempted_booking r) (bookings_preempted rs) ∙ gone_filtered (booking_of r) (bookings_of rs)
+  pub bookings_freed : (rows : List RunRow) → bookings_of (freed_rows m key class s rows) ≡ without_conflicts class s (bookings_of rows)
+  bookings_freed [] = refl
+  bookings_freed (r ∷ rs) = ap₂ with_some (preempted_booking r) (bookings_freed rs) ∙ gone_filtered (booking_of r) (bookings_of rs)
+
+pub bookings_preempted : (m : ℕ) (key : RunKey) (class : Class) (s : Span) (rows : List RunRow) → find_row rows key ≡ None → bookings_of (preempted_rows m key class s rows) ≡ without_conflicts class s (bookings_of rows)
+bookings_preempted m key class s rows none = ap bookings_of (preempted_apart key class s m rows none) ∙ bookings_freed m key class s rows
 
 -- what is left has no conflict
 pub conflicts_gone : (class : Class) (s : Span) (bs : List Booking) → conflicting class s (without_conflicts class s bs) ≡ []
@@ -222,18 +244,18 @@ abbrev row_booking : RunRow → Span → Booking
 row_booking r t = record { key = r.key; class = test_class r.test; interval = t; priority = r.priority; firm_from = firm_from_of t.start (is_some r.started) }
 
 module _ (class : Class) (s : Span) where
-  row_conflict : (r : RunRow) (b : Bool) (o : Option Span) (bs : List Booking) (rs : List RunRow) → keys_of (conflicting class s bs) ≡ keys_of_rows (conflicts class s rs)
-      → keys_of (conflicting class s (with_some (cond b (reserved r o) None) bs)) ≡ keys_of_rows (cond (b && clashes class s (test_class r.test) o) (r ∷ conflicts class s rs) (conflicts class s rs))
+  row_conflict : (r : RunRow) (b : Bool) (o : Option Span) (bs : List Booking) (rs : List RunRow) → keys_of (conflicting class s bs) ≡ keys_of_rows (blocking class s rs)
+      → keys_of (conflicting class s (with_some (cond b (reserved r o) None) bs)) ≡ keys_of_rows (cond (b && clashes class s (test_class r.test) o) (r ∷ blocking class s rs) (blocking class s rs))
   row_conflict r false o bs rs later = later
   row_conflict r true None bs rs later = later
   row_conflict r true (Some t) bs rs later = go (clash class s (test_class r.test) t)
     where
-      go : (x : Bool) → keys_of (cond x (row_booking r t ∷ conflicting class s bs) (conflicting class s bs)) ≡ keys_of_rows (cond x (r ∷ conflicts class s rs) (conflicts class s rs))
+      go : (x : Bool) → keys_of (cond x (row_booking r t ∷ conflicting class s bs) (conflicting class s bs)) ≡ keys_of_rows (cond x (r ∷ blocking class s rs) (blocking class s rs))
       go true = ap (λ l. r.key ∷ l) later
       go false = later
 
   -- the reservations in conflict are those of the rows in conflict
-  pub keys_in_conflict : (rows : List RunRow) → keys_of (conflicting class s (bookings_of rows)) ≡ keys_of_rows (conflicts class s rows)
+  pub keys_in_conflict : (rows : List RunRow) → keys_of (conflicting class s (bookings_of rows)) ≡ keys_of_rows (blocking class s rows)
   keys_in_conflict [] = refl
   keys_in_conflict (r ∷ rs) = row_conflict r (is_booked r) r.interval (bookings_of rs) rs (keys_in_conflict rs)
 
@@ -264,17 +286,20 @@ module _ (m : ℕ) (key : RunKey) (class : Class) (s : Span) where
       ∙ ap (λ l. close_one r ∷ l) (change_none r.key rs (above_is_other m r.key rs above))
 
   -- closing the rows of the reservations in conflict closes the rows in conflict
-  pub closed_preempted : (rows : List RunRow) → IsAscendingRows rows → closed_each m key class s (bookings_of rows) rows ≡ preempted_rows m key class s rows
-  closed_preempted [] up = refl
-  closed_preempted (r ∷ rs) up =
-      go (is_booked r) r.interval (closed_preempted rs up.1) (all_bookings (λ k. is_eq (key_cmp r.key k) ≡ false) rs (below_is_other m r.key r.key rs refl up.0))
+  pub closed_freed : (rows : List RunRow) → IsAscendingRows rows → closed_each m key class s (bookings_of rows) rows ≡ freed_rows m key class s rows
+  closed_freed [] up = refl
+  closed_freed (r ∷ rs) up =
+      go (is_booked r) r.interval (closed_freed rs up.1) (all_bookings (λ k. is_eq (key_cmp r.key k) ≡ false) rs (below_is_other m r.key r.key rs refl up.0))
     where
-      go : (b : Bool) (o : Option Span) → closed_each m key class s (bookings_of rs) rs ≡ preempted_rows m key class s rs → AllByRecursion (λ y. is_eq (key_cmp r.key y.key) ≡ false) (bookings_of rs)
-          → closed_each m key class s (with_some (cond b (reserved r o) None) (bookings_of rs)) (r ∷ rs) ≡ cond (b && clashes class s (test_class r.test) o) (close_one r) r ∷ preempted_rows m key class s rs
+      go : (b : Bool) (o : Option Span) → closed_each m key class s (bookings_of rs) rs ≡ freed_rows m key class s rs → AllByRecursion (λ y. is_eq (key_cmp r.key y.key) ≡ false) (bookings_of rs)
+          → closed_each m key class s (with_some (cond b (reserved r o) None) (bookings_of rs)) (r ∷ rs) ≡ cond (b && clashes class s (test_class r.test) o) (close_one r) r ∷ freed_rows m key class s rs
       go false o later others = closed_past r (bookings_of rs) rs others ∙ ap (λ l. r ∷ l) later
       go true None later others = closed_past r (bookings_of rs) rs others ∙ ap (λ l. r ∷ l) later
       go true (Some t) later others =
-          elim (clash class s (test_class r.test) t) as (λ x. closed_each m key class s (bookings_of rs) (cond x (change_row close_one (r ∷ rs) r.key) (r ∷ rs)) ≡ cond x (close_one r) r ∷ preempted_rows m key class s rs) [
+          elim (clash class s (test_class r.test) t) as (λ x. closed_each m key class s (bookings_of rs) (cond x (change_row close_one (r ∷ rs) r.key) (r ∷ rs)) ≡ cond x (close_one r) r ∷ freed_rows m key class s rs) [
             | true ↦ ap (closed_each m key class s (bookings_of rs)) (own_closed r rs up.0) ∙ (closed_past (close_one r) (bookings_of rs) rs others ∙ ap (λ l. close_one r ∷ l) later)
             | false ↦ closed_past r (bookings_of rs) rs others ∙ ap (λ l. r ∷ l) later
           ]
+
+pub closed_preempted : (m : ℕ) (key : RunKey) (class : Class) (s : Span) (rows : List RunRow) → IsAscendingRows rows → find_row rows key ≡ None → closed_each m key class s (bookings_of rows) rows ≡ preempted_rows m key class s rows
+closed_preempted m key class s rows up none = closed_freed m key class s rows up ∙ sym (preempted_apart key class s m rows none)

@@ -101,7 +101,7 @@ closed_none m r c (Some d) = refl
 pub stands_preempted : (until m : ℕ) (key : RunKey) (class : Class) (s : Span) (r : RunRow) → StandsUntil until r → StandsUntil until (preempted_row m key class s r)
 stands_preempted until m key class s r stands n before =
     let c : Closing = record { moment = m; why = Preempted key } in
-    elim (in_conflict class s r) as (λ b. lapse_of n (cond b (close_row c r) r) ≡ None) [
+    elim (in_conflict key class s r) as (λ b. lapse_of n (cond b (close_row c r) r) ≡ None) [
       | true ↦ closed_none n r c r.closed
       | false ↦ stands n before
     ]

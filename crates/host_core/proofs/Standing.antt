@@ -81,7 +81,7 @@ own_evolves m c r = either_evolves (is_eq (key_cmp r.key (change_key c))) r (eff
 
 pub way_evolves : (m : ℕ) (o : Option Incoming) (r : RunRow) → Evolves r (give_way m o r)
 way_evolves m None r = Evolves-refl r
-way_evolves m (Some i) r = either_evolves (in_conflict i.class i.interval r) r _ r (close_evolves _ r) (Evolves-refl r)
+way_evolves m (Some i) r = either_evolves (in_conflict i.key i.class i.interval r) r _ r (close_evolves _ r) (Evolves-refl r)
 
 pub changed_evolves : (m : ℕ) (c : Change) (r : RunRow) → Evolves r (own m c (give_way m (incoming c) r))
 changed_evolves m c r = Evolves-trans r (give_way m (incoming c) r) (own m c (give_way m (incoming c) r)) (way_evolves m (incoming c) r) (own_evolves m c (give_way m (incoming c) r))

@@ -1,14 +1,13 @@
 -- What a change does to the rows of a book. Each moment of a row is set once: `first` keeps what stands.
+pub use Rattle.run_states.specs.Preemption.{Incoming, give_way}
 use Rattle.std.specs.Prelude.{ℕ, List, [], ◌∷◌, map, Option, Some, None, is_some, if◌then◌else◌}
 use Rattle.std.specs.Ordering.{is_eq}
 use Rattle.ps_time.specs.Key.{key_cmp}
-use Rattle.ps_time.specs.Span.{Span, span_of}
-use Rattle.ps_time.specs.declared.class.Class.{Class}
+use Rattle.ps_time.specs.Span.{span_of}
 use Rattle.ps_time.specs.declared.key.RunKey.{RunKey}
 use Rattle.plugin_core.specs.TestSpec.{test_class, test_length}
 use Rattle.run_states.specs.declared.proposal.Proposal.{Proposal}
 use Rattle.run_states.specs.declared.row.RunRow.{RunRow}
-use Rattle.run_states.specs.Conflict.{preempted_row}
 use Rattle.run_states.specs.Life.{confirm_row}
 use Rattle.run_states.specs.Rows.{find_row, put_row}
 use Rattle.host_core.specs.declared.change.Change.{Change}
@@ -56,18 +55,9 @@ abbrev pub own : ℕ → Change → RunRow → RunRow
 own m c r = if is_eq (key_cmp r.key (change_key c)) then effect m c r else r
 
 -- a run that is accepted now closes each booked row that it conflicts with
-pub record Incoming : Type 0 where
-  pub key : RunKey
-  pub class : Class
-  pub interval : Span
-
 abbrev pub incoming : Change → Option Incoming
 incoming (Accepted p participants) = Some (record { key = p.key; class = test_class p.test; interval = span_of p.start (test_length p.test) })
 incoming (Confirmed k) = None
-
-abbrev pub give_way : ℕ → Option Incoming → RunRow → RunRow
-give_way m None r = r
-give_way m (Some i) r = preempted_row m i.key i.class i.interval r
 
 -- a new row goes to its place, unless its key is there
 abbrev pub put_new : Option RunRow → List RunRow → List RunRow

@@ -1,5 +1,5 @@
 -- The reservations for which the rows of a book stand.
-use Rattle.std.specs.Prelude.{ℕ, ℤ, Bool, false, List, [], ◌∷◌, ◌++◌, Option, Some, None, is_some, Result, Ok, Err, if◌then◌else◌}
+use Rattle.std.specs.Prelude.{ℕ, ℤ, Bool, false, List, [], ◌∷◌, ◌++◌, filter, map, Option, Some, None, is_some, Result, Ok, Err, if◌then◌else◌}
 use Rattle.ps_time.specs.Span.{Span, span_of}
 use Rattle.ps_time.specs.declared.class.Class.{Class}
 use Rattle.ps_time.specs.declared.key.RunKey.{RunKey}
@@ -7,6 +7,7 @@ use Rattle.plugin_core.specs.TestSpec.{test_class, test_length}
 use Rattle.run_states.specs.declared.proposal.Proposal.{Proposal}
 use Rattle.run_states.specs.declared.row.RunRow.{RunRow}
 use Rattle.run_states.specs.declared.why.Why.TheVariants.{Preempted}
+use Rattle.run_states.specs.Conflict.{blocks}
 use Rattle.run_states.specs.Life.{is_booked, close_row, lapse_of}
 use Rattle.run_states.specs.Rows.{change_row, find_row}
 use Rattle.host_timeline.specs.declared.booking.Booking.{Booking}
@@ -50,6 +51,17 @@ reservation_of p = record {
 -- the row lapses by m
 abbrev pub lapses : ℕ → RunRow → Bool
 lapses m r = is_some (lapse_of m r)
+
+-- the booked rows that clash with a run of this class and interval: its conflicts, where no row has its key
+abbrev pub blocking : Class → Span → List RunRow → List RunRow
+blocking class interval rows = filter (blocks class interval) rows
+
+-- the row, closed at m in favour of the run that has the key, where it clashes with it
+abbrev pub freed_row : ℕ → RunKey → Class → Span → RunRow → RunRow
+freed_row m key class interval r = if blocks class interval r then close_row (record { moment = m; why = Preempted key }) r else r
+
+abbrev pub freed_rows : ℕ → RunKey → Class → Span → List RunRow → List RunRow
+freed_rows m key class interval rows = map (freed_row m key class interval) rows
 
 -- keys of rows in conflict, one after the other: those that can be preempted, or the first that can't; a row that lapses by m doesn't count
 abbrev pub sort_one : ℤ → ℕ → RunKey → Option RunRow → List RunKey → (List RunKey → Result (List RunKey) RunKey) → Result (List RunKey) RunKey

@@ -1,10 +1,10 @@
 //! A host: its book, with an index of what its rows reserve.
-ghost use Rattle.std.specs.Prelude.{◌≡◌, ◌≤◌, ◌<◌, ◌+◌, ℕ, List, [], ◌∷◌, All, IfOk, OnOk, OnErr, Some, Ok};
+ghost use Rattle.std.specs.Prelude.{◌≡◌, ◌≤◌, ◌<◌, ◌+◌, ℕ, List, [], ◌∷◌, All, IfOk, OnOk, OnErr, Some, None, Ok};
 ghost use Rattle.ps_time.specs.Span.{span_of};
 ghost use Rattle.ps_time.specs.declared.moment.TheConstants.{MAX_MOMENT, MAX_LENGTH};
 ghost use Rattle.plugin_core.specs.TestSpec.{test_length};
 ghost use Rattle.run_states.specs.Life.{settled_rows, HasMoments};
-ghost use Rattle.run_states.specs.Rows.{IsAscendingRows};
+ghost use Rattle.run_states.specs.Rows.{find_row, IsAscendingRows};
 ghost use Rattle.host_core.specs.Book.{Book, MayFollow, CanApply, CanApplyAll, IsInBounds, empty_book, book_after, added};
 ghost use Rattle.host_core.specs.Booking.{conflicts, fitted, sorted_conflicts};
 ghost use Rattle.host_core.specs.Grown.{Grown, AllStand};
@@ -21,7 +21,6 @@ use crate::step::{Input, Outcome, Reply};
 use host_timeline::booking::{Booking, firm_from};
 use host_timeline::timeline::Timeline;
 use plugin_core::test_spec::{class_of, length_of};
-use ps_time::class::Class;
 use ps_time::interval::Interval;
 use ps_time::items::Items;
 use ps_time::key::RunKey;
@@ -215,6 +214,7 @@ impl Host {
     ) -> Result<Result<Items<RunKey>, Denial>, Memory>
         requires moment { moment ≤ MAX_MOMENT }
         requires bounds { (proposal.now.start ≤ MAX_MOMENT) × (1 ≤ test_length proposal.now.test) × (test_length proposal.now.test ≤ MAX_LENGTH) }
+        requires new_key { find_row (settled_rows moment self.now.book.rows) proposal.now.key ≡ None }
         ensures { IfOk result (λ r. r ≡ fitted moment (settled_rows moment self.now.book.rows) proposal.now) }
     {
         if proposal.start < moment {
@@ -222,7 +222,7 @@ impl Host {
         }
         let rows = self.rows.list().len();
         let run = reservation_of(proposal);
-        match self.sort_conflicts(alloc, run.class, &run.interval, proposal.priority, moment)? {
+        match self.sort_conflicts(alloc, &run, proposal.priority, moment)? {
             Err(key) => Ok(Err(Denial::Conflict(key))),
             Ok(_) if MOST_RUNS <= rows => Ok(Err(Denial::Full(What::Runs, rows as u64))),
             Ok(preempted) => Ok(Ok(preempted)),
@@ -233,15 +233,15 @@ impl Host {
     fn sort_conflicts(
         &self,
         alloc: Global,
-        class: Class,
-        interval: &Interval,
+        run: &Booking,
         priority: i16,
         moment: Moment,
     ) -> Result<Result<Items<RunKey>, RunKey>, Memory>
-        requires { moment ≤ MAX_MOMENT }
-        ensures { IfOk result (λ r. r ≡ sorted_conflicts priority moment (conflicts class interval.now (settled_rows moment self.now.book.rows))) }
+        requires moment { moment ≤ MAX_MOMENT }
+        requires new_key { find_row (settled_rows moment self.now.book.rows) run.now.key ≡ None }
+        ensures { IfOk result (λ r. r ≡ sorted_conflicts priority moment (conflicts run.now.key run.now.class run.now.interval (settled_rows moment self.now.book.rows))) }
     {
-        let keys = self.timeline.conflicts(alloc, class, interval)?;
+        let keys = self.timeline.conflicts(alloc, run.class, &run.interval)?;
         sort_out(alloc, &self.rows, keys.as_slice(), priority, moment)
     }
 

@@ -1,4 +1,11 @@
 pub mod Conflict
+pub mod Content
+pub mod Effect
+pub mod LawfulRow
 pub mod Life
+pub mod Preemption
+pub mod Purging
+pub mod ResultBytes
 pub mod Rows
 pub mod State
+pub mod TaskRows

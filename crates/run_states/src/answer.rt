@@ -1,5 +1,6 @@
 //! What a participant answers, and what the lead has heard of it.
 ghost use Rattle.std.specs.Prelude.{◌≡◌, IfOk};
+ghost use Rattle.run_states.specs.Effect.{is_acceptance, with_answer, with_free, with_result, with_told};
 
 use ps_time::duplicate::Duplicate;
 use ps_time::items::Items;
@@ -40,6 +41,38 @@ impl Same for FreeAnswer {
     }
 }
 
+/// What a participant was told, and acknowledges.
+#[derive(Clone, Copy, Debug, PartialEq, Eq)]
+pub enum Told {
+    /// That the run is confirmed.
+    Confirm,
+    /// That it is canceled.
+    Cancel,
+    /// The test's material.
+    Material,
+}
+
+/// What a participant answered.
+#[derive(Drop)]
+pub enum Answer {
+    /// When it is free.
+    Free(FreeAnswer),
+    /// It accepts the run.
+    Accepted,
+    /// It acknowledges what it was told.
+    Acknowledged(Told),
+    /// Its result, a JSON text, or that it has none.
+    Result(Option<Text>),
+}
+
+impl Answer {
+    pub(crate) fn is_acceptance(&self) -> bool
+        ensures { result ≡ is_acceptance self.now }
+    {
+        matches!(self, Answer::Accepted)
+    }
+}
+
 /// What a lead knows of one other participant.
 #[derive(Drop)]
 pub struct Other {
@@ -57,6 +90,48 @@ pub struct Other {
 }
 
 impl Other {
+    /// Sets what the answer tells, unless it is known.
+    pub fn hear(&mut self, answer: Answer)
+        ensures { self.new ≡ with_answer answer self.old }
+    {
+        match answer {
+            Answer::Free(answer) => self.hear_free(answer),
+            Answer::Accepted => self.accepted = true,
+            Answer::Acknowledged(told) => self.acknowledge(told),
+            Answer::Result(answer) => self.hear_result(answer),
+        }
+    }
+
+    fn hear_free(&mut self, answer: FreeAnswer)
+        ensures { self.new ≡ with_free answer self.old }
+    {
+        if self.free.is_none() {
+            drop(self.free.replace(answer));
+        } else {
+            drop(answer);
+        }
+    }
+
+    fn acknowledge(&mut self, told: Told)
+        ensures { self.new ≡ with_told told self.old }
+    {
+        match told {
+            Told::Confirm => self.confirm_told = true,
+            Told::Cancel => self.cancel_told = true,
+            Told::Material => self.material_told = true,
+        }
+    }
+
+    fn hear_result(&mut self, answer: Option<Text>)
+        ensures { self.new ≡ with_result answer self.old }
+    {
+        if self.heard.is_none() {
+            drop(self.heard.replace(answer));
+        } else {
+            drop(answer);
+        }
+    }
+
     pub fn copy(&self, alloc: Global) -> Result<Other, Memory>
         ensures { IfOk result (λ made. made ≡ self.now) }
     {

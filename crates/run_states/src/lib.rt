@@ -2,8 +2,13 @@
 #![tactic(auto)]
 
 pub mod answer;
+mod conflict;
+pub mod content;
+pub mod fact;
 pub mod life;
+mod note;
 pub mod proposal;
+pub mod rest;
 pub mod row;
 pub mod rows;
 pub mod state;

@@ -1,7 +1,9 @@
 //! The life of a row: its steps, how it lapses, and its state at a moment.
-ghost use Rattle.std.specs.Prelude.{◌≡◌, ℕ, ◌≤◌, Some, None, OnOk, OnErr};
+ghost use Rattle.std.specs.Prelude.{◌≡◌, ℕ, ◌≤◌, Some, None, OnOk, OnErr, IfSome};
 ghost use Rattle.ps_time.specs.declared.moment.TheConstants.{MAX_MOMENT};
-ghost use Rattle.run_states.specs.Life.{is_booked, is_active, confirm_row, start_row, end_row, close_row, marked_row, may_take, advanced, lapse_of, settled_row, closed_state, started_state, state_of, IsInTime, HasMoments};
+ghost use Rattle.archive_retry.specs.Merge.{IsResultText};
+ghost use Rattle.run_states.specs.LawfulRow.{BringsResult};
+ghost use Rattle.run_states.specs.Life.{is_booked, is_active, confirm_row, start_row, end_row, close_row, marked_row, may_take, advanced, lapse_asked, lapse_held, lapse_missed, lapse_of, settled_row, closed_state, started_state, state_of, IsInTime, HasMoments};
 
 use crate::row::{Ending, RunRow};
 use crate::state::State;
@@ -68,6 +70,7 @@ impl RunRow {
 
     /// Sets how the run ended, unless it ended before.
     pub fn end(&mut self, ending: Ending)
+        requires result { IsResultText ending.body }
         ensures { self.new ≡ end_row ending self.old }
     {
         if self.ended.is_none() {
@@ -90,6 +93,7 @@ impl RunRow {
 
     /// Sets what the step sets, unless the row has it.
     pub fn mark(&mut self, step: LifeStep, moment: Moment)
+        requires result { BringsResult step }
         ensures { self.new ≡ marked_row step moment self.old }
     {
         match step {
@@ -116,6 +120,7 @@ impl RunRow {
 
     /// Takes a step of the row's life.
     pub fn advance(&mut self, step: LifeStep, moment: Moment) -> Result<(), Wrong>
+        requires result { BringsResult step }
         ensures ok { OnOk result (advanced step moment self.old ≡ Some self.new) }
         ensures wrong { OnErr result (advanced step moment self.old ≡ None) }
         ensures unchanged { OnErr result (self.new ≡ self.old) }
@@ -137,29 +142,54 @@ impl RunRow {
             return None;
         }
         let Some(accepted) = self.accepted else {
-            let asked = self.asked?;
-            if asked + HOLD <= moment {
-                return Some(Closing {
-                    moment: asked + HOLD,
-                    why: Why::Nonstart(Cause::Silent),
-                });
-            }
-            return None;
+            return self.lapse_asked(moment);
         };
         if self.confirmed.is_none() {
-            let interval = self.interval?;
-            let last = interval.start.min(accepted + HOLD);
-            if last <= moment {
-                return Some(Closing {
-                    moment: last,
-                    why: Why::Nonstart(Cause::HoldEnded),
-                });
-            }
-            return None;
+            return self.lapse_held(accepted, moment);
         }
         if self.started.is_some() {
             return None;
         }
+        self.lapse_missed(moment)
+    }
+
+    // Asked and not accepted: a minute after the asking.
+    fn lapse_asked(&self, moment: Moment) -> Option<Closing>
+        requires { HasMoments self.now }
+        ensures { result ≡ lapse_asked moment self.now.asked }
+    {
+        let asked = self.asked?;
+        if asked + HOLD <= moment {
+            return Some(Closing {
+                moment: asked + HOLD,
+                why: Why::Nonstart(Cause::Silent),
+            });
+        }
+        None
+    }
+
+    // Accepted and not confirmed: a minute after the accepting, or at the start where that is earlier.
+    fn lapse_held(&self, accepted: Moment, moment: Moment) -> Option<Closing>
+        requires row { HasMoments self.now }
+        requires accepted { accepted ≤ MAX_MOMENT }
+        ensures { result ≡ lapse_held moment accepted self.now.interval }
+    {
+        let interval = self.interval?;
+        let last = interval.start.min(accepted + HOLD);
+        if last <= moment {
+            return Some(Closing {
+                moment: last,
+                why: Why::Nonstart(Cause::HoldEnded),
+            });
+        }
+        None
+    }
+
+    // Confirmed and not started: more than the grace after the start.
+    fn lapse_missed(&self, moment: Moment) -> Option<Closing>
+        requires { HasMoments self.now }
+        ensures { result ≡ lapse_missed moment self.now.interval }
+    {
         let interval = self.interval?;
         if interval.start + GRACE < moment {
             return Some(Closing {

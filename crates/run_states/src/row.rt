@@ -1,5 +1,6 @@
 //! What a host keeps of a run.
 ghost use Rattle.std.specs.Prelude.{◌≡◌, ◌↔◌, IsTrue, IfOk};
+ghost use Rattle.run_states.specs.TaskRows.{is_before_task, is_of_task};
 
 use crate::answer::Other;
 use crate::why::Closing;
@@ -85,6 +86,21 @@ pub struct RunRow {
 }
 
 impl RunRow {
+    /// Whether the run is of this lead's task with this serial; the bookings of a host have serial 0.
+    pub fn is_of_task(&self, lead: u16, serial: u32) -> bool
+        ensures { result ≡ is_of_task lead serial self.now }
+    {
+        self.key.lead == lead && self.key.task == serial
+    }
+
+    // Whether the run is of an earlier lead or task.
+    pub(crate) fn is_before_task(&self, lead: u16, serial: u32) -> bool
+        ensures { result ≡ is_before_task lead serial self.now }
+    {
+        self.key.lead < lead || (self.key.lead == lead && self.key.task < serial)
+    }
+
+    /// An equal row, with lists and texts of its own.
     pub fn copy(&self, alloc: Global) -> Result<RunRow, Memory>
         ensures { IfOk result (λ made. made ≡ self.now) }
     {

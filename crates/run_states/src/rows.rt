@@ -1,9 +1,16 @@
 //! The run rows of a host: ascending by key, with reserved places.
-ghost use Rattle.std.specs.Prelude.{◌≡◌, ℕ, ◌+◌, ◌<◌, ◌≤◌, [], None, IfOk, IfErr, OnOk, is_some, if◌then◌else◌, All};
+ghost use Rattle.std.specs.Prelude.{◌≡◌, ℕ, ◌+◌, ◌<◌, ◌≤◌, [], None, IfOk, IfErr, IfSome, IsSome, OnOk, is_some, if◌then◌else◌, All, true, false, length};
+ghost use Rattle.std.specs.List.{list_any};
 ghost use Rattle.std.specs.Option.{option_copied};
+ghost use Rattle.run_states.specs.Effect.{noted_row};
+ghost use Rattle.run_states.specs.LawfulRow.{BringsResult, BringsResults, CanNote, CanTake, IsLawfulRow};
+ghost use Rattle.std.specs.List.Sorted.{IsPartitionPoint};
+ghost use Rattle.run_states.specs.TaskRows.{greatest_number, is_before_task, is_of_task, newest_row, number_of, rows_of_task};
+ghost use Rattle.run_states.specs.Purging.{is_later, is_purgeable_key};
 ghost use Rattle.run_states.specs.Life.{confirm_row, close_row, marked_row, settled_rows, HasMoments};
 ghost use Rattle.run_states.specs.Rows.{find_row, put_row, lift_row, change_row, IsAscendingRows, IsPlaceOf, IsGapFor};
 
+use crate::fact::Fact;
 use crate::life::LifeStep;
 use crate::row::RunRow;
 use crate::why::Closing;
@@ -66,6 +73,29 @@ impl Rows {
         }
     }
 
+    /// The rows of this lead's task with this serial, ascending by key. They stand side by side, and are
+    /// found by two searches.
+    pub fn of_task(&self, lead: u16, serial: u32) -> &[RunRow]
+        ensures { result.now ≡ rows_of_task lead serial self.now.list }
+    {
+        task_rows(self.rows.as_slice(), lead, serial)
+    }
+
+    /// The row of the task with the greatest number and attempt.
+    pub fn newest_of_task(&self, lead: u16, serial: u32) -> Option<&RunRow>
+        ensures { option_copied result ≡ newest_row lead serial self.now.list }
+    {
+        self.of_task(lead, serial).last()
+    }
+
+    /// The greatest number of a run of the task; 0 where it has none.
+    pub fn greatest_number(&self, lead: u16, serial: u32) -> u32
+        ensures { result ≡ greatest_number lead serial self.now.list }
+    {
+        let newest = task_rows(self.rows.as_slice(), lead, serial).last();
+        number_of(newest)
+    }
+
     /// Takes no memory.
     pub fn put(&mut self, row: RunRow)
         requires room { 0 < self.old.room }
@@ -79,10 +109,13 @@ impl Rows {
         }
     }
 
-    /// Takes the row out; its place stays reserved.
+    /// Takes the row out; its place stays reserved. Where it is put back changed, it comes into its place
+    /// again.
     pub fn lift(&mut self, key: RunKey) -> Option<RunRow>
         ensures row { result ≡ find_row self.old.list key }
         ensures rows { self.new.list ≡ lift_row self.old.list key }
+        ensures gone { find_row self.new.list key ≡ None }
+        ensures back { (s : RunRow) → IsSome result → s.key ≡ key → put_row self.new.list s ≡ change_row (λ _. s) self.old.list key }
         ensures room { self.new.room ≡ self.old.room + (if is_some result then 1 else 0) }
     {
         match self.search(key) {
@@ -93,7 +126,9 @@ impl Rows {
 
     /// Sets what a step of life sets in the row of the key, if there is one, unless it has it.
     pub fn mark(&mut self, key: RunKey, step: LifeStep, moment: Moment)
+        requires result { BringsResult step }
         ensures rows { self.new.list ≡ change_row (marked_row step moment) self.old.list key }
+        ensures lawful { (m : ℕ) → m ≤ moment → IfSome (find_row self.old.list key) (CanTake step) → All (IsLawfulRow m) self.old.list → All (IsLawfulRow moment) self.new.list }
         ensures room { self.new.room ≡ self.old.room }
     {
         match self.search(key) {
@@ -102,6 +137,65 @@ impl Rows {
                 row.mark(step, moment);
             }
             Err(_) => drop(step),
+        }
+    }
+
+    /// Sets what the fact tells in the row of the key, if there is one, unless it has it. A fact that has
+    /// lists of its own brings them along, so this takes no memory.
+    pub fn note(&mut self, key: RunKey, fact: Fact, moment: Moment)
+        requires results { BringsResults fact }
+        ensures rows { self.new.list ≡ change_row (noted_row fact moment) self.old.list key }
+        ensures lawful { (m : ℕ) → m ≤ moment → IfSome (find_row self.old.list key) (CanNote fact) → All (IsLawfulRow m) self.old.list → All (IsLawfulRow moment) self.new.list }
+        ensures room { self.new.room ≡ self.old.room }
+    {
+        match self.search(key) {
+            Ok(at) => {
+                let row = &mut self.rows[at];
+                row.note(fact, moment);
+            }
+            Err(_) => drop(fact),
+        }
+    }
+
+    /// Takes the row of the key out for good, and answers whether there was one. Its place stays reserved.
+    pub fn purge(&mut self, key: RunKey) -> bool
+        ensures there { result ≡ is_some (find_row self.old.list key) }
+        ensures rows { self.new.list ≡ lift_row self.old.list key }
+        ensures gone { find_row self.new.list key ≡ None }
+        ensures room { self.new.room ≡ self.old.room + (if result then 1 else 0) }
+    {
+        match self.lift(key) {
+            Some(row) => {
+                drop(row);
+                true
+            }
+            None => false,
+        }
+    }
+
+    /// Whether the row of the key is long past at the moment, so that the host of this number may purge it.
+    pub fn is_purgeable(&self, key: RunKey, host: u16, moment: Moment) -> bool
+        ensures { result ≡ is_purgeable_key host moment self.now.list key }
+    {
+        match self.search(key) {
+            Ok(at) => {
+                let row = &self.rows[at];
+                row.is_long_past(moment)
+                    && (row.key.lead != host || (row.is_archived() && self.has_later(key, at)))
+            }
+            Err(_) => false,
+        }
+    }
+
+    // Whether a later row is of the same task: then so is the next one.
+    fn has_later(&self, key: RunKey, at: usize) -> bool
+        requires { IsPlaceOf self.now.list key at }
+        ensures { result ≡ list_any (λ s. is_later key s.key) self.now.list }
+    {
+        if 1 < self.rows.len() - at {
+            self.rows[at + 1].is_of_task(key.lead, key.task)
+        } else {
+            false
         }
     }
 
@@ -129,6 +223,7 @@ impl Rows {
         // An earlier settling makes no difference.
         ensures whenever { (m : ℕ) → m ≤ moment → settled_rows moment (settled_rows m self.old.list) ≡ self.new.list }
         ensures moments { All HasMoments self.new.list }
+        ensures lawful { (m : ℕ) → m ≤ moment → All (IsLawfulRow m) self.old.list → All (IsLawfulRow moment) self.new.list }
         ensures room { self.new.room ≡ self.old.room }
     {
         settle_all(&mut self.rows, moment);
@@ -149,6 +244,42 @@ impl Rows {
     {
         self.rows.binary_search_by_key(&key, |row| row.key)
     }
+}
+
+fn number_of(row: Option<&RunRow>) -> u32
+    ensures { result ≡ number_of (option_copied row.entry) }
+{
+    match row {
+        Some(row) => row.key.number,
+        None => 0,
+    }
+}
+
+fn task_rows(rows: &[RunRow], lead: u16, serial: u32) -> &[RunRow]
+    requires { IsAscendingRows rows.now }
+    ensures { result.now ≡ rows_of_task lead serial rows.now }
+{
+    let rest = &rows[before_task(rows, lead, serial)..];
+    &rest[..in_task(rest, lead, serial)]
+}
+
+// How many rows stand before those of the task.
+fn before_task(rows: &[RunRow], lead: u16, serial: u32) -> usize
+    requires { IsAscendingRows rows.now }
+    ensures within { result ≤ length rows.now }
+    ensures parted { IsPartitionPoint (λ r. is_before_task lead serial r ≡ true) (λ r. is_before_task lead serial r ≡ false) rows.now result }
+{
+    rows.partition_point(|row| row.is_before_task(lead, serial))
+}
+
+// How many of these rows, none of which stands before those of the task, are of it.
+fn in_task(rows: &[RunRow], lead: u16, serial: u32) -> usize
+    requires ascending { IsAscendingRows rows.now }
+    requires none_before { All (λ r. is_before_task lead serial r ≡ false) rows.now }
+    ensures within { result ≤ length rows.now }
+    ensures parted { IsPartitionPoint (λ r. is_of_task lead serial r ≡ true) (λ r. is_of_task lead serial r ≡ false) rows.now result }
+{
+    rows.partition_point(|row| row.is_of_task(lead, serial))
 }
 
 fn settle_all(rows: &mut [RunRow], moment: Moment)

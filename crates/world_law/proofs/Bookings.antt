@@ -48,7 +48,7 @@ module _ (q y : RunRow → Bool) where
 -- ---- whether it fits ----
 module _ (m : ℕ) (rows : List RunRow) (p : Proposal) where
   abbrev met : List RunRow
-  met = conflicts (test_class p.test) (wanted p) rows
+  met = conflicts p.key (test_class p.test) (wanted p) rows
 
   abbrev firm : Option RunRow
   firm = find (λ r. not (yields p.priority m r)) met
@@ -61,13 +61,13 @@ module _ (m : ℕ) (rows : List RunRow) (p : Proposal) where
   past : (b : Bool) → nat_lt p.start m ≡ b → (o : Option RunRow) → firm ≡ o → (f : Bool) → nat_le most_runs (length rows) ≡ f → Verdict
   past true late o e f full = unfit (Past m p.start) (λ fits. let start = fits.start in absurd (grind (arith, nat_tests))) (ap (λ b. cond b (Err (Past m p.start)) (unless_full (length rows) (preempted_by p m rows))) late)
   past false late (Some r) e f full =
-      unfit (Conflict r.key) (λ fits. let none : firm ≡ None = no_firm (in_conflict (test_class p.test) (wanted p)) (yields p.priority m) rows fits.conflicts in cc)
+      unfit (Conflict r.key) (λ fits. let none : firm ≡ None = no_firm (in_conflict p.key (test_class p.test) (wanted p)) (yields p.priority m) rows fits.conflicts in cc)
       (ap (λ b. cond b (Err (Past m p.start)) (unless_full (length rows) (preempted_by p m rows))) late ∙ ap (λ o. unless_full (length rows) (unless_firm o met)) e)
   past false late None e true full =
       unfit (Full Runs (length rows)) (λ fits. let place = fits.place in absurd (grind (arith, nat_tests)))
       (ap (λ b. cond b (Err (Past m p.start)) (unless_full (length rows) (preempted_by p m rows))) late ∙ ap (λ o. unless_full (length rows) (unless_firm o met)) e ∙ ap (λ b. cond b (Err (Full Runs (length rows))) (Ok (keys_of_rows met))) full)
   past false late None e false full =
-      fit (record { start = grind (arith, nat_tests); conflicts = none_firm (in_conflict (test_class p.test) (wanted p)) (yields p.priority m) rows e; place = grind (arith, nat_tests) })
+      fit (record { start = grind (arith, nat_tests); conflicts = none_firm (in_conflict p.key (test_class p.test) (wanted p)) (yields p.priority m) rows e; place = grind (arith, nat_tests) })
       (ap (λ b. cond b (Err (Past m p.start)) (unless_full (length rows) (preempted_by p m rows))) late ∙ ap (λ o. unless_full (length rows) (unless_firm o met)) e ∙ ap (λ b. cond b (Err (Full Runs (length rows))) (Ok (keys_of_rows met))) full)
 
   pub verdict : Verdict

@@ -39,7 +39,7 @@ wanted p = span_of p.start (test_length p.test)
 -- it isn't past, each booked row in conflict with it can be preempted, and there is a place for its row
 pub record Fits (m : ℕ) (rows : List RunRow) (p : Proposal) : Type 0 where
   pub start : m ≤ p.start
-  pub conflicts : All (λ r. IsTrue (in_conflict (test_class p.test) (wanted p) r) → IsTrue (yields p.priority m r)) rows
+  pub conflicts : All (λ r. IsTrue (in_conflict p.key (test_class p.test) (wanted p) r) → IsTrue (yields p.priority m r)) rows
   pub place : length rows < most_runs
 
 -- the booking that is asked for: its number is one more than the greatest of the host's bookings
@@ -57,7 +57,7 @@ pub record ExactBooking (c : Config) (m : ℕ) (rows : List RunRow) (p : Proposa
   -- it is booked exactly where it has a number and fits
   pub exact : IsBooked reply ↔ ((last_number c.number rows ≢ last_booking) × Fits m rows p)
   -- the answer names its key, and the rows that it preempts
-  pub named : (key : RunKey) (preempted : List RunKey) → reply ≡ BookedReply key preempted → (key ≡ p.key) × (preempted ≡ keys_of_rows (conflicts (test_class p.test) (wanted p) rows))
+  pub named : (key : RunKey) (preempted : List RunKey) → reply ≡ BookedReply key preempted → (key ≡ p.key) × (preempted ≡ keys_of_rows (conflicts p.key (test_class p.test) (wanted p) rows))
 
 -- each booking was answered exactly, over the stage before the answer, settled at the moment of the call
 abbrev pub FitAnswers : World → Type 0

@@ -1,6 +1,8 @@
-use Rattle.std.proofs.Common.{◌≡◌, sym, ap}
-use Rattle.run_states.specs.Rows.{Rows, IsPlaceOf}
+use Rattle.std.proofs.Common.{◌≡◌, All, sym, ap, subst}
+use Rattle.run_states.specs.LawfulRow.{IsLawfulRow}
+use Rattle.run_states.specs.Rows.{Rows, IsAscendingRows, IsPlaceOf}
 use Rattle.run_states.specs.Life.{marked_row}
+use Rattle.run_states.proofs.LawfulLemmas.{marked_all}
 use Rattle.run_states.proofs.Place.{marked_key, change_place, ascending_change, change_gap}
 use Rattle.run_states.proofs.rows.Rows.mark.Goals as goal
 
@@ -20,3 +22,14 @@ returns-in-Ok-clause-rows c =
 
 pub returns-in-Err-clause-rows : goal.returns-in-Err-clause-rows
 returns-in-Err-clause-rows c = sym (change_gap (marked_row c.args.step c.args.moment) _ _ _ c.in-Err.ensures.absent)
+
+-- and so each row keeps its rules
+pub returns-in-Ok-clause-lawful : goal.returns-in-Ok-clause-lawful
+returns-in-Ok-clause-lawful c = λ m earlier can lawful.
+    let up = subst IsAscendingRows (ap (λ (t : Rows). t.list) c.self.view_is) c.self.invariant in
+    subst (All (IsLawfulRow c.args.moment)) (sym (returns-in-Ok-clause-rows c)) (marked_all m c.args.moment earlier c.args.self.now.list lawful c.args.key up c.args.step can)
+
+pub returns-in-Err-clause-lawful : goal.returns-in-Err-clause-lawful
+returns-in-Err-clause-lawful c = λ m earlier can lawful.
+    let up = subst IsAscendingRows (ap (λ (t : Rows). t.list) c.self.view_is) c.self.invariant in
+    subst (All (IsLawfulRow c.args.moment)) (sym (returns-in-Err-clause-rows c)) (marked_all m c.args.moment earlier c.args.self.now.list lawful c.args.key up c.args.step can)
