@@ -38,3 +38,4 @@ gate-cost:
 
 bench: build
 	python3 bench/run.py build/psched
+	python3 bench/limits.py build/psched

@@ -1,5 +1,6 @@
+pub mod AdmitsLemmas
 pub mod BareLemmas
-pub mod CivilLemmas
+pub mod CeilingLemmas
 pub mod OpenLemmas
 pub mod ReadLemmas
 pub mod SignedLemmas

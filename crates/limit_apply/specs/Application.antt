@@ -8,10 +8,10 @@ use Rattle.plugin_core.specs.declared.test_spec.TestSpec.{TestSpec}
 use Rattle.limit_ident.specs.Identifier.{turned}
 use Rattle.limit_ident.specs.Require.{met}
 use Rattle.limit_ident.specs.declared.named.Named.{Named}
-use Rattle.limit_apply.specs.Limit.{limit_holds, is_run_rule}
+use Rattle.limit_rule.specs.Limit.{limit_holds, is_run_rule}
 use Rattle.limit_apply.specs.declared.application.Group.{Group}
 use Rattle.limit_apply.specs.declared.application.Application.{Application}
-use Rattle.limit_apply.specs.declared.limit.Limit.{Limit}
+use Rattle.limit_rule.specs.declared.limit.Limit.{Limit}
 
 -- the limit at a place is true; none stands past the end
 abbrev pub limit_at : List (Named Limit) → TestSpec → Option Span → ℕ → Bool

@@ -1,12 +1,6 @@
 pub mod Application
 pub mod Bare
-pub mod Bounds
-pub mod Civil
-pub mod Limit
 pub mod Limits
 pub mod Open
 pub mod Read
 pub mod ReadApplications
-pub mod ReadLimits
-pub mod ReadSchedule
-pub mod Schedule

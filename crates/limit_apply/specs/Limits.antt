@@ -1,5 +1,5 @@
 -- What a configuration of limits answers.
-use Rattle.std.specs.Prelude.{ℕ, ◌+◌, ℤ, int_lt, Bool, List, [], ◌∷◌, length, Option, Some, None, if◌then◌else◌}
+use Rattle.std.specs.Prelude.{ℕ, ◌+◌, ℤ, pos, negsuc, ◌≤ℤ◌, int_lt, Bool, List, [], ◌∷◌, length, All, Option, Some, None, if◌then◌else◌}
 use Rattle.std.specs.Option.{unwrap_or}
 use Rattle.ps_time.specs.Span.{Span}
 use Rattle.ps_time.specs.declared.asker.Asker.{Asker}
@@ -11,7 +11,7 @@ use Rattle.limit_ident.specs.declared.classifier.Classifier.{Classifier}
 use Rattle.limit_ident.specs.declared.identifier.Identifier.{Identifier}
 use Rattle.limit_ident.specs.declared.named.Named.{Named}
 use Rattle.limit_apply.specs.declared.application.Application.{Application}
-use Rattle.limit_apply.specs.declared.limit.Limit.{Limit}
+use Rattle.limit_rule.specs.declared.limit.Limit.{Limit}
 use Rattle.limit_apply.specs.declared.limits.Ceiling.{Ceiling}
 use Rattle.limit_apply.specs.declared.limits.Counts.{Counts}
 use Rattle.limit_apply.specs.declared.limits.Priorities.{Priorities}
@@ -60,25 +60,40 @@ verdict_at config asker test run = first_verdict (written_from config asker test
 abbrev pub greater : ℤ → ℤ → ℤ
 greater a b = if int_lt a b then b else a
 
-abbrev pub ceiling_from : Config → Asker → ℤ → List Ceiling → ℤ
-ceiling_from config asker greatest [] = greatest
-ceiling_from config asker greatest (c ∷ cs) =
-    ceiling_from config asker (if holds_at config asker c.classifier then greater greatest c.ceiling else greatest) cs
+-- the greatest of a number and of those of a list
+abbrev pub greatest : ℤ → List ℤ → ℤ
+greatest z [] = z
+greatest z (y ∷ ys) = greatest (greater z y) ys
+
+-- the ceilings whose classifier holds
+abbrev pub held_ceilings : Config → Asker → List Ceiling → List ℤ
+held_ceilings config asker [] = []
+held_ceilings config asker (c ∷ cs) =
+    if holds_at config asker c.classifier then c.ceiling ∷ held_ceilings config asker cs else held_ceilings config asker cs
 
 -- the greatest of the default and of the ceilings of classifiers that hold
 abbrev pub ceiling_of : Config → Asker → ℤ
-ceiling_of config asker = ceiling_from config asker config.priorities.default config.priorities.ceilings
+ceiling_of config asker = greatest config.priorities.default (held_ceilings config asker config.priorities.ceilings)
+
+abbrev pub IsPriority : ℤ → Type 0
+IsPriority z = (negsuc 999 ≤ℤ z) × (z ≤ℤ pos 1_000)
+
+-- the default and each ceiling lie from -1000 to 1000
+pub record AreBounded (priorities : Priorities) : Type 0 where
+  pub default : IsPriority priorities.default
+  pub ceilings : All (λ c. IsPriority c.ceiling) priorities.ceilings
 
 -- ---- the answers
 
+-- what is permitted is so up to the asker's ceiling
+abbrev pub below_ceiling : Config → Asker → ℤ → Verdict → Verdict
+below_ceiling config asker priority (Permitted index) = if int_lt (ceiling_of config asker) priority then AboveCeiling (ceiling_of config asker) else Permitted index
+below_ceiling config asker priority (Stopped index) = Stopped index
+below_ceiling config asker priority Exhausted = Exhausted
+below_ceiling config asker priority (AboveCeiling ceiling) = AboveCeiling ceiling
+
 abbrev pub permits_of : Config → Asker → TestSpec → Span → ℤ → Verdict
-permits_of config asker test span priority = below (verdict_at config asker test (Some span))
-  where
-    below : Verdict → Verdict
-    below (Permitted index) = if int_lt (ceiling_of config asker) priority then AboveCeiling (ceiling_of config asker) else Permitted index
-    below (Stopped index) = Stopped index
-    below Exhausted = Exhausted
-    below (AboveCeiling ceiling) = AboveCeiling ceiling
+permits_of config asker test span priority = below_ceiling config asker priority (verdict_at config asker test (Some span))
 
 abbrev pub admits_of : Config → Asker → TestSpec → Verdict
 admits_of config asker test = verdict_at config asker test None

@@ -7,8 +7,8 @@ use Rattle.limit_ident.specs.declared.named.Named.{Named}
 use Rattle.limit_ident.specs.declared.require.Require.TheVariants.{All, Any}
 use Rattle.limit_apply.specs.Limits.{Config}
 use Rattle.limit_apply.specs.declared.application.Application.{Application}
-use Rattle.limit_apply.specs.declared.limit.Limit.{Limit}
-use Rattle.limit_apply.specs.declared.limit.Rule.TheVariants.{PassFail}
+use Rattle.limit_rule.specs.declared.limit.Limit.{Limit}
+use Rattle.limit_rule.specs.declared.limit.Rule.TheVariants.{PassFail}
 
 abbrev pub open_identifiers : List (Named Identifier)
 open_identifiers = record { name = codes "everybody"; value = record { condition = Always; invert = false } } ∷ []

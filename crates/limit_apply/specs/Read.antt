@@ -1,33 +1,29 @@
 -- Which configuration of limits a JSON tree is.
-use Rattle.std.specs.Prelude.{◌≡◌, ℕ, ◌&&◌, ◌<◌, ◌^◌, pos, negsuc, int_le, List, length, Result, Ok, Err, ⊤, if◌then◌else◌, codes}
+use Rattle.std.specs.Prelude.{◌≡◌, ℕ, ◌<◌, ◌^◌, pos, List, length, Option, Some, None, Result, Ok, Err, ⊤, bytes_eq, if◌then◌else◌, codes}
 use Rattle.serde_json.specs.Data.{Data, Members}
 use Rattle.serde_json.specs.Find.{get_member}
 use Rattle.ps_json.specs.Answer.{then_with}
 use Rattle.ps_json.specs.Fields.{without_member}
-use Rattle.ps_json.specs.Kinds.{integer_of}
 use Rattle.limit_ident.specs.Fault.{in_json, wrapped}
 use Rattle.ps_json.specs.Member.{required, optional, member_then}
-use Rattle.limit_ident.specs.Member.{object_in, described}
+use Rattle.limit_ident.specs.Member.{object_in, whole_in, described}
 use Rattle.limit_ident.specs.ReadClassifiers.{classifiers_of}
 use Rattle.limit_ident.specs.ReadIdentifiers.{identifiers_of}
 use Rattle.limit_ident.specs.declared.classifier.Classifier.{Classifier}
 use Rattle.limit_ident.specs.declared.fault.LimitFault.{LimitFault}
-use Rattle.limit_ident.specs.declared.fault.LimitFault.TheVariants.{BadRange}
 use Rattle.limit_ident.specs.declared.identifier.Identifier.{Identifier}
 use Rattle.limit_ident.specs.declared.named.Named.{Named}
 use Rattle.ps_json.specs.Tree.{tree_of}
 use Rattle.limit_apply.specs.Bare.{bare, bare_text}
-use Rattle.limit_apply.specs.Limits.{Config}
+use Rattle.limit_apply.specs.Limits.{Config, AreBounded}
 use Rattle.limit_apply.specs.ReadApplications.{applications_in, priorities_of}
-use Rattle.limit_apply.specs.ReadLimits.{limits_in}
+use Rattle.limit_rule.specs.ReadLimits.{limits_in}
 use Rattle.limit_apply.specs.declared.limits.Priorities.{Priorities}
 use Rattle.limit_apply.specs.declared.read.Lists.{Lists}
 
 -- a whole number from 1 to 5, which means nothing
 abbrev pub schema_in : List ℕ → Data → Result ⊤ LimitFault
-schema_in name d =
-    then_with (in_json (integer_of name (negsuc 9_223_372_036_854_775_807) (pos 9_223_372_036_854_775_807) d)) (λ z.
-    if int_le (pos 1) z && int_le z (pos 5) then Ok tt else Err (BadRange name))
+schema_in name d = then_with (whole_in name (pos 1) (pos 5) name d) (λ _. Ok tt)
 
 abbrev pub schema_of : Members → Result ⊤ LimitFault
 schema_of ms = optional tt schema_in (codes "schema") ms
@@ -90,10 +86,26 @@ config_of d = then_with (parts_of (bare d)) (λ parts. Ok (config parts.0 parts.
 unfoldable pub config_in : List ℕ → Result Config LimitFault
 config_in text = then_with (in_json (tree_of text)) config_of
 
--- places and counts of entries fit 32 bits, and the text is read again as the same configuration
+-- places and counts of entries fit 32 bits, priorities are bounded, and the text is read again as the same configuration
 pub record IsKept (config : Config) : Type 0 where
   pub identifiers : length config.identifiers < 2 ^ 32
   pub classifiers : length config.classifiers < 2 ^ 32
   pub limits : length config.limits < 2 ^ 32
   pub applications : length config.applications < 2 ^ 32
+  pub priorities : AreBounded config.priorities
   pub again : config_in config.text ≡ Ok config
+
+-- what was read, where this is its own text
+abbrev pub of_own : List ℕ → Result Config LimitFault → Option Config
+of_own text (Err fault) = None
+of_own text (Ok config) = if bytes_eq config.text text then Some config else None
+
+-- the configuration that has exactly this text, if one has
+abbrev pub own_config : List ℕ → Option Config
+own_config text = of_own text (config_in text)
+
+-- some configuration has exactly this text
+pub record IsLimitsText (text : List ℕ) : Type 0 where
+  pub config : Config
+  pub reads : config_in text ≡ Ok config
+  pub same : config.text ≡ text

@@ -1,22 +1,21 @@
 -- Which applications and priorities a JSON tree is.
-use Rattle.std.specs.Prelude.{ℕ, ◌&&◌, ℤ, pos, negsuc, int_le, List, [], ◌∷◌, ◌++◌, Option, Some, None, Result, Ok, Err, if◌then◌else◌, false, codes}
+use Rattle.std.specs.Prelude.{ℕ, ℤ, pos, negsuc, List, [], Option, Some, None, Result, Ok, false, codes}
 use Rattle.serde_json.specs.Data.{Data, Members}
 use Rattle.ps_json.specs.Each.{read_each}
 use Rattle.ps_json.specs.Answer.{then_with}
 use Rattle.ps_json.specs.Fields.{without_member}
-use Rattle.ps_json.specs.Kinds.{integer_of, list_of}
+use Rattle.ps_json.specs.Kinds.{list_of}
 use Rattle.limit_ident.specs.Fault.{in_json, wrapped}
 use Rattle.ps_json.specs.Member.{required, optional, member_then}
-use Rattle.limit_ident.specs.Member.{flag_in, object_in, some_in, described}
+use Rattle.limit_ident.specs.Member.{flag_in, object_in, some_in, whole_in, described}
 use Rattle.limit_ident.specs.Named.{place_in}
 use Rattle.limit_ident.specs.ReadClassifiers.{require_in, places_in}
 use Rattle.limit_ident.specs.declared.classifier.Classifier.{Classifier}
 use Rattle.limit_ident.specs.declared.fault.LimitFault.{LimitFault}
-use Rattle.limit_ident.specs.declared.fault.LimitFault.TheVariants.{BadRange}
 use Rattle.limit_ident.specs.declared.named.Named.{Named}
 use Rattle.limit_apply.specs.declared.application.Application.{Application}
 use Rattle.limit_apply.specs.declared.application.Group.{Group}
-use Rattle.limit_apply.specs.declared.limit.Limit.{Limit}
+use Rattle.limit_rule.specs.declared.limit.Limit.{Limit}
 use Rattle.limit_apply.specs.declared.limits.Ceiling.{Ceiling}
 use Rattle.limit_apply.specs.declared.limits.Priorities.{Priorities}
 
@@ -57,9 +56,7 @@ applications_in cs ls name d = then_with (some_in name d) (read_each (applicatio
 
 -- a whole number from -1000 to 1000
 abbrev pub ceiling_in : List ℕ → Data → Result ℤ LimitFault
-ceiling_in name d =
-    then_with (in_json (integer_of name (negsuc 9_223_372_036_854_775_807) (pos 9_223_372_036_854_775_807) d)) (λ z.
-    if int_le (negsuc 999) z && int_le z (pos 1_000) then Ok z else Err (BadRange name))
+ceiling_in name d = whole_in name (negsuc 999) (pos 1_000) name d
 
 abbrev pub ceiling_of : List (Named Classifier) → Members → Result Ceiling LimitFault
 ceiling_of cs ms =

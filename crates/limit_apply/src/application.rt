@@ -4,9 +4,9 @@ ghost use Rattle.std.specs.List.{list_any, list_all};
 ghost use Rattle.limit_ident.specs.Require.{walked};
 ghost use Rattle.limit_apply.specs.Application.{limit_at, run_limit_at, group_passes, cites_run, passes, decided};
 
-use crate::limit::Limit;
 use limit_ident::named::{Named, copy_places};
 use limit_ident::require::Require;
+use limit_rule::limit::Limit;
 use plugin_core::test_spec::TestSpec;
 use ps_time::asker::Verdict;
 use ps_time::duplicate::Duplicate;

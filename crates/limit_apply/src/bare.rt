@@ -1,9 +1,10 @@
 //! Trees without their comments.
-ghost use Rattle.std.specs.Prelude.{◌≡◌, IfOk, OnOk, Ok};
+ghost use Rattle.std.specs.Prelude.{◌≡◌, IfOk, IfSome, OnOk, Ok};
 ghost use Rattle.serde_json.specs.View.{view, items_view, members_view};
+ghost use Rattle.serde_json.specs.Written.{compact_text};
 ghost use Rattle.ps_json.specs.Fields.{is_comment};
 ghost use Rattle.ps_json.specs.Tree.{tree_of};
-ghost use Rattle.limit_apply.specs.Bare.{bare, bare_items, bare_members, with_plain, bare_text};
+ghost use Rattle.limit_apply.specs.Bare.{bare, bare_items, bare_members, with_plain};
 
 use ps_json::fields::is_comment;
 use ps_json::shape::{is_deeper, is_whole};
@@ -67,15 +68,14 @@ fn put_plain(
     Ok(())
 }
 
-/// The compact text of the tree without its comments. One that is then deeper than 64 levels, or has a number
-/// that isn't whole, is answered as want of memory: no configuration is such a tree.
-pub fn write_bare(alloc: Global, value: &Value) -> Result<Text, Memory>
-    ensures text { IfOk result (λ text. text ≡ bare_text (view value.now)) }
-    ensures reads { IfOk result (λ text. tree_of text ≡ Ok (bare (view value.now))) }
+/// The compact text of a tree whose numbers are whole and which isn't deeper than a tree may be. It is read
+/// again as the tree.
+pub fn plain_text(alloc: Global, value: &Value) -> Result<Option<Text>, Memory>
+    ensures text { IfOk result (λ o. IfSome o (λ text. text ≡ compact_text (view value.now))) }
+    ensures reads { IfOk result (λ o. IfSome o (λ text. tree_of text ≡ Ok (view value.now))) }
 {
-    let value = copy_bare(alloc, value)?;
-    if !is_whole(&value) || is_deeper(&value, MAX_DEPTH) {
-        return Err(Memory);
+    if !is_whole(value) || is_deeper(value, MAX_DEPTH) {
+        return Ok(None);
     }
-    write_text(alloc, &value)
+    Ok(Some(write_text(alloc, value)?))
 }

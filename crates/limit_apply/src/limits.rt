@@ -1,13 +1,13 @@
 //! A configuration of limits, and what it answers.
-ghost use Rattle.std.specs.Prelude.{◌≡◌, IfOk, Ok};
-ghost use Rattle.limit_apply.specs.Limits.{verdict_at, permits_of, admits_of, ceiling_of, holds_at, counts_of};
-ghost use Rattle.limit_apply.specs.Read.{config_in};
+ghost use Rattle.std.specs.Prelude.{◌≡◌, ◌≢◌, ℤ, IfOk, Ok};
+ghost use Rattle.limit_apply.specs.Limits.{Config, verdict_at, permits_of, below_ceiling, admits_of, ceiling_of, IsPriority, holds_at, counts_of};
+ghost use Rattle.limit_apply.specs.Read.{config_in, IsKept};
 
 use crate::application::Application;
-use crate::limit::Limit;
 use limit_ident::classifier::Classifiers;
 use limit_ident::identifier::Identifiers;
 use limit_ident::named::Named;
+use limit_rule::limit::Limit;
 use plugin_core::test_spec::TestSpec;
 use ps_time::asker::{Asker, Verdict};
 use ps_time::duplicate::Duplicate;
@@ -111,9 +111,7 @@ impl Limits {
         place < self.classifiers.len() && self.classifiers.holds(place, &self.identifiers, asker)
     }
 
-    /// The greatest priority that the asker may have: the greatest of the default and of those of
-    /// classifiers that hold.
-    pub fn ceiling(&self, asker: &Asker) -> i16
+    fn greatest_ceiling(&self, asker: &Asker) -> i16
         ensures { result ≡ ceiling_of self.now asker.now }
     {
         let mut greatest = self.priorities.default;
@@ -123,6 +121,16 @@ impl Limits {
             }
         }
         greatest
+    }
+
+    /// The greatest priority that the asker may have: the greatest of the default and of those of
+    /// classifiers that hold.
+    pub fn ceiling(&self, asker: &Asker) -> i16
+        ensures value { result ≡ ceiling_of self.now asker.now }
+        ensures within { IsPriority result }
+    {
+        let _ = &self.priorities;
+        self.greatest_ceiling(asker)
     }
 
     /// What the first application decides that takes part and decides anything.
@@ -145,6 +153,17 @@ impl Limits {
         Verdict::Exhausted
     }
 
+    /// What is said where the application at this place permits.
+    fn below_ceiling(&self, asker: &Asker, place: u32, priority: i16) -> Verdict
+        ensures { result ≡ below_ceiling self.now asker.now priority (Verdict.Permitted place) }
+    {
+        let ceiling = self.ceiling(asker);
+        if priority > ceiling {
+            return Verdict::AboveCeiling(ceiling);
+        }
+        Verdict::Permitted(place)
+    }
+
     /// What the limits say of a run of the test at this priority.
     pub fn permits(
         &self,
@@ -155,19 +174,24 @@ impl Limits {
     ) -> Verdict
         ensures { result ≡ permits_of self.now asker.now test.now interval.now priority }
     {
-        let verdict = self.walk(asker, test, &Some(*interval));
-        let ceiling = self.ceiling(asker);
-        match verdict {
-            Verdict::Permitted(_) if priority > ceiling => Verdict::AboveCeiling(ceiling),
-            _ => verdict,
+        match self.walk(asker, test, &Some(*interval)) {
+            Verdict::Permitted(place) => self.below_ceiling(asker, place, priority),
+            verdict => verdict,
         }
+    }
+
+    fn walk_without_run(&self, asker: &Asker, test: &TestSpec) -> Verdict
+        ensures { result ≡ admits_of self.now asker.now test.now }
+    {
+        self.walk(asker, test, &None)
     }
 
     /// What they say of the test before there is a run.
     pub fn admits(&self, asker: &Asker, test: &TestSpec) -> Verdict
-        ensures { result ≡ admits_of self.now asker.now test.now }
+        ensures value { result ≡ admits_of self.now asker.now test.now }
+        ensures never { (ceiling : ℤ) → result ≢ Verdict.AboveCeiling ceiling }
     {
-        self.walk(asker, test, &None)
+        self.walk_without_run(asker, test)
     }
 
     /// The compact text of the configuration without its comments. Two configurations of the same text are the
@@ -210,3 +234,8 @@ impl Limits {
         Ok((priorities, self.text.copy(alloc)?))
     }
 }
+
+/// A law: the ceiling of every kept configuration is a priority.
+pub fn law_ceiling()
+    ensures { (config : Config) (asker : Asker) → IsKept config → IsPriority (ceiling_of config asker) }
+{}

@@ -1,28 +1,30 @@
 //! The reader of configurations.
-ghost use Rattle.std.specs.Prelude.{◌≡◌, ◌<◌, ◌^◌, ◌↔◌, IsTrue, Ok, codes, OnOk};
+ghost use Rattle.std.specs.Prelude.{◌≡◌, ◌<◌, ◌^◌, ◌↔◌, ℕ, List, IsTrue, Ok, Some, codes, IfOk, OnOk};
 ghost use Rattle.serde_json.specs.View.{view};
 ghost use Rattle.ps_json.specs.Answer.{GivesUnless};
 ghost use Rattle.ps_json.specs.Fields.{without_member};
 ghost use Rattle.ps_json.specs.Member.{required};
 ghost use Rattle.limit_ident.specs.Fault.{wrapped};
+ghost use Rattle.limit_apply.specs.Limits.{Config, AreBounded};
 ghost use Rattle.limit_apply.specs.ReadApplications.{applications_in};
-ghost use Rattle.limit_apply.specs.ReadLimits.{limits_in};
-ghost use Rattle.limit_apply.specs.Read.{schema_in, schema_of, identifiers_in, classifiers_in, lists_of, after_lists, AreCounted, parts_of, config, ended_priorities, config_of, config_in};
+ghost use Rattle.limit_rule.specs.ReadLimits.{limits_in};
+ghost use Rattle.limit_apply.specs.Read.{schema_in, schema_of, identifiers_in, classifiers_in, lists_of, after_lists, AreCounted, parts_of, config, ended_priorities, config_of, config_in, of_own, own_config, IsKept, IsLimitsText};
 
 use crate::application::Application;
-use crate::bare::{copy_bare, write_bare};
-use crate::limit::Limit;
+use crate::bare::{copy_bare, plain_text};
 use crate::limits::{Limits, Priorities};
 use crate::read_applications::{read_applications, read_priorities};
-use crate::read_limits::read_limits;
 use limit_ident::classifier::{Classifier, Classifiers};
 use limit_ident::fault::LimitFault;
 use limit_ident::identifier::Identifiers;
-use limit_ident::member::end_described;
+use limit_ident::member::{end_described, read_whole};
 use limit_ident::named::Named;
+use limit_rule::limit::Limit;
+use limit_rule::read_limits::read_limits;
 use ps_json::fields::Fields;
-use ps_json::kinds::read_integer;
+use ps_json::tree::read_tree;
 use ps_time::items::Items;
+use ps_time::memory::Memory;
 use ps_time::text::Text;
 use serde_json::Value;
 use std::alloc::Global;
@@ -50,10 +52,7 @@ impl Drop for Lists {
 fn read_schema(alloc: Global, value: Value) -> Result<(), LimitFault>
     ensures { GivesUnless LimitFault.Memory result (schema_in (codes "schema") (view value)) }
 {
-    let schema = read_integer(alloc, value, "schema", i64::MIN, i64::MAX)?;
-    if schema < 1 || schema > 5 {
-        return Err(LimitFault::bad_range(alloc, "schema"));
-    }
+    read_whole(alloc, value, "schema", "schema", 1, 5)?;
     Ok(())
 }
 
@@ -144,7 +143,8 @@ impl Lists {
 
     /// The configuration. A list of 2^32 entries or more is answered as want of memory.
     fn counted(self, priorities: Priorities, text: Text) -> Result<Limits, LimitFault>
-        requires { config_in text ≡ Ok (config self priorities text) }
+        requires bounds { AreBounded priorities }
+        requires again { config_in text ≡ Ok (config self priorities text) }
         ensures { GivesUnless LimitFault.Memory result (Ok (config self priorities text)) }
     {
         if !self.fit() {
@@ -173,7 +173,8 @@ fn take_priorities(
     mut fields: Fields,
     classifiers: &[Named<Classifier>],
 ) -> Result<Priorities, LimitFault>
-    ensures { GivesUnless LimitFault.Memory result (ended_priorities classifiers.now fields) }
+    ensures value { GivesUnless LimitFault.Memory result (ended_priorities classifiers.now fields) }
+    ensures bounds { IfOk result AreBounded }
 {
     let priorities = read_priorities(alloc, fields.take("priorities"), classifiers)?;
     end_described(alloc, fields)?;
@@ -183,7 +184,8 @@ fn take_priorities(
 /// The entries and priorities of a tree.
 #[tactic(auto, unfolding(crate::specs::Read::parts_of))]
 fn read_parts(alloc: Global, value: Value) -> Result<(Lists, Priorities), LimitFault>
-    ensures { GivesUnless LimitFault.Memory result (parts_of (view value)) }
+    ensures value { GivesUnless LimitFault.Memory result (parts_of (view value)) }
+    ensures bounds { IfOk result (λ parts. AreBounded parts.1) }
 {
     let mut fields = Fields::open(alloc, value, "limits")?;
     take_schema(alloc, &mut fields)?;
@@ -199,8 +201,62 @@ impl Limits {
     pub fn read(alloc: Global, value: Value) -> Result<Limits, LimitFault>
         ensures { GivesUnless LimitFault.Memory result (config_of (view value)) }
     {
-        let (lists, priorities) = read_parts(alloc, copy_bare(alloc, &value)?)?;
-        let text = write_bare(alloc, &value)?;
+        let value = copy_bare(alloc, &value)?;
+        let text = plain_text(alloc, &value)?;
+        let (lists, priorities) = read_parts(alloc, value)?;
+        let Some(text) = text else {
+            return Err(LimitFault::Memory);
+        };
         lists.counted(priorities, text)
     }
+
+    /// The configuration that a JSON text is, or the first refusal.
+    #[tactic(auto, unfolding(crate::specs::Read::config_in))]
+    pub fn from_text(alloc: Global, bytes: &[u8]) -> Result<Limits, LimitFault>
+        ensures { GivesUnless LimitFault.Memory result (config_in bytes.now) }
+    {
+        let value = read_tree(alloc, bytes)?;
+        Limits::read(alloc, value)
+    }
+
+    /// The configuration that has exactly this text, if one has.
+    pub fn from_own_text(alloc: Global, text: &str) -> Result<Option<Limits>, Memory>
+        ensures { IfOk result (λ found. found ≡ own_config text.now) }
+    {
+        match Limits::from_text(alloc, text.as_bytes()) {
+            Ok(limits) => Ok(limits.of_own(text)),
+            Err(LimitFault::Memory) => Err(Memory),
+            Err(_) => Ok(None),
+        }
+    }
+
+    /// The configuration of a text that is one's own. So only memory may be wanting.
+    pub fn read_kept(alloc: Global, text: &str) -> Result<Limits, Memory>
+        requires { IsLimitsText text.now }
+        ensures { IfOk result (λ config. config_in text.now ≡ Ok config) }
+    {
+        match Limits::from_text(alloc, text.as_bytes()) {
+            Ok(limits) => Ok(limits),
+            Err(_) => Err(Memory),
+        }
+    }
+
+    /// The same, where this is its own text.
+    fn of_own(self, text: &str) -> Option<Limits>
+        ensures { result ≡ of_own text.now (Ok self) }
+    {
+        if self.text.as_str() == text {
+            Some(self)
+        } else {
+            None
+        }
+    }
 }
+
+/// Laws: the texts that are a configuration's own are those of which `from_own_text` gives it, and each kept
+/// configuration's text is its own.
+pub fn law_own_texts()
+    ensures sound { (text : List ℕ) (config : Config) → own_config text ≡ Some config → (config_in text ≡ Ok config) × (config.text ≡ text) }
+    ensures complete { (text : List ℕ) (own : IsLimitsText text) → own_config text ≡ Some own.config }
+    ensures kept { (config : Config) → IsKept config → IsLimitsText config.text }
+{}

@@ -1,5 +1,5 @@
 //! The reader of applications and priorities.
-ghost use Rattle.std.specs.Prelude.{◌≡◌, ◌≤ℤ◌, pos, negsuc, [], map, option_map, codes, IfOk, OnOk};
+ghost use Rattle.std.specs.Prelude.{◌≡◌, [], map, option_map, codes, All, IfOk, OnOk};
 ghost use Rattle.serde_json.specs.View.{view};
 ghost use Rattle.ps_json.specs.Each.{read_each};
 ghost use Rattle.ps_json.specs.Answer.{GivesUnless};
@@ -8,19 +8,20 @@ ghost use Rattle.ps_json.specs.Member.{required};
 ghost use Rattle.limit_ident.specs.Fault.{wrapped};
 ghost use Rattle.limit_ident.specs.ReadClassifiers.{require_in, places_in};
 ghost use Rattle.limit_ident.specs.Named.{place_in};
+ghost use Rattle.limit_apply.specs.Limits.{IsPriority, AreBounded};
 ghost use Rattle.limit_apply.specs.ReadApplications.{group_of, apply_in, told_of, after_told, application_of, applications_in, ceiling_in, ceiling_of, entry_of, default_of, ceilings_of, priorities_of};
 
 use crate::application::{Application, Group};
-use crate::limit::Limit;
 use crate::limits::{Ceiling, Priorities};
 use limit_ident::classifier::{Classifier, Classifiers};
 use limit_ident::fault::LimitFault;
-use limit_ident::member::{end_described, read_some, take_flag};
+use limit_ident::member::{end_described, read_some, read_whole, take_flag};
 use limit_ident::named::{Named, read_place};
 use limit_ident::read_classifiers::{read_places, read_require};
 use limit_ident::require::Require;
+use limit_rule::limit::Limit;
 use ps_json::fields::Fields;
-use ps_json::kinds::{read_integer, read_list};
+use ps_json::kinds::read_list;
 use ps_time::items::Items;
 use serde_json::Value;
 use std::alloc::Global;
@@ -168,18 +169,15 @@ pub(crate) fn read_applications(
 
 fn read_ceiling(alloc: Global, value: Value, name: &str) -> Result<i16, LimitFault>
     ensures value { GivesUnless LimitFault.Memory result (ceiling_in name.now (view value)) }
-    ensures bound { IfOk result (λ z. (negsuc 999 ≤ℤ z) × (z ≤ℤ pos 1_000)) }
+    ensures bound { IfOk result IsPriority }
 {
-    let ceiling = read_integer(alloc, value, name, i64::MIN, i64::MAX)?;
-    if ceiling < -1_000 || ceiling > 1_000 {
-        return Err(LimitFault::bad_range(alloc, name));
-    }
+    let ceiling = read_whole(alloc, value, name, name, -1_000, 1_000)?;
     Ok(ceiling as i16)
 }
 
 fn need_ceiling(alloc: Global, fields: &mut Fields) -> Result<i16, LimitFault>
     ensures value { GivesUnless LimitFault.Memory result (required wrapped ceiling_in (codes "ceiling") fields.old) }
-    ensures bound { IfOk result (λ z. (negsuc 999 ≤ℤ z) × (z ≤ℤ pos 1_000)) }
+    ensures bound { IfOk result IsPriority }
     ensures rest { fields.new ≡ without_member (codes "ceiling") fields.old }
 {
     let value = fields.need(alloc, "ceiling")?;
@@ -194,6 +192,7 @@ fn take_entry(
     classifiers: &[Named<Classifier>],
 ) -> Result<Ceiling, LimitFault>
     ensures value { GivesUnless LimitFault.Memory result (ceiling_of classifiers.now fields.old) }
+    ensures bound { IfOk result (λ c. IsPriority c.ceiling) }
     ensures rest { OnOk result (fields.new ≡ without_member (codes "ceiling") (without_member (codes "classifier") fields.old)) }
 {
     let classifier = need_classifier(alloc, fields, classifiers)?;
@@ -209,7 +208,8 @@ fn read_entry(
     value: Value,
     classifiers: &[Named<Classifier>],
 ) -> Result<Ceiling, LimitFault>
-    ensures { GivesUnless LimitFault.Memory result (entry_of classifiers.now (view value)) }
+    ensures value { GivesUnless LimitFault.Memory result (entry_of classifiers.now (view value)) }
+    ensures bound { IfOk result (λ c. IsPriority c.ceiling) }
 {
     let mut fields = Fields::open(alloc, value, "classifiers")?;
     let entry = take_entry(alloc, &mut fields, classifiers)?;
@@ -222,7 +222,8 @@ fn read_ceilings(
     values: Vec<Value>,
     classifiers: &[Named<Classifier>],
 ) -> Result<Items<Ceiling>, LimitFault>
-    ensures { GivesUnless LimitFault.Memory result (read_each (entry_of classifiers.now) (map view values.items)) }
+    ensures value { GivesUnless LimitFault.Memory result (read_each (entry_of classifiers.now) (map view values.items)) }
+    ensures bounds { IfOk result (λ cs. All (λ c. IsPriority c.ceiling) cs) }
 {
     let mut entries = Items::new(alloc);
     for value in values {
@@ -233,7 +234,7 @@ fn read_ceilings(
 
 fn take_default(alloc: Global, fields: &mut Fields) -> Result<i16, LimitFault>
     ensures value { GivesUnless LimitFault.Memory result (default_of fields.old) }
-    ensures bound { IfOk result (λ z. (negsuc 999 ≤ℤ z) × (z ≤ℤ pos 1_000)) }
+    ensures bound { IfOk result IsPriority }
     ensures rest { fields.new ≡ without_member (codes "default") fields.old }
 {
     match fields.take("default") {
@@ -248,6 +249,7 @@ fn take_ceilings(
     classifiers: &[Named<Classifier>],
 ) -> Result<Items<Ceiling>, LimitFault>
     ensures value { GivesUnless LimitFault.Memory result (ceilings_of classifiers.now fields.old) }
+    ensures bounds { IfOk result (λ cs. All (λ c. IsPriority c.ceiling) cs) }
     ensures rest { fields.new ≡ without_member (codes "classifiers") fields.old }
 {
     match fields.take("classifiers") {
@@ -266,7 +268,8 @@ pub(crate) fn read_priorities(
     value: Option<Value>,
     classifiers: &[Named<Classifier>],
 ) -> Result<Priorities, LimitFault>
-    ensures { GivesUnless LimitFault.Memory result (priorities_of classifiers.now (option_map view value)) }
+    ensures value { GivesUnless LimitFault.Memory result (priorities_of classifiers.now (option_map view value)) }
+    ensures bounds { IfOk result AreBounded }
 {
     let Some(value) = value else {
         return Ok(Priorities {

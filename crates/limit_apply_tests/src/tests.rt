@@ -1,14 +1,11 @@
 //! The tables of docs/specification/limits.md, worked out by hand.
 mod faults;
-mod held;
 mod texts;
-mod times;
 mod verdicts;
 
 use limit_apply::limits::Limits;
 use limit_ident::fault::LimitFault;
 use plugin_core::test_spec::TestSpec;
-use ps_json::tree::read_tree;
 use ps_time::asker::{Asker, Verdict};
 use ps_time::interval::Interval;
 use ps_time::memory::Memory;
@@ -16,7 +13,7 @@ use ps_time::text::Text;
 use std::alloc::{AllocError, Global};
 
 fn read(alloc: Global, text: &str) -> Result<Limits, LimitFault> {
-    Limits::read(alloc, read_tree(alloc, text.as_bytes())?)
+    Limits::from_text(alloc, text.as_bytes())
 }
 
 fn asker(alloc: Global, requester: &str) -> Result<Asker, Memory> {
@@ -42,13 +39,6 @@ fn permits(limits: &Limits, asker: Asker, test: TestSpec, run: Interval, priorit
 /// What is said before there is a run.
 fn admits(limits: &Limits, asker: Asker, test: TestSpec) -> Verdict {
     limits.admits(&asker, &test)
-}
-
-fn letter(verdict: Verdict) -> &'static str {
-    match verdict {
-        Verdict::Permitted(_) => "y",
-        _ => "n",
-    }
 }
 
 fn told(alloc: Global, verdict: Verdict) -> Result<String, AllocError> {

@@ -72,7 +72,7 @@ impl Classifier {
 }
 
 impl Classifiers {
-    pub fn from_items(list: Items<Named<Classifier>>) -> Classifiers
+    pub(crate) fn from_items(list: Items<Named<Classifier>>) -> Classifiers
         ensures { result ≡ list }
     {
         Classifiers { list }

@@ -179,7 +179,7 @@ impl Identifier {
 }
 
 impl Identifiers {
-    pub fn from_items(list: Items<Named<Identifier>>) -> Identifiers
+    pub(crate) fn from_items(list: Items<Named<Identifier>>) -> Identifiers
         ensures { result ≡ list }
     {
         Identifiers { list }

@@ -1,13 +1,14 @@
 //! Members that many entries of a configuration have.
-ghost use Rattle.std.specs.Prelude.{◌≡◌, map, false, codes};
+ghost use Rattle.std.specs.Prelude.{◌≡◌, ◌≤ℤ◌, IfOk, map, false, codes};
 ghost use Rattle.serde_json.specs.View.{view};
 ghost use Rattle.ps_json.specs.Answer.{GivesUnless, seen_as};
 ghost use Rattle.ps_json.specs.Fields.{without_member};
 ghost use Rattle.ps_json.specs.Member.{required, optional};
-ghost use Rattle.limit_ident.specs.Member.{text_in, flag_in, some_in, described};
+ghost use Rattle.limit_ident.specs.Member.{text_in, flag_in, some_in, whole_in, described};
 ghost use Rattle.limit_ident.specs.Fault.{wrapped};
 
 use crate::fault::LimitFault;
+use ps_json::fault::JsonFault;
 use ps_json::fields::Fields;
 use ps_json::kinds::{read_boolean, read_list, read_text};
 use ps_time::text::Text;
@@ -23,6 +24,29 @@ pub fn read_some(alloc: Global, value: Value, name: &str) -> Result<Vec<Value>, 
         return Err(LimitFault::empty(alloc, name));
     }
     Ok(items)
+}
+
+/// A whole number from `least` to `most`, the member `name`. One out of these bounds is refused as of `place`.
+pub fn read_whole(
+    alloc: Global,
+    value: Value,
+    place: &str,
+    name: &str,
+    least: i64,
+    most: i64,
+) -> Result<i64, LimitFault>
+    ensures value { GivesUnless LimitFault.Memory result (whole_in place.now least most name.now (view value)) }
+    ensures within { IfOk result (λ z. (least ≤ℤ z) × (z ≤ℤ most)) }
+{
+    let signed = value.as_i64();
+    let is_unsigned = value.is_u64();
+    drop(value);
+    match signed {
+        Some(number) if least <= number && number <= most => Ok(number),
+        Some(_) => Err(LimitFault::bad_range(alloc, place)),
+        None if is_unsigned => Err(LimitFault::bad_range(alloc, place)),
+        None => Err(JsonFault::wrong_kind(alloc, name).into()),
+    }
 }
 
 /// A text that has to be there.

@@ -10,7 +10,8 @@ use Rattle.psched_rehearse.specs.declared.script.ScriptFault.{ScriptFault}
 use Rattle.psched_rehearse.specs.Refusal.{fault_text}
 use Rattle.psched_rehearse.specs.Rehearsal.{report_of}
 use Rattle.psched_rehearse.specs.Script.{script_of}
-use Rattle.psched_top.specs.Limits.{limits_of, refusal_text, valid_text}
+use Rattle.limit_apply.specs.Read.{config_in}
+use Rattle.psched_top.specs.Limits.{refusal_text, valid_text}
 use Rattle.psched_top.specs.declared.command.Command.{Command}
 use Rattle.psched_top.specs.declared.command.Command.TheVariants.{Rehearse, ValidateLimits, Help, Version as VersionWord}
 use Rattle.psched_top.specs.declared.outcome.Outcome.{Outcome}
@@ -69,4 +70,4 @@ outcome_of None input = WrongWords
 outcome_of (Some Help) input = Usage
 outcome_of (Some VersionWord) input = Version
 outcome_of (Some Rehearse) input = outcome_of_input (λ bytes. outcome_of_script (script_of bytes)) input
-outcome_of (Some ValidateLimits) input = outcome_of_input (λ bytes. outcome_of_limits (limits_of bytes)) input
+outcome_of (Some ValidateLimits) input = outcome_of_input (λ bytes. outcome_of_limits (config_in bytes)) input

@@ -10,7 +10,8 @@ use Rattle.psched_rehearse.specs.Rehearsal.{report_of}
 use Rattle.psched_rehearse.specs.Script.{script_of}
 use Rattle.psched_rehearse.specs.World.{world_of}
 use Rattle.psched_top.specs.Command.{takes_input}
-use Rattle.psched_top.specs.Limits.{limits_of, valid_text}
+use Rattle.limit_apply.specs.Read.{config_in}
+use Rattle.psched_top.specs.Limits.{valid_text}
 use Rattle.psched_top.specs.declared.command.Command.{Command}
 use Rattle.psched_top.specs.declared.outcome.Outcome.{Outcome}
 use Rattle.psched_top.specs.declared.outcome.Outcome.TheVariants.{Report, Valid, CannotRead}
@@ -66,7 +67,7 @@ pub record Checked (held left : Option (List ℕ)) : Type 0 where
   pub all : IsAll held input
   pub ended : IsReadToEnd held left
   pub config : Config
-  pub grammar : limits_of input ≡ Ok config
+  pub grammar : config_in input ≡ Ok config
 
 -- the line of its counts is the outcome
 abbrev pub IsChecked : Option (List ℕ) → Option (List ℕ) → Outcome → Type 0
@@ -75,7 +76,7 @@ IsChecked held left outcome = (c : Checked held left) × (outcome ≡ Valid (lin
 -- the input is a configuration of limits, and the line of its counts is the outcome
 pub record IsValid (input : List ℕ) (outcome : Outcome) : Type 0 where
   pub config : Config
-  pub grammar : limits_of input ≡ Ok config
+  pub grammar : config_in input ≡ Ok config
   pub counts : outcome ≡ Valid (line (valid_text config))
 
 -- the status of the outcome that comes, whose text was written whole

@@ -51,3 +51,27 @@ fn the_text_of_the_open_configuration(rt: HostRuntime) -> Result<(), Fail> {
     assert!(rt; again == text);
     Ok(())
 }
+
+/// Whether a configuration has exactly this text.
+fn is_own(alloc: Global, text: &str) -> Result<bool, Memory> {
+    Ok(Limits::from_own_text(alloc, text)?.is_some())
+}
+
+fn check_own(alloc: Global, cases: &str) -> Result<(), Fail> {
+    for case in cases.split('\n') {
+        let (own, tree) = case.split_once(" <- ").ok_or("no case")?;
+        if !is_own(alloc, own)? || is_own(alloc, tree)? != (own == tree) {
+            return Err(Fail::new(format_args!("{case}")));
+        }
+    }
+    Ok(())
+}
+
+#[test]
+fn texts_of_ones_own(rt: HostRuntime) -> Result<(), Fail> {
+    check_own(rt.alloc(), TEXTS)?;
+    let object = is_own(rt.alloc(), "{}")?;
+    let nothing = is_own(rt.alloc(), "")?;
+    assert!(rt; !object && !nothing);
+    Ok(())
+}

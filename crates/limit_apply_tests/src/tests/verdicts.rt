@@ -69,8 +69,12 @@ fn check_rows(
     Ok(())
 }
 
-fn check_read(alloc: Global, rows: &[(&str, u64, i16, &str, &str)]) -> Result<(), Fail> {
-    let limits = read(alloc, USUAL)?;
+fn check_read(
+    alloc: Global,
+    text: &str,
+    rows: &[(&str, u64, i16, &str, &str)],
+) -> Result<(), Fail> {
+    let limits = read(alloc, text)?;
     check_rows(alloc, &limits, rows)
 }
 
@@ -83,7 +87,31 @@ fn the_usual_configuration(rt: HostRuntime) -> Result<(), Fail> {
     let counts = count(rt.alloc(), USUAL)?;
     assert!(rt; counts.identifiers == 4 && counts.classifiers == 4);
     assert!(rt; counts.limits == 4 && counts.applications == 4);
-    check_read(rt.alloc(), &USUAL_ROWS)
+    check_read(rt.alloc(), USUAL, &USUAL_ROWS)
+}
+
+// Nine identifiers, classifiers, limits, applications and ceilings: the kth is for `10.0.0.k`, of whom `idle`
+// tests of k seconds are permitted, up to priority k.
+static NINE: &str =
+    r#"{"identifiers":[{"name":"i1","type":"ip-cidr-list","data":{"cidrs":["10.0.0.1"]}},{"name":"i2","type":"ip-cidr-list","data":{"cidrs":["10.0.0.2"]}},{"name":"i3","type":"ip-cidr-list","data":{"cidrs":["10.0.0.3"]}},{"name":"i4","type":"ip-cidr-list","data":{"cidrs":["10.0.0.4"]}},{"name":"i5","type":"ip-cidr-list","data":{"cidrs":["10.0.0.5"]}},{"name":"i6","type":"ip-cidr-list","data":{"cidrs":["10.0.0.6"]}},{"name":"i7","type":"ip-cidr-list","data":{"cidrs":["10.0.0.7"]}},{"name":"i8","type":"ip-cidr-list","data":{"cidrs":["10.0.0.8"]}},{"name":"i9","type":"ip-cidr-list","data":{"cidrs":["10.0.0.9"]}}],"classifiers":[{"name":"c1","identifiers":["i1"]},{"name":"c2","identifiers":["i2"]},{"name":"c3","identifiers":["i3"]},{"name":"c4","identifiers":["i4"]},{"name":"c5","identifiers":["i5"]},{"name":"c6","identifiers":["i6"]},{"name":"c7","identifiers":["i7"]},{"name":"c8","identifiers":["i8"]},{"name":"c9","identifiers":["i9"]}],"limits":[{"name":"l1","type":"test","data":{"test":"idle","limit":{"duration":{"range":{"lower":"PT1S","upper":"PT1S"}}}}},{"name":"l2","type":"test","data":{"test":"idle","limit":{"duration":{"range":{"lower":"PT2S","upper":"PT2S"}}}}},{"name":"l3","type":"test","data":{"test":"idle","limit":{"duration":{"range":{"lower":"PT3S","upper":"PT3S"}}}}},{"name":"l4","type":"test","data":{"test":"idle","limit":{"duration":{"range":{"lower":"PT4S","upper":"PT4S"}}}}},{"name":"l5","type":"test","data":{"test":"idle","limit":{"duration":{"range":{"lower":"PT5S","upper":"PT5S"}}}}},{"name":"l6","type":"test","data":{"test":"idle","limit":{"duration":{"range":{"lower":"PT6S","upper":"PT6S"}}}}},{"name":"l7","type":"test","data":{"test":"idle","limit":{"duration":{"range":{"lower":"PT7S","upper":"PT7S"}}}}},{"name":"l8","type":"test","data":{"test":"idle","limit":{"duration":{"range":{"lower":"PT8S","upper":"PT8S"}}}}},{"name":"l9","type":"test","data":{"test":"idle","limit":{"duration":{"range":{"lower":"PT9S","upper":"PT9S"}}}}}],"applications":[{"classifier":"c1","apply":[{"require":"any","limits":["l1"]}]},{"classifier":"c2","apply":[{"require":"any","limits":["l2"]}]},{"classifier":"c3","apply":[{"require":"any","limits":["l3"]}]},{"classifier":"c4","apply":[{"require":"any","limits":["l4"]}]},{"classifier":"c5","apply":[{"require":"any","limits":["l5"]}]},{"classifier":"c6","apply":[{"require":"any","limits":["l6"]}]},{"classifier":"c7","apply":[{"require":"any","limits":["l7"]}]},{"classifier":"c8","apply":[{"require":"any","limits":["l8"]}]},{"classifier":"c9","apply":[{"require":"any","limits":["l9"]}]}],"priorities":{"default":-9,"classifiers":[{"classifier":"c1","ceiling":1},{"classifier":"c2","ceiling":2},{"classifier":"c3","ceiling":3},{"classifier":"c4","ceiling":4},{"classifier":"c5","ceiling":5},{"classifier":"c6","ceiling":6},{"classifier":"c7","ceiling":7},{"classifier":"c8","ceiling":8},{"classifier":"c9","ceiling":9}]}}"#;
+
+static NINE_ROWS: [(&str, u64, i16, &str, &str); 8] = [
+    ("10.0.0.1", 1, 1, "permitted 0", "permitted 0"),
+    ("10.0.0.1", 2, 1, "exhausted", "exhausted"),
+    ("10.0.0.5", 5, 5, "permitted 4", "permitted 4"),
+    ("10.0.0.5", 5, 6, "above 5", "permitted 4"),
+    ("10.0.0.9", 9, 9, "permitted 8", "permitted 8"),
+    ("10.0.0.9", 8, 9, "exhausted", "exhausted"),
+    ("10.0.0.9", 9, 10, "above 9", "permitted 8"),
+    ("10.0.0.10", 9, -10, "exhausted", "exhausted"),
+];
+
+#[test]
+fn nine_of_everything(rt: HostRuntime) -> Result<(), Fail> {
+    let counts = count(rt.alloc(), NINE)?;
+    assert!(rt; counts.identifiers == 9 && counts.classifiers == 9);
+    assert!(rt; counts.limits == 9 && counts.applications == 9);
+    check_read(rt.alloc(), NINE, &NINE_ROWS)
 }
 
 fn copied(alloc: Global, limits: Limits) -> Result<Limits, Memory> {

@@ -1,7 +1,0 @@
-use Rattle.std.proofs.Common.{◌≡◌, drop}
-use Rattle.limit_apply.specs.Schedule.{in_one}
-use Rattle.limit_apply.proofs.schedule.is_in_one.Given as goal
-
--- what is left decides
-abbrev pub invariant-loop-range : goal.invariant-loop-range
-invariant-loop-range l = in_one l.ranges l.number ≡ in_one (drop l.range-index l.ranges) l.number

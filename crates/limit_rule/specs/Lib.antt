@@ -1,0 +1,6 @@
+pub mod Bounds
+pub mod Civil
+pub mod Limit
+pub mod ReadLimits
+pub mod ReadSchedule
+pub mod Schedule

@@ -1,0 +1,5 @@
+//! The tests of limit_rule, over its public items.
+#![tactic(auto)]
+
+#[cfg(test)]
+mod tests;
