@@ -10,17 +10,17 @@ use Rattle.plugin_core.specs.ReadTest.{all_differ, are_hosts}
 use Rattle.plugin_core.specs.TestSpec.{test_length}
 
 pub length_within : (test : TestSpec) → IsTest test → test_length test ≤ MAX_LENGTH
-length_within (Idle d s p) is = is.short
-length_within (Idleex d s p) is = is.short
-length_within (Idlebgm d s p i) is = is.0.short
-length_within (Idlemany d s p h) is = is.0.short
+length_within (Idle z) is = is.short
+length_within (Idleex z) is = is.short
+length_within (Idlebgm z i) is = is.0.short
+length_within (Idlemany z h) is = is.0.short
 length_within (Simplestream to m w t) is = is.short
 
 pub length_lasts : (test : TestSpec) → IsTest test → 1 ≤ test_length test
-length_lasts (Idle d s p) is = is.lasts
-length_lasts (Idleex d s p) is = is.lasts
-length_lasts (Idlebgm d s p i) is = is.0.lasts
-length_lasts (Idlemany d s p h) is = is.0.lasts
+length_lasts (Idle z) is = is.lasts
+length_lasts (Idleex z) is = is.lasts
+length_lasts (Idlebgm z i) is = is.0.lasts
+length_lasts (Idlemany z h) is = is.0.lasts
 length_lasts (Simplestream to m w t) is = omega (arith, is.lasts)
 
 -- the counts of hosts

@@ -1,35 +1,29 @@
--- How many bytes the compact texts of trees, tests and results have at most.
+-- How many bytes the compact texts of trees and tests have at most.
 use Rattle.std.proofs.Common.{◌≡◌, ℕ, ◌+◌, ◌*◌, ◌/◌, ◌%◌, ◌^◌, ◌<◌, ◌≤◌, ◌==◌, if◌then◌else◌, nat_le, nat_lt, List, [], ◌∷◌, ◌++◌, length, map, All, Bool, true, false, cond, Option, Some, None, refl, codes, arith, length-append}
 use Rattle.std.proofs.lemmas.Bool.Decides.{nat_tests}
 use Rattle.std.proofs.lemmas.Fmt.{length-decimal-le}
 use Rattle.std.proofs.lemmas.List.Concat.{flat_map-cons}
 use Rattle.std.proofs.lemmas.List.Elements.{All-head, All-tail, All-nil, All-cons}
-use Rattle.std.proofs.lemmas.List.FromFn.{length-range_with_len}
 use Rattle.std.specs.Cmp.Lexicographic.{slice_cmp}
 use Rattle.std.specs.Fmt.{decimal}
-use Rattle.std.specs.List.{flat_map, list_all, range_with_len}
+use Rattle.std.specs.List.{flat_map, list_all}
 use Rattle.std.specs.Ordering.{nat_cmp, match_ordering}
 use Rattle.std.specs.declared.cmp.Ordering.{Ordering}
 use Rattle.std.specs.declared.cmp.Ordering.TheVariants.{Less, Equal, Greater}
 use Rattle.json.specs.Print.{escape_letter, escape_byte, escape, quoted}
-use Rattle.serde_json.specs.Data.{Data, unsigned, boolean, number, string, array, object, Members, no_members, member, put}
+use Rattle.serde_json.specs.Data.{Data, string, object, Members, no_members, member, put}
 use Rattle.serde_json.specs.View.{items_of}
 use Rattle.serde_json.specs.Written.{compact_text, comma_if, items_text, members_text}
 use Rattle.ps_time.proofs.PictureLemmas.{and_true}
 use Rattle.ps_time.specs.Length.{count_text, clock_part, length_text_of}
 use Rattle.ps_time.specs.Moment.{moment_text_of}
 use Rattle.ps_time.specs.Name.{is_name, is_name_start, is_name_byte}
-use Rattle.ps_time.specs.Numbers.{greatest_length, most_result_bytes}
+use Rattle.ps_time.specs.Numbers.{greatest_length}
 use Rattle.plugin_core.proofs.BoundLemmas.{hosts_few}
-use Rattle.plugin_core.specs.Bounds.{IsTest, IsComment}
+use Rattle.plugin_core.specs.Bounds.{IsTest, IsSleep, IsComment}
 use Rattle.plugin_core.specs.Kind.{kind_text, test_kind}
-use Rattle.plugin_core.specs.ResultText.{ending, failed, slept, tick, ticks, ticked, streamed, good_result, result_data}
-use Rattle.plugin_core.specs.WriteTest.{length_data, names_data, with_comment, sleeping_members, spec_members, test_data, most_test_bytes}
-use Rattle.plugin_core.specs.declared.run.Outcome.{Outcome}
-use Rattle.plugin_core.specs.declared.run.Outcome.TheVariants.{Good, TimedOut, NotTaken, Restarted}
-use Rattle.plugin_core.specs.declared.run.Role.{Role}
-use Rattle.plugin_core.specs.declared.run.Role.TheVariants.{Only, Source, Dest}
-use Rattle.plugin_core.specs.declared.run.ToolView.{ToolView}
+use Rattle.plugin_core.specs.WriteTest.{length_data, names_data, with_comment, sleep_members, spec_members, test_data, most_test_bytes}
+use Rattle.plugin_core.specs.declared.test_spec.Sleep.{Sleep}
 use Rattle.plugin_core.specs.declared.test_spec.TestSpec.{TestSpec}
 use Rattle.plugin_core.specs.declared.test_spec.TestSpec.TheVariants.{Idle, Idleex, Idlebgm, Idlemany, Simplestream}
 
@@ -49,7 +43,7 @@ escape_short : (bs : List ℕ) → length (escape bs) ≤ 6 * length bs
 escape_short [] = omega arith
 escape_short (x ∷ xs) = rw (flat_map-cons escape_byte x xs, length-append (escape_byte x) (flat_map escape_byte xs)) (omega (arith, byte_short x, escape_short xs))
 
-quoted_short : (bs : List ℕ) → length (quoted bs) ≤ 6 * length bs + 2
+pub quoted_short : (bs : List ℕ) → length (quoted bs) ≤ 6 * length bs + 2
 quoted_short bs = omega (arith, length-append (escape bs) (34 ∷ []), escape_short bs)
 
 pub text_short : (bs : List ℕ) → length (compact_text (string bs)) ≤ 6 * length bs + 2
@@ -183,14 +177,14 @@ comment_short : (name : List ℕ) (comment : Option (List ℕ)) (ms : Members) �
 comment_short name None ms is = omega arith
 comment_short name (Some bs) ms is = omega (arith, put_short name (string bs) ms false, quoted_short bs, is)
 
-sleeping_short : (d : ℕ) (s p : Option (List ℕ)) → d ≤ greatest_length → IsComment s → IsComment p → length (members_text false (sleeping_members d s p)) ≤ 12_700
-sleeping_short d s p within hs hp =
+sleep_short : (z : Sleep) → IsSleep z → length (members_text false (sleep_members z)) ≤ 12_700
+sleep_short z is =
     omega (
       arith,
-      comment_short (codes "starting-comment") s (with_comment (codes "parting-comment") p (member (codes "duration") (length_data d) no_members)) hs,
-      comment_short (codes "parting-comment") p (member (codes "duration") (length_data d) no_members) hp,
-      member_short (codes "duration") (length_data d) no_members false,
-      length_short d within,
+      comment_short (codes "starting-comment") z.starting_comment (with_comment (codes "parting-comment") z.parting_comment (member (codes "duration") (length_data z.duration) no_members)) is.starting,
+      comment_short (codes "parting-comment") z.parting_comment (member (codes "duration") (length_data z.duration) no_members) is.parting,
+      member_short (codes "duration") (length_data z.duration) no_members false,
+      length_short z.duration is.short,
     )
 
 stream_short : (to m : List ℕ) (w t : ℕ) → is_name to ≡ true → length m ≤ 8_192 → w ≤ greatest_length → t ≤ greatest_length
@@ -209,20 +203,20 @@ stream_short to m w t name short hw ht =
     )
 
 spec_short : (test : TestSpec) → IsTest test → length (members_text false (spec_members test)) ≤ 50_000
-spec_short (Idle d s p) is = omega (arith, sleeping_short d s p is.short is.starting is.parting)
-spec_short (Idleex d s p) is = omega (arith, sleeping_short d s p is.short is.starting is.parting)
-spec_short (Idlebgm d s p i) is =
-    omega (arith, put_short (codes "interval") (length_data i) (sleeping_members d s p) false, length_short i (omega (arith, is.0.short, is.1.within)), sleeping_short d s p is.0.short is.0.starting is.0.parting)
-spec_short (Idlemany d s p h) is =
-    omega (arith, put_short (codes "hosts") (names_data h) (sleeping_members d s p) false, hosts_short h is.1.names (hosts_few h is.1.differ).1, sleeping_short d s p is.0.short is.0.starting is.0.parting)
+spec_short (Idle z) is = omega (arith, sleep_short z is)
+spec_short (Idleex z) is = omega (arith, sleep_short z is)
+spec_short (Idlebgm z i) is =
+    omega (arith, put_short (codes "interval") (length_data i) (sleep_members z) false, length_short i (omega (arith, is.0.short, is.1.within)), sleep_short z is.0)
+spec_short (Idlemany z h) is =
+    omega (arith, put_short (codes "hosts") (names_data h) (sleep_members z) false, hosts_short h is.1.names (hosts_few h is.1.differ).1, sleep_short z is.0)
 spec_short (Simplestream to m w t) is =
     stream_short to m w t is.dest is.material (omega (arith, is.short)) (omega (arith, is.short))
 
 kind_short : (test : TestSpec) → length (kind_text (test_kind test)) ≤ 12
-kind_short (Idle d s p) = omega arith
-kind_short (Idleex d s p) = omega arith
-kind_short (Idlebgm d s p i) = omega arith
-kind_short (Idlemany d s p h) = omega arith
+kind_short (Idle z) = omega arith
+kind_short (Idleex z) = omega arith
+kind_short (Idlebgm z i) = omega arith
+kind_short (Idlemany z h) = omega arith
 kind_short (Simplestream to m w t) = omega arith
 
 pub test_short : (test : TestSpec) → IsTest test → length (compact_text (test_data test)) ≤ most_test_bytes
@@ -235,69 +229,3 @@ test_short test is =
       member_short (codes "spec") (object (spec_members test)) (member (codes "type") (string (kind_text (test_kind test))) no_members) false,
       member_short (codes "type") (string (kind_text (test_kind test))) no_members true,
     )
-
--- ---- results
-
-one_short : length (compact_text (number (unsigned 1))) ≤ 1
-one_short = length-decimal-le 1 1 (omega arith) (omega arith) (omega arith)
-
-ending_short : (good : Bool) → length (members_text true (ending good)) ≤ 110
-ending_short true = omega (arith, one_short, member_short (codes "schema") (number (unsigned 1)) (member (codes "succeeded") (boolean true) no_members) true, member_short (codes "succeeded") (boolean true) no_members true)
-ending_short false = omega (arith, one_short, member_short (codes "schema") (number (unsigned 1)) (member (codes "succeeded") (boolean false) no_members) true, member_short (codes "succeeded") (boolean false) no_members true)
-
-failed_short : (error : List ℕ) → length error ≤ 14 → length (compact_text (failed error)) ≤ most_result_bytes
-failed_short error short = omega (arith, quoted_short error, ending_short false, member_short (codes "error") (string error) (ending false) false)
-
-slept_short : (d : ℕ) → d ≤ greatest_length → length (compact_text (slept d)) ≤ most_result_bytes
-slept_short d within = omega (arith, length_short d within, ending_short true, member_short (codes "duration") (length_data d) (ending true) false)
-
-tick_short : (at : ℕ) → length (compact_text (tick at)) ≤ 150
-tick_short at = omega (arith, moment_short at, member_short (codes "at") (string (moment_text_of at)) no_members false)
-
-every : (xs : List ℕ) → All (λ x. Unit {0}) xs
-every [] = All-nil (λ x. Unit {0})
-every (x ∷ xs) = All-cons (λ x. Unit {0}) x xs tt (every xs)
-
-ticks_short : (started interval count : ℕ) → count ≤ 64 → length (compact_text (array (items_of (ticks started interval count)))) ≤ 10_000
-ticks_short started interval count few =
-    omega (arith, few, length-range_with_len 1 count, items_short (λ i. Unit {0}) (λ i. tick (started + i * interval)) 150 (λ i is. tick_short (started + i * interval)) (range_with_len 1 count) false (every (range_with_len 1 count)))
-
-ticked_short : (started d i : ℕ) → d ≤ greatest_length → d / i ≤ 64 → length (compact_text (ticked started d i)) ≤ most_result_bytes
-ticked_short started d i within few =
-    omega (
-      arith,
-      length_short d within,
-      ending_short true,
-      ticks_short started i (d / i) few,
-      member_short (codes "duration") (length_data d) (member (codes "results") (array (items_of (ticks started i (d / i)))) (ending true)) false,
-      member_short (codes "results") (array (items_of (ticks started i (d / i)))) (ending true) true,
-    )
-
-sent_short : (m : List ℕ) → length m ≤ 8_192 → length (compact_text (streamed m Source)) ≤ most_result_bytes
-sent_short m short =
-    omega (
-      arith,
-      one_short,
-      quoted_short m,
-      member_short (codes "schema") (number (unsigned 1)) (member (codes "sent") (string m) (member (codes "succeeded") (boolean true) no_members)) false,
-      member_short (codes "sent") (string m) (member (codes "succeeded") (boolean true) no_members) true,
-      member_short (codes "succeeded") (boolean true) no_members true,
-    )
-
-streamed_short : (m : List ℕ) (r : Role) → length m ≤ 8_192 → length (compact_text (streamed m r)) ≤ most_result_bytes
-streamed_short m Only short = sent_short m short
-streamed_short m Source short = sent_short m short
-streamed_short m Dest short = omega (arith, quoted_short m, ending_short true, member_short (codes "received") (string m) (ending true) false)
-
-good_short : (test : TestSpec) (tool : ToolView) → IsTest test → length (compact_text (good_result test tool)) ≤ most_result_bytes
-good_short (Idle d s p) tool is = slept_short d is.short
-good_short (Idleex d s p) tool is = slept_short d is.short
-good_short (Idlebgm d s p i) tool is = ticked_short tool.started d i is.0.short is.1.few
-good_short (Idlemany d s p h) tool is = slept_short d is.0.short
-good_short (Simplestream to m w t) tool is = streamed_short m tool.role is.material
-
-pub result_short : (test : TestSpec) (tool : ToolView) (outcome : Outcome) → IsTest test → length (compact_text (result_data test tool outcome)) ≤ most_result_bytes
-result_short test tool Good is = good_short test tool is
-result_short test tool TimedOut is = failed_short (codes "timed out") (omega arith)
-result_short test tool NotTaken is = failed_short (codes "not taken") (omega arith)
-result_short test tool Restarted is = failed_short (codes "host restarted") (omega arith)

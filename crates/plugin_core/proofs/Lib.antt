@@ -1,6 +1,5 @@
 pub mod BoundLemmas
-pub mod ChoiceLemmas
+pub mod KindLemmas
 pub mod LengthLemmas
-pub mod ResultLemmas
 pub mod ShapeLemmas
 pub mod WrittenLemmas

@@ -26,10 +26,10 @@ kind_of_text bs =
     else None
 
 abbrev pub test_kind : TestSpec → TestKind
-test_kind (an_idle duration starting parting) = Idle
-test_kind (an_idleex duration starting parting) = Idleex
-test_kind (an_idlebgm duration starting parting interval) = Idlebgm
-test_kind (an_idlemany duration starting parting hosts) = Idlemany
+test_kind (an_idle sleep) = Idle
+test_kind (an_idleex sleep) = Idleex
+test_kind (an_idlebgm sleep interval) = Idlebgm
+test_kind (an_idlemany sleep hosts) = Idlemany
 test_kind (a_simplestream dest material dawdle timeout) = Simplestream
 
 -- the class in which tests of a kind run

@@ -1,11 +1,7 @@
 pub mod Bounds
-pub mod Choice
 pub mod Fault
 pub mod Kind
 pub mod Participants
 pub mod ReadTest
-pub mod ResultText
-pub mod Run
 pub mod TestSpec
-pub mod Tool
 pub mod WriteTest

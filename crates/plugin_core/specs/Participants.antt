@@ -1,31 +1,23 @@
--- Who takes part in a run, and how.
+-- Who takes part in a run.
 use Rattle.std.specs.Prelude.{ℕ, ◌≡◌, ◌≤◌, Bool, true, List, [], ◌∷◌, length, if◌then◌else◌}
 use Rattle.std.specs.List.{list_all, list_any}
 use Rattle.std.specs.Str.{bytes_eq}
 use Rattle.ps_time.specs.Name.{is_name}
 use Rattle.ps_time.specs.Numbers.{most_participants}
-use Rattle.plugin_core.specs.declared.run.Role.{Role}
-use Rattle.plugin_core.specs.declared.run.Role.TheVariants.{Only, Source, Dest}
 use Rattle.plugin_core.specs.declared.test_spec.TestSpec.{TestSpec}
 use Rattle.plugin_core.specs.declared.test_spec.TestSpec.TheVariants.{Idle, Idleex, Idlebgm, Idlemany, Simplestream}
 
 -- the names of the participants, where this lead leads the run
 abbrev pub participants : TestSpec → List ℕ → List (List ℕ)
-participants (Idle duration starting parting) lead = lead ∷ []
-participants (Idleex duration starting parting) lead = lead ∷ []
-participants (Idlebgm duration starting parting interval) lead = lead ∷ []
-participants (Idlemany duration starting parting hosts) lead = hosts
+participants (Idle sleep) lead = lead ∷ []
+participants (Idleex sleep) lead = lead ∷ []
+participants (Idlebgm sleep interval) lead = lead ∷ []
+participants (Idlemany sleep hosts) lead = hosts
 participants (Simplestream dest material dawdle timeout) lead = if bytes_eq dest lead then lead ∷ [] else lead ∷ dest ∷ []
 
 -- the name is among these
 abbrev pub is_named : List ℕ → List (List ℕ) → Bool
 is_named name names = list_any (λ other. bytes_eq other name) names
-
--- the part of a participant
-abbrev pub role_in : TestSpec → List ℕ → List ℕ → Role
-role_in (Simplestream dest material dawdle timeout) lead host =
-    if bytes_eq dest lead then Only else if bytes_eq host lead then Source else Dest
-role_in _ lead host = Only
 
 -- 1 to 8 participants, each a name
 pub record HasParticipants (names : List (List ℕ)) : Type 0 where

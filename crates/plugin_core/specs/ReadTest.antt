@@ -15,7 +15,7 @@ use Rattle.plugin_core.specs.declared.kind.TestKind.{TestKind}
 use Rattle.plugin_core.specs.declared.kind.TestKind.TheVariants.{Idle as idle, Idleex as idleex, Idlebgm as idlebgm, Idlemany as idlemany, Simplestream as simplestream}
 use Rattle.plugin_core.specs.declared.test_spec.TestSpec.{TestSpec}
 use Rattle.plugin_core.specs.declared.test_spec.TestSpec.TheVariants.{Idle, Idleex, Idlebgm, Idlemany, Simplestream}
-use Rattle.plugin_core.specs.declared.test_spec.Sleeping.{Sleeping}
+use Rattle.plugin_core.specs.declared.test_spec.Sleep.{Sleep}
 use Rattle.plugin_core.specs.Fault.{wrapped, in_json}
 use Rattle.plugin_core.specs.Kind.{kind_of_text}
 use Rattle.ps_json.specs.Member.{required, optional, member_then}
@@ -62,17 +62,17 @@ hosts_in name d =
 
 -- ---- specs of tests: their members, in the order in which they are read
 
--- the members of every test that sleeps
-abbrev pub sleeping_of : Members → Result Sleeping SpecFault
-sleeping_of ms =
+-- the sleep of every test that has one
+abbrev pub sleep_in : Members → Result Sleep SpecFault
+sleep_in ms =
     member_then (codes "schema") (optional 1 schema) ms (λ _ ms.
     member_then (codes "duration") (required wrapped duration_in) ms (λ duration ms.
     member_then (codes "starting-comment") (optional None comment_in) ms (λ starting ms.
     member_then (codes "parting-comment") (optional None comment_in) ms (λ parting ms.
     Ok (record { duration = duration; starting_comment = starting; parting_comment = parting })))))
 
-abbrev pub after_sleeping : Members → Members
-after_sleeping ms =
+abbrev pub after_sleep : Members → Members
+after_sleep ms =
     without_member (codes "parting-comment") (without_member (codes "starting-comment") (without_member (codes "duration") (without_member (codes "schema") ms)))
 
 -- nothing but comments is left
@@ -80,10 +80,10 @@ abbrev pub ended : Members → TestSpec → Result TestSpec SpecFault
 ended ms test = then_with (in_json (end_of ms)) (λ _. Ok test)
 
 abbrev pub idle_of : Members → Result TestSpec SpecFault
-idle_of ms = then_with (sleeping_of ms) (λ s. ended (after_sleeping ms) (Idle s.duration s.starting_comment s.parting_comment))
+idle_of ms = then_with (sleep_in ms) (λ s. ended (after_sleep ms) (Idle s))
 
 abbrev pub idleex_of : Members → Result TestSpec SpecFault
-idleex_of ms = then_with (sleeping_of ms) (λ s. ended (after_sleeping ms) (Idleex s.duration s.starting_comment s.parting_comment))
+idleex_of ms = then_with (sleep_in ms) (λ s. ended (after_sleep ms) (Idleex s))
 
 -- the interval is at most the duration, and goes into it at most 64 times
 abbrev pub paced : ℕ → ℕ → Result ℕ SpecFault
@@ -94,16 +94,16 @@ paced duration interval =
 
 abbrev pub idlebgm_of : Members → Result TestSpec SpecFault
 idlebgm_of ms =
-    then_with (sleeping_of ms) (λ s.
-    member_then (codes "interval") (required wrapped duration_in) (after_sleeping ms) (λ interval ms.
+    then_with (sleep_in ms) (λ s.
+    member_then (codes "interval") (required wrapped duration_in) (after_sleep ms) (λ interval ms.
     then_with (paced s.duration interval) (λ interval.
-    ended ms (Idlebgm s.duration s.starting_comment s.parting_comment interval))))
+    ended ms (Idlebgm s interval))))
 
 abbrev pub idlemany_of : Members → Result TestSpec SpecFault
 idlemany_of ms =
-    then_with (sleeping_of ms) (λ s.
-    member_then (codes "hosts") (required wrapped hosts_in) (after_sleeping ms) (λ hosts ms.
-    ended ms (Idlemany s.duration s.starting_comment s.parting_comment hosts)))
+    then_with (sleep_in ms) (λ s.
+    member_then (codes "hosts") (required wrapped hosts_in) (after_sleep ms) (λ hosts ms.
+    ended ms (Idlemany s hosts)))
 
 -- the length of the whole is a length
 abbrev pub whole : ℕ → ℕ → Result ℕ SpecFault

@@ -3,6 +3,7 @@ use Rattle.std.specs.Prelude.{ℕ, List, map, Option, Some, None, codes}
 use Rattle.serde_json.specs.Data.{Data, string, array, object, Members, no_members, member, put}
 use Rattle.serde_json.specs.View.{items_of}
 use Rattle.ps_time.specs.Length.{length_text_of}
+use Rattle.plugin_core.specs.declared.test_spec.Sleep.{Sleep}
 use Rattle.plugin_core.specs.declared.test_spec.TestSpec.{TestSpec}
 use Rattle.plugin_core.specs.declared.test_spec.TestSpec.TheVariants.{Idle, Idleex, Idlebgm, Idlemany, Simplestream}
 use Rattle.plugin_core.specs.Kind.{kind_text, test_kind}
@@ -24,16 +25,16 @@ abbrev pub with_comment : List ℕ → Option (List ℕ) → Members → Members
 with_comment name None ms = ms
 with_comment name (Some bs) ms = put name (string bs) ms
 
--- what the tests that sleep have in common
-abbrev pub sleeping_members : ℕ → Option (List ℕ) → Option (List ℕ) → Members
-sleeping_members duration starting parting =
-    with_comment (codes "starting-comment") starting (with_comment (codes "parting-comment") parting (member (codes "duration") (length_data duration) no_members))
+abbrev pub sleep_members : Sleep → Members
+sleep_members sleep =
+    with_comment (codes "starting-comment") sleep.starting_comment (
+    with_comment (codes "parting-comment") sleep.parting_comment (member (codes "duration") (length_data sleep.duration) no_members))
 
 abbrev pub spec_members : TestSpec → Members
-spec_members (Idle duration starting parting) = sleeping_members duration starting parting
-spec_members (Idleex duration starting parting) = sleeping_members duration starting parting
-spec_members (Idlebgm duration starting parting interval) = put (codes "interval") (length_data interval) (sleeping_members duration starting parting)
-spec_members (Idlemany duration starting parting hosts) = put (codes "hosts") (names_data hosts) (sleeping_members duration starting parting)
+spec_members (Idle sleep) = sleep_members sleep
+spec_members (Idleex sleep) = sleep_members sleep
+spec_members (Idlebgm sleep interval) = put (codes "interval") (length_data interval) (sleep_members sleep)
+spec_members (Idlemany sleep hosts) = put (codes "hosts") (names_data hosts) (sleep_members sleep)
 spec_members (Simplestream dest material dawdle timeout) =
     member (codes "dawdle") (length_data dawdle) (
     member (codes "dest") (string dest) (

@@ -93,8 +93,8 @@ pub fn kind_of(test: &TestSpec) -> TestKind
     ensures { result ≡ test_kind test.now }
 {
     match test {
-        TestSpec::Idle { .. } => TestKind::Idle,
-        TestSpec::Idleex { .. } => TestKind::Idleex,
+        TestSpec::Idle(_) => TestKind::Idle,
+        TestSpec::Idleex(_) => TestKind::Idleex,
         TestSpec::Idlebgm { .. } => TestKind::Idlebgm,
         TestSpec::Idlemany { .. } => TestKind::Idlemany,
         TestSpec::Simplestream { .. } => TestKind::Simplestream,

@@ -1,11 +1,10 @@
-//! Who takes part in a run, and how.
+//! Who takes part in a run.
 ghost use Rattle.std.specs.Prelude.{◌≡◌, [], ◌∷◌, ℕ, List, true, IfOk};
 ghost use Rattle.ps_time.specs.Name.{is_name};
 ghost use Rattle.plugin_core.specs.Bounds.{IsTest};
-ghost use Rattle.plugin_core.specs.Participants.{participants, role_in, is_named, HasParticipants};
+ghost use Rattle.plugin_core.specs.Participants.{participants, is_named, HasParticipants};
 ghost use Rattle.plugin_core.specs.declared.test_spec.TestSpec.{TestSpec};
 
-use crate::run::Role;
 use crate::test_spec::TestSpec;
 use ps_time::items::Items;
 use ps_time::memory::Memory;
@@ -57,22 +56,6 @@ pub fn is_named(names: &[Text], name: &str) -> bool
         }
     }
     false
-}
-
-/// The part of a participant in a run that this lead leads.
-pub fn role_of(test: &TestSpec, lead: &str, host: &str) -> Role
-    ensures { result ≡ role_in test.now lead.now host.now }
-{
-    match test {
-        TestSpec::Simplestream { dest, .. } if !dest.is(lead) => {
-            if host == lead {
-                Role::Source
-            } else {
-                Role::Dest
-            }
-        }
-        _ => Role::Only,
-    }
 }
 
 /// A law: a run of a test that keeps its bounds has 1 to 8 participants, each a name, where the lead's is

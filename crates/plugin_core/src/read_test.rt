@@ -1,6 +1,7 @@
 //! The reader of tests.
 ghost use Rattle.std.specs.Prelude.{◌≡◌, ◌≤◌, ◌+◌, [], true, length, map, None, IfOk, OnOk, codes};
 ghost use Rattle.std.specs.List.{list_all};
+ghost use Rattle.std.specs.Str.{IsUtf8};
 ghost use Rattle.serde_json.specs.View.{view};
 ghost use Rattle.ps_json.specs.Each.{read_each};
 ghost use Rattle.ps_json.specs.Answer.{GivesUnless, then_with};
@@ -12,12 +13,12 @@ ghost use Rattle.plugin_core.specs.Fault.{wrapped};
 ghost use Rattle.plugin_core.specs.TestSpec.{test_length};
 ghost use Rattle.plugin_core.specs.declared.test_spec.TestSpec.{TestSpec};
 ghost use Rattle.ps_json.specs.Member.{required, optional};
-ghost use Rattle.plugin_core.specs.ReadTest.{schema, length_in, duration_in, text_within, comment_in, host_in, all_differ, are_hosts, hosts_in, sleeping_of, after_sleeping, ended, idle_of, idleex_of, paced, idlebgm_of, idlemany_of, whole, simplestream_of, spec_of, kind_in, object_in, test_of};
+ghost use Rattle.plugin_core.specs.ReadTest.{schema, length_in, duration_in, text_within, comment_in, host_in, all_differ, are_hosts, hosts_in, sleep_in, after_sleep, ended, idle_of, idleex_of, paced, idlebgm_of, idlemany_of, whole, simplestream_of, spec_of, kind_in, object_in, test_of};
 
 use crate::fault::SpecFault;
 use crate::kind::{TestKind, read_kind};
 use crate::participants::is_named;
-use crate::test_spec::{Sleeping, TestSpec};
+use crate::test_spec::{Sleep, TestSpec};
 use ps_json::fault::JsonFault;
 use ps_json::fields::Fields;
 use ps_json::kinds::{read_count, read_list, read_text};
@@ -67,6 +68,7 @@ fn read_duration(alloc: Global, value: Value, name: &str) -> Result<Length, Spec
 fn read_text_within(alloc: Global, value: Value, name: &str, most: usize) -> Result<Text, SpecFault>
     ensures value { GivesUnless SpecFault.Memory result (text_within most name.now (view value)) }
     ensures bound { IfOk result (λ text. length text ≤ most) }
+    ensures utf8 { IfOk result IsUtf8 }
 {
     let text = Text::from_string(read_text(alloc, value, name)?);
     if text.len() > most {
@@ -99,16 +101,16 @@ fn take_comment(alloc: Global, fields: &mut Fields, name: &str) -> Result<Option
     }
 }
 
-fn take_sleeping(alloc: Global, fields: &mut Fields) -> Result<Sleeping, SpecFault>
-    ensures value { GivesUnless SpecFault.Memory result (sleeping_of fields.old) }
-    ensures bound { IfOk result (λ s. IsSleep s.duration s.starting_comment s.parting_comment) }
-    ensures rest { OnOk result (fields.new ≡ after_sleeping fields.old) }
+fn take_sleep(alloc: Global, fields: &mut Fields) -> Result<Sleep, SpecFault>
+    ensures value { GivesUnless SpecFault.Memory result (sleep_in fields.old) }
+    ensures bound { IfOk result IsSleep }
+    ensures rest { OnOk result (fields.new ≡ after_sleep fields.old) }
 {
     take_schema(alloc, fields)?;
     let duration = read_duration(alloc, fields.need(alloc, "duration")?, "duration")?;
     let starting_comment = take_comment(alloc, fields, "starting-comment")?;
     let parting_comment = take_comment(alloc, fields, "parting-comment")?;
-    Ok(Sleeping {
+    Ok(Sleep {
         duration,
         starting_comment,
         parting_comment,
@@ -128,16 +130,16 @@ fn read_idle(alloc: Global, mut fields: Fields) -> Result<TestSpec, SpecFault>
     ensures value { GivesUnless SpecFault.Memory result (idle_of fields) }
     ensures bounds { IfOk result IsTest }
 {
-    let sleeping = take_sleeping(alloc, &mut fields)?;
-    end_with(alloc, fields, sleeping.idle())
+    let sleep = take_sleep(alloc, &mut fields)?;
+    end_with(alloc, fields, TestSpec::Idle(sleep))
 }
 
 fn read_idleex(alloc: Global, mut fields: Fields) -> Result<TestSpec, SpecFault>
     ensures value { GivesUnless SpecFault.Memory result (idleex_of fields) }
     ensures bounds { IfOk result IsTest }
 {
-    let sleeping = take_sleeping(alloc, &mut fields)?;
-    end_with(alloc, fields, sleeping.idleex())
+    let sleep = take_sleep(alloc, &mut fields)?;
+    end_with(alloc, fields, TestSpec::Idleex(sleep))
 }
 
 /// The interval, which is at most the duration and goes into it at most 64 times.
@@ -161,9 +163,9 @@ fn read_idlebgm(alloc: Global, mut fields: Fields) -> Result<TestSpec, SpecFault
     ensures value { GivesUnless SpecFault.Memory result (idlebgm_of fields) }
     ensures bounds { IfOk result IsTest }
 {
-    let sleeping = take_sleeping(alloc, &mut fields)?;
-    let interval = read_interval(alloc, &mut fields, sleeping.duration)?;
-    end_with(alloc, fields, sleeping.idlebgm(interval))
+    let sleep = take_sleep(alloc, &mut fields)?;
+    let interval = read_interval(alloc, &mut fields, sleep.duration)?;
+    end_with(alloc, fields, TestSpec::Idlebgm { sleep, interval })
 }
 
 fn read_names(alloc: Global, values: Vec<Value>, name: &str) -> Result<Items<Text>, SpecFault>
@@ -205,15 +207,16 @@ fn read_idlemany(alloc: Global, mut fields: Fields) -> Result<TestSpec, SpecFaul
     ensures value { GivesUnless SpecFault.Memory result (idlemany_of fields) }
     ensures bounds { IfOk result IsTest }
 {
-    let sleeping = take_sleeping(alloc, &mut fields)?;
+    let sleep = take_sleep(alloc, &mut fields)?;
     let hosts = read_hosts(alloc, fields.need(alloc, "hosts")?)?;
-    end_with(alloc, fields, sleeping.idlemany(hosts))
+    end_with(alloc, fields, TestSpec::Idlemany { sleep, hosts })
 }
 
 fn take_material(alloc: Global, fields: &mut Fields) -> Result<Text, SpecFault>
     ensures value { GivesUnless SpecFault.Memory result
         (optional [] (text_within 8_192) (codes "test-material") fields.old) }
     ensures bound { IfOk result (λ text. length text ≤ 8_192) }
+    ensures utf8 { IfOk result IsUtf8 }
     ensures rest { fields.new ≡ without_member (codes "test-material") fields.old }
 {
     match fields.take("test-material") {

@@ -1,7 +1,7 @@
 //! What a run measures, with the parameters of each kind of test.
 ghost use Rattle.std.specs.Prelude.{◌≡◌, ◌≤◌, ◌↔◌, IsTrue, IfOk};
 ghost use Rattle.ps_time.specs.declared.moment.TheConstants.{MAX_LENGTH};
-ghost use Rattle.plugin_core.specs.TestSpec.{test_class, test_length};
+ghost use Rattle.plugin_core.specs.TestSpec.{sleep_of, test_class, test_length};
 ghost use Rattle.plugin_core.specs.declared.test_spec.TestSpec.{TestSpec};
 
 use ps_time::class::Class;
@@ -13,38 +13,83 @@ use ps_time::same::Same;
 use ps_time::text::Text;
 use std::alloc::Global;
 
+/// What the tests that sleep have in common.
+pub struct Sleep {
+    /// How long, in seconds, at least 1.
+    pub duration: Length,
+    /// A note on the start of the run, at most 1,024 bytes.
+    pub starting_comment: Option<Text>,
+    /// A note on its end, at most 1,024 bytes.
+    pub parting_comment: Option<Text>,
+}
+
+// Written out, so that a drop elsewhere is one call, and not a case for each comment.
+impl Drop for Sleep {
+    fn drop(self) {
+        let Sleep {
+            duration: _,
+            starting_comment: _,
+            parting_comment: _,
+        } = self;
+    }
+}
+
+impl Sleep {
+    /// A sleep of so many seconds, without comments.
+    pub fn of(duration: Length) -> Sleep
+        ensures { result ≡ sleep_of duration }
+    {
+        Sleep {
+            duration,
+            starting_comment: None,
+            parting_comment: None,
+        }
+    }
+
+    /// The same sleep once more.
+    pub fn copy(&self, alloc: Global) -> Result<Sleep, Memory>
+        ensures { IfOk result (λ made. made ≡ self.now) }
+    {
+        Ok(Sleep {
+            duration: self.duration,
+            starting_comment: self.starting_comment.duplicate(alloc)?,
+            parting_comment: self.parting_comment.duplicate(alloc)?,
+        })
+    }
+}
+
+impl Duplicate for Sleep {
+    fn duplicate(&self, alloc: Global) -> Result<Sleep, Memory> {
+        self.copy(alloc)
+    }
+}
+
+impl Same for Sleep {
+    fn same(&self, other: &Sleep) -> bool {
+        self.duration == other.duration
+            && self.starting_comment.same(&other.starting_comment)
+            && self.parting_comment.same(&other.parting_comment)
+    }
+}
+
 /// A test and its parameters, as the pScheduler reference names them; `Idlemany` is psched's own.
-/// Lengths are whole seconds, comments have at most 1,024 bytes.
+/// Lengths are whole seconds.
 pub enum TestSpec {
     /// The lead sleeps.
-    Idle {
-        /// At least 1 s.
-        duration: Length,
-        starting_comment: Option<Text>,
-        parting_comment: Option<Text>,
-    },
+    Idle(Sleep),
     /// The lead sleeps, and nothing else measures there.
-    Idleex {
-        /// At least 1 s.
-        duration: Length,
-        starting_comment: Option<Text>,
-        parting_comment: Option<Text>,
-    },
+    Idleex(Sleep),
     /// The lead sleeps in the background, and tells each interval that has passed.
     Idlebgm {
-        /// At least 1 s.
-        duration: Length,
-        starting_comment: Option<Text>,
-        parting_comment: Option<Text>,
+        /// Its duration and comments.
+        sleep: Sleep,
         /// At least 1 s and at most the duration, of which it is at least the 65th part.
         interval: Length,
     },
     /// Several hosts sleep at once, and nothing else measures there.
     Idlemany {
-        /// At least 1 s.
-        duration: Length,
-        starting_comment: Option<Text>,
-        parting_comment: Option<Text>,
+        /// Its duration and comments.
+        sleep: Sleep,
         /// Who takes part: 2 to 8 different names of hosts.
         hosts: Items<Text>,
     },
@@ -65,28 +110,13 @@ pub enum TestSpec {
 impl Drop for TestSpec {
     fn drop(self) {
         match self {
-            TestSpec::Idle {
-                duration: _,
-                starting_comment: _,
-                parting_comment: _,
-            } => {}
-            TestSpec::Idleex {
-                duration: _,
-                starting_comment: _,
-                parting_comment: _,
-            } => {}
+            TestSpec::Idle(_) => {}
+            TestSpec::Idleex(_) => {}
             TestSpec::Idlebgm {
-                duration: _,
-                starting_comment: _,
-                parting_comment: _,
+                sleep: _,
                 interval: _,
             } => {}
-            TestSpec::Idlemany {
-                duration: _,
-                starting_comment: _,
-                parting_comment: _,
-                hosts: _,
-            } => {}
+            TestSpec::Idlemany { sleep: _, hosts: _ } => {}
             TestSpec::Simplestream {
                 dest: _,
                 test_material: _,
@@ -102,8 +132,8 @@ pub fn class_of(test: &TestSpec) -> Class
     ensures { result ≡ test_class test.now }
 {
     match test {
-        TestSpec::Idle { .. } => Class::Background,
-        TestSpec::Idleex { .. } => Class::Exclusive,
+        TestSpec::Idle(_) => Class::Background,
+        TestSpec::Idleex(_) => Class::Exclusive,
         TestSpec::Idlebgm { .. } => Class::BackgroundMulti,
         TestSpec::Idlemany { .. } => Class::Exclusive,
         TestSpec::Simplestream { .. } => Class::Normal,
@@ -116,10 +146,10 @@ pub fn length_of(test: &TestSpec) -> Length
     ensures { result ≡ test_length test.now }
 {
     match test {
-        TestSpec::Idle { duration, .. } => *duration,
-        TestSpec::Idleex { duration, .. } => *duration,
-        TestSpec::Idlebgm { duration, .. } => *duration,
-        TestSpec::Idlemany { duration, .. } => *duration,
+        TestSpec::Idle(sleep) => sleep.duration,
+        TestSpec::Idleex(sleep) => sleep.duration,
+        TestSpec::Idlebgm { sleep, .. } => sleep.duration,
+        TestSpec::Idlemany { sleep, .. } => sleep.duration,
         TestSpec::Simplestream {
             dawdle,
             timeout,
@@ -128,78 +158,12 @@ pub fn length_of(test: &TestSpec) -> Length
     }
 }
 
-/// What the tests that sleep have in common.
-#[derive(Drop)]
-pub struct Sleeping {
-    /// At least 1 s.
-    pub duration: Length,
-    /// At most 1,024 bytes.
-    pub starting_comment: Option<Text>,
-    /// At most 1,024 bytes.
-    pub parting_comment: Option<Text>,
-}
-
-impl Sleeping {
-    /// The test `idle` with these parameters.
-    pub fn idle(self) -> TestSpec
-        ensures { result ≡ TestSpec.Idle self.duration self.starting_comment self.parting_comment }
-    {
-        TestSpec::Idle {
-            duration: self.duration,
-            starting_comment: self.starting_comment,
-            parting_comment: self.parting_comment,
-        }
-    }
-
-    /// The test `idleex` with these parameters.
-    pub fn idleex(self) -> TestSpec
-        ensures { result ≡ TestSpec.Idleex self.duration self.starting_comment self.parting_comment }
-    {
-        TestSpec::Idleex {
-            duration: self.duration,
-            starting_comment: self.starting_comment,
-            parting_comment: self.parting_comment,
-        }
-    }
-
-    /// The test `idlebgm` with these parameters and this interval.
-    pub fn idlebgm(self, interval: Length) -> TestSpec
-        ensures { result ≡ TestSpec.Idlebgm self.duration self.starting_comment self.parting_comment interval }
-    {
-        TestSpec::Idlebgm {
-            duration: self.duration,
-            starting_comment: self.starting_comment,
-            parting_comment: self.parting_comment,
-            interval,
-        }
-    }
-
-    /// The test `idlemany` with these parameters, on these hosts.
-    pub fn idlemany(self, hosts: Items<Text>) -> TestSpec
-        ensures { result ≡ TestSpec.Idlemany self.duration self.starting_comment self.parting_comment hosts }
-    {
-        TestSpec::Idlemany {
-            duration: self.duration,
-            starting_comment: self.starting_comment,
-            parting_comment: self.parting_comment,
-            hosts,
-        }
-    }
-}
-
-fn copied(
-    alloc: Global,
-    duration: Length,
-    starting: &Option<Text>,
-    parting: &Option<Text>,
-) -> Result<Sleeping, Memory>
-    ensures { IfOk result (λ made. made
-        ≡ record { duration = duration; starting_comment = starting.now; parting_comment = parting.now }) }
+fn copy_many(alloc: Global, sleep: &Sleep, hosts: &Items<Text>) -> Result<TestSpec, Memory>
+    ensures { IfOk result (λ made. made ≡ TestSpec.Idlemany sleep.now hosts.now) }
 {
-    Ok(Sleeping {
-        duration,
-        starting_comment: starting.duplicate(alloc)?,
-        parting_comment: parting.duplicate(alloc)?,
+    Ok(TestSpec::Idlemany {
+        sleep: sleep.copy(alloc)?,
+        hosts: hosts.copy(alloc)?,
     })
 }
 
@@ -226,33 +190,13 @@ impl TestSpec {
         ensures { IfOk result (λ made. made ≡ self.now) }
     {
         match self {
-            TestSpec::Idle {
-                duration,
-                starting_comment,
-                parting_comment,
-            } => Ok(copied(alloc, *duration, starting_comment, parting_comment)?.idle()),
-            TestSpec::Idleex {
-                duration,
-                starting_comment,
-                parting_comment,
-            } => Ok(copied(alloc, *duration, starting_comment, parting_comment)?.idleex()),
-            TestSpec::Idlebgm {
-                duration,
-                starting_comment,
-                parting_comment,
-                interval,
-            } => Ok(copied(alloc, *duration, starting_comment, parting_comment)?.idlebgm(
-                *interval,
-            )),
-            TestSpec::Idlemany {
-                duration,
-                starting_comment,
-                parting_comment,
-                hosts,
-            } => {
-                let sleeping = copied(alloc, *duration, starting_comment, parting_comment)?;
-                Ok(sleeping.idlemany(hosts.copy(alloc)?))
-            }
+            TestSpec::Idle(sleep) => Ok(TestSpec::Idle(sleep.copy(alloc)?)),
+            TestSpec::Idleex(sleep) => Ok(TestSpec::Idleex(sleep.copy(alloc)?)),
+            TestSpec::Idlebgm { sleep, interval } => Ok(TestSpec::Idlebgm {
+                sleep: sleep.copy(alloc)?,
+                interval: *interval,
+            }),
+            TestSpec::Idlemany { sleep, hosts } => copy_many(alloc, sleep, hosts),
             TestSpec::Simplestream {
                 dest,
                 test_material,
@@ -269,78 +213,41 @@ impl Duplicate for TestSpec {
     }
 }
 
-fn is_idle(
-    test: &TestSpec,
-    duration: Length,
-    starting: &Option<Text>,
-    parting: &Option<Text>,
-) -> bool
-    ensures { IsTrue result ↔ (TestSpec.Idle duration starting.now parting.now ≡ test.now) }
+fn is_idle(test: &TestSpec, sleep: &Sleep) -> bool
+    ensures { IsTrue result ↔ (TestSpec.Idle sleep.now ≡ test.now) }
 {
     match test {
-        TestSpec::Idle {
-            duration: d,
-            starting_comment: s,
-            parting_comment: p,
-        } => duration == *d && starting.same(s) && parting.same(p),
+        TestSpec::Idle(other) => sleep.same(other),
         _ => false,
     }
 }
 
-fn is_idleex(
-    test: &TestSpec,
-    duration: Length,
-    starting: &Option<Text>,
-    parting: &Option<Text>,
-) -> bool
-    ensures { IsTrue result ↔ (TestSpec.Idleex duration starting.now parting.now ≡ test.now) }
+fn is_idleex(test: &TestSpec, sleep: &Sleep) -> bool
+    ensures { IsTrue result ↔ (TestSpec.Idleex sleep.now ≡ test.now) }
 {
     match test {
-        TestSpec::Idleex {
-            duration: d,
-            starting_comment: s,
-            parting_comment: p,
-        } => duration == *d && starting.same(s) && parting.same(p),
+        TestSpec::Idleex(other) => sleep.same(other),
         _ => false,
     }
 }
 
-fn is_idlebgm(
-    test: &TestSpec,
-    duration: Length,
-    starting: &Option<Text>,
-    parting: &Option<Text>,
-    interval: Length,
-) -> bool
-    ensures { IsTrue result ↔ (TestSpec.Idlebgm duration starting.now parting.now interval ≡ test.now) }
+fn is_idlebgm(test: &TestSpec, sleep: &Sleep, interval: Length) -> bool
+    ensures { IsTrue result ↔ (TestSpec.Idlebgm sleep.now interval ≡ test.now) }
 {
     match test {
         TestSpec::Idlebgm {
-            duration: d,
-            starting_comment: s,
-            parting_comment: p,
+            sleep: s,
             interval: i,
-        } => duration == *d && starting.same(s) && parting.same(p) && interval == *i,
+        } => interval == *i && sleep.same(s),
         _ => false,
     }
 }
 
-fn is_idlemany(
-    test: &TestSpec,
-    duration: Length,
-    starting: &Option<Text>,
-    parting: &Option<Text>,
-    hosts: &Items<Text>,
-) -> bool
-    ensures { IsTrue result ↔ (TestSpec.Idlemany duration starting.now parting.now hosts.now ≡ test.now) }
+fn is_idlemany(test: &TestSpec, sleep: &Sleep, hosts: &Items<Text>) -> bool
+    ensures { IsTrue result ↔ (TestSpec.Idlemany sleep.now hosts.now ≡ test.now) }
 {
     match test {
-        TestSpec::Idlemany {
-            duration: d,
-            starting_comment: s,
-            parting_comment: p,
-            hosts: h,
-        } => duration == *d && starting.same(s) && parting.same(p) && hosts.same(h),
+        TestSpec::Idlemany { sleep: s, hosts: h } => sleep.same(s) && hosts.same(h),
         _ => false,
     }
 }
@@ -368,34 +275,10 @@ fn is_simplestream(
 impl Same for TestSpec {
     fn same(&self, other: &TestSpec) -> bool {
         match self {
-            TestSpec::Idle {
-                duration,
-                starting_comment,
-                parting_comment,
-            } => is_idle(other, *duration, starting_comment, parting_comment),
-            TestSpec::Idleex {
-                duration,
-                starting_comment,
-                parting_comment,
-            } => is_idleex(other, *duration, starting_comment, parting_comment),
-            TestSpec::Idlebgm {
-                duration,
-                starting_comment,
-                parting_comment,
-                interval,
-            } => is_idlebgm(
-                other,
-                *duration,
-                starting_comment,
-                parting_comment,
-                *interval,
-            ),
-            TestSpec::Idlemany {
-                duration,
-                starting_comment,
-                parting_comment,
-                hosts,
-            } => is_idlemany(other, *duration, starting_comment, parting_comment, hosts),
+            TestSpec::Idle(sleep) => is_idle(other, sleep),
+            TestSpec::Idleex(sleep) => is_idleex(other, sleep),
+            TestSpec::Idlebgm { sleep, interval } => is_idlebgm(other, sleep, *interval),
+            TestSpec::Idlemany { sleep, hosts } => is_idlemany(other, sleep, hosts),
             TestSpec::Simplestream {
                 dest,
                 test_material,

@@ -7,11 +7,11 @@ ghost use Rattle.ps_json.specs.Tree.{IsWhole};
 ghost use Rattle.ps_time.specs.declared.moment.TheConstants.{MAX_LENGTH};
 ghost use Rattle.plugin_core.specs.Bounds.{IsTest, IsSleep};
 ghost use Rattle.plugin_core.specs.ReadTest.{test_of};
-ghost use Rattle.plugin_core.specs.WriteTest.{length_data, names_data, with_comment, sleeping_members, spec_members, test_data, most_test_bytes};
+ghost use Rattle.plugin_core.specs.WriteTest.{length_data, names_data, with_comment, sleep_members, spec_members, test_data, most_test_bytes};
 ghost use Rattle.plugin_core.specs.declared.test_spec.TestSpec.{TestSpec};
 
 use crate::kind::{kind_name, kind_of};
-use crate::test_spec::TestSpec;
+use crate::test_spec::{Sleep, TestSpec};
 use ps_time::items::Items;
 use ps_time::length_text::{law_length_text, length_text};
 use ps_time::memory::Memory;
@@ -76,20 +76,24 @@ pub fn write_names(alloc: Global, names: &[Text]) -> Result<Value, Memory>
     Ok(Value::Array(values))
 }
 
-fn sleeping_members(
-    alloc: Global,
-    duration: Length,
-    starting: &Option<Text>,
-    parting: &Option<Text>,
-) -> Result<Map<String, Value>, Memory>
-    requires { duration ≤ MAX_LENGTH }
-    ensures { IfOk result (λ members. members_view members.entries
-        ≡ sleeping_members duration starting.now parting.now) }
+fn sleep_members(alloc: Global, sleep: &Sleep) -> Result<Map<String, Value>, Memory>
+    requires { sleep.now.duration ≤ MAX_LENGTH }
+    ensures { IfOk result (λ members. members_view members.entries ≡ sleep_members sleep.now) }
 {
     let mut members = Map::new(alloc);
-    put_length(&mut members, alloc, "duration", duration)?;
-    put_comment(&mut members, alloc, "parting-comment", parting)?;
-    put_comment(&mut members, alloc, "starting-comment", starting)?;
+    put_length(&mut members, alloc, "duration", sleep.duration)?;
+    put_comment(
+        &mut members,
+        alloc,
+        "parting-comment",
+        &sleep.parting_comment,
+    )?;
+    put_comment(
+        &mut members,
+        alloc,
+        "starting-comment",
+        &sleep.starting_comment,
+    )?;
     Ok(members)
 }
 
@@ -114,32 +118,28 @@ fn stream_members(
 
 fn paced_members(
     alloc: Global,
-    duration: Length,
-    starting: &Option<Text>,
-    parting: &Option<Text>,
+    sleep: &Sleep,
     interval: Length,
 ) -> Result<Map<String, Value>, Memory>
-    requires { (duration ≤ MAX_LENGTH) × (interval ≤ MAX_LENGTH) }
+    requires { (sleep.now.duration ≤ MAX_LENGTH) × (interval ≤ MAX_LENGTH) }
     ensures { IfOk result (λ members. members_view members.entries
-        ≡ spec_members (TestSpec.Idlebgm duration starting.now parting.now interval)) }
+        ≡ spec_members (TestSpec.Idlebgm sleep.now interval)) }
 {
-    let mut members = sleeping_members(alloc, duration, starting, parting)?;
+    let mut members = sleep_members(alloc, sleep)?;
     put_length(&mut members, alloc, "interval", interval)?;
     Ok(members)
 }
 
 fn many_members(
     alloc: Global,
-    duration: Length,
-    starting: &Option<Text>,
-    parting: &Option<Text>,
+    sleep: &Sleep,
     hosts: &Items<Text>,
 ) -> Result<Map<String, Value>, Memory>
-    requires { duration ≤ MAX_LENGTH }
+    requires { sleep.now.duration ≤ MAX_LENGTH }
     ensures { IfOk result (λ members. members_view members.entries
-        ≡ spec_members (TestSpec.Idlemany duration starting.now parting.now hosts.now)) }
+        ≡ spec_members (TestSpec.Idlemany sleep.now hosts.now)) }
 {
-    let mut members = sleeping_members(alloc, duration, starting, parting)?;
+    let mut members = sleep_members(alloc, sleep)?;
     let hosts = write_names(alloc, hosts.as_slice())?;
     put(&mut members, alloc, "hosts", hosts)?;
     Ok(members)
@@ -150,28 +150,10 @@ fn spec_members(alloc: Global, test: &TestSpec) -> Result<Map<String, Value>, Me
     ensures { IfOk result (λ members. members_view members.entries ≡ spec_members test.now) }
 {
     match test {
-        TestSpec::Idle {
-            duration,
-            starting_comment,
-            parting_comment,
-        } => sleeping_members(alloc, *duration, starting_comment, parting_comment),
-        TestSpec::Idleex {
-            duration,
-            starting_comment,
-            parting_comment,
-        } => sleeping_members(alloc, *duration, starting_comment, parting_comment),
-        TestSpec::Idlebgm {
-            duration,
-            starting_comment,
-            parting_comment: parting,
-            interval,
-        } => paced_members(alloc, *duration, starting_comment, parting, *interval),
-        TestSpec::Idlemany {
-            duration,
-            starting_comment,
-            parting_comment,
-            hosts,
-        } => many_members(alloc, *duration, starting_comment, parting_comment, hosts),
+        TestSpec::Idle(sleep) => sleep_members(alloc, sleep),
+        TestSpec::Idleex(sleep) => sleep_members(alloc, sleep),
+        TestSpec::Idlebgm { sleep, interval } => paced_members(alloc, sleep, *interval),
+        TestSpec::Idlemany { sleep, hosts } => many_members(alloc, sleep, hosts),
         TestSpec::Simplestream {
             dest,
             test_material,

@@ -4,6 +4,4 @@
 #[cfg(test)]
 mod reading_tests;
 #[cfg(test)]
-mod running_tests;
-#[cfg(test)]
 mod tests;

@@ -3,9 +3,9 @@ ghost use Rattle.std.specs.Prelude.{◌≤◌, IfOk};
 ghost use Rattle.ps_time.specs.declared.moment.TheConstants.{MAX_LENGTH};
 ghost use Rattle.plugin_core.specs.TestSpec.{test_length};
 
-use plugin_core::test_spec::{TestSpec, class_of, length_of};
-use plugin_core::tool::{Tool, tool_name};
-use ps_time::class::Class;
+use plugin_core::kind::{class_of_kind, kind_name, kinds};
+use plugin_core::test_spec::{Sleep, TestSpec, class_of, length_of};
+use ps_time::class::{Class, class_name};
 use ps_time::items::Items;
 use ps_time::memory::Memory;
 use ps_time::same::Same;
@@ -13,35 +13,45 @@ use ps_time::text::Text;
 use std::alloc::Global;
 use std::test::Fail;
 
-fn idle(alloc: Global) -> Result<TestSpec, Memory>
-    ensures { IfOk result (λ test. test_length test ≤ MAX_LENGTH) }
+fn begins(alloc: Global) -> Result<Sleep, Memory>
+    ensures { IfOk result (λ sleep. sleep.duration ≤ MAX_LENGTH) }
 {
     let starting_comment = Some(Text::new(alloc, "begins")?);
-    Ok(TestSpec::Idle {
+    Ok(Sleep {
         duration: 10,
         starting_comment,
         parting_comment: None,
     })
 }
 
-fn idleex(alloc: Global) -> Result<TestSpec, Memory>
-    ensures { IfOk result (λ test. test_length test ≤ MAX_LENGTH) }
+fn is_over(alloc: Global) -> Result<Sleep, Memory>
+    ensures { IfOk result (λ sleep. sleep.duration ≤ MAX_LENGTH) }
 {
     let parting_comment = Some(Text::new(alloc, "is over")?);
-    Ok(TestSpec::Idleex {
+    Ok(Sleep {
         duration: 20,
         starting_comment: None,
         parting_comment,
     })
 }
 
+fn idle(alloc: Global) -> Result<TestSpec, Memory>
+    ensures { IfOk result (λ test. test_length test ≤ MAX_LENGTH) }
+{
+    Ok(TestSpec::Idle(begins(alloc)?))
+}
+
+fn idleex(alloc: Global) -> Result<TestSpec, Memory>
+    ensures { IfOk result (λ test. test_length test ≤ MAX_LENGTH) }
+{
+    Ok(TestSpec::Idleex(is_over(alloc)?))
+}
+
 fn idlebgm() -> TestSpec
     ensures { test_length result ≤ MAX_LENGTH }
 {
     TestSpec::Idlebgm {
-        duration: 30,
-        starting_comment: None,
-        parting_comment: None,
+        sleep: Sleep::of(30),
         interval: 7,
     }
 }
@@ -53,9 +63,7 @@ fn idlemany(alloc: Global) -> Result<TestSpec, Memory>
     hosts.push(Text::new(alloc, "a")?)?;
     hosts.push(Text::new(alloc, "b")?)?;
     Ok(TestSpec::Idlemany {
-        duration: 40,
-        starting_comment: None,
-        parting_comment: None,
+        sleep: Sleep::of(40),
         hosts,
     })
 }
@@ -154,24 +162,29 @@ fn copies(rt: HostRuntime) -> Result<(), Fail> {
     Ok(())
 }
 
-static NAMES: [(Tool, &str); 4] = [
-    (Tool::Sleep, "sleep"),
-    (Tool::Snooze, "snooze"),
-    (Tool::Sleepbgm, "sleepbgm"),
-    (Tool::Simplestreamer, "simplestreamer"),
+// Each kind, its class and what stands behind it in the list of all.
+static KINDS: [(&str, &str); 5] = [
+    ("idle", "background"),
+    ("idlebgm", "background-multi"),
+    ("idleex", "exclusive"),
+    ("idlemany", "exclusive"),
+    ("simplestream", "normal"),
 ];
 
-fn check_names(alloc: Global, table: &[(Tool, &str)]) -> Result<(), Fail> {
-    for (tool, name) in table {
-        let text = format!(in alloc; "{tool}")?;
-        if tool_name(*tool) != *name || text.as_str() != *name {
-            return Err(Fail::new(format_args!("{name} is shown as {text}")));
+fn check_kinds(table: &[(&str, &str)]) -> Result<(), Fail> {
+    for index in 0..table.len() {
+        let (name, class) = table[index];
+        match kinds().get(index) {
+            Some(kind) if kind_name(*kind) == name && class_name(class_of_kind(*kind)) == class =>
+                {}
+            _ => return Err(Fail::new(format_args!("{name} is not of the class {class}"))),
         }
     }
     Ok(())
 }
 
 #[test]
-fn names(rt: HostRuntime) -> Result<(), Fail> {
-    check_names(rt.alloc(), &NAMES)
+fn all_kinds(rt: HostRuntime) -> Result<(), Fail> {
+    assert!(rt; kinds().len() == KINDS.len());
+    check_kinds(&KINDS)
 }

@@ -18,15 +18,6 @@ use std::alloc::Global;
 use std::cmp::Ordering;
 use std::test::Fail;
 
-fn key(lead: u16, task: u32, number: u32, attempt: u16) -> RunKey {
-    RunKey {
-        lead,
-        task,
-        number,
-        attempt,
-    }
-}
-
 fn is_text_copied(alloc: Global) -> Result<bool, Memory> {
     let text = Text::new(alloc, "a-host")?;
     let copy = text.copy(alloc)?;
@@ -319,21 +310,54 @@ fn decimal_digits(rt: HostRuntime) -> Result<(), Fail> {
     Ok(())
 }
 
-#[test]
-fn keys_are_ordered_by_their_fields(rt: HostRuntime) {
-    let keys = [
-        key(1, 9, 9, 9),
-        key(2, 0, 9, 9),
-        key(2, 1, 0, 9),
-        key(2, 1, 1, 0),
-        key(2, 1, 1, 1),
-    ];
-    for i in 0..5_usize {
-        for j in 0..5_usize {
-            assert_eq!(rt; keys[i].order(&keys[j]), i.cmp(&j));
-            assert_eq!(rt; keys[i].same(&keys[j]), i == j);
+static KEYS: [RunKey; 5] = [
+    RunKey {
+        lead: 1,
+        task: 9,
+        number: 9,
+        attempt: 9,
+    },
+    RunKey {
+        lead: 2,
+        task: 0,
+        number: 9,
+        attempt: 9,
+    },
+    RunKey {
+        lead: 2,
+        task: 1,
+        number: 0,
+        attempt: 9,
+    },
+    RunKey {
+        lead: 2,
+        task: 1,
+        number: 1,
+        attempt: 0,
+    },
+    RunKey {
+        lead: 2,
+        task: 1,
+        number: 1,
+        attempt: 1,
+    },
+];
+
+// Each key beside each, where they stand in their order.
+fn check_order(keys: &[RunKey]) -> Result<(), Fail> {
+    for i in 0..keys.len() {
+        for j in 0..keys.len() {
+            if keys[i].order(&keys[j]) != i.cmp(&j) || keys[i].same(&keys[j]) != (i == j) {
+                return Err(Fail::new(format_args!("at {i} and {j}")));
+            }
         }
     }
+    Ok(())
+}
+
+#[test]
+fn keys_are_ordered_by_their_fields(_rt: HostRuntime) -> Result<(), Fail> {
+    check_order(&KEYS)
 }
 
 // Whether a text named this and nothing else.
@@ -344,42 +368,71 @@ fn names(found: Option<Id>, id: Id) -> bool {
     }
 }
 
-#[test]
-fn identifiers_are_uuids_of_version_8(rt: HostRuntime) -> Result<(), Memory> {
-    let alloc = rt.alloc();
-    let task = Id::Task { lead: 1, task: 1 };
-    let text = id_text(alloc, task)?;
-    assert!(rt; text.is("00010000-0001-8000-8000-000000000000"));
-    assert!(rt; names(read_id(text.as_str()), task));
-    assert!(rt; names(uuid_key(key_uuid(task)), task));
-    let run = Id::Run(key(2, 65537, 258, 7));
-    let text = id_text(alloc, run)?;
-    assert!(rt; text.is("00020001-0001-8001-8000-000001020007"));
-    for text in [
-        "00020001-0001-8001-8000-000001020007",
-        "00020001000180018000000001020007",
-        "{00020001-0001-8001-8000-000001020007}",
-        "urn:uuid:00020001-0001-8001-8000-000001020007",
-    ] {
-        assert!(rt; names(read_id(text), run), "at {text}");
+const TASK: Id = Id::Task { lead: 1, task: 1 };
+
+const RUN: Id = Id::Run(RunKey {
+    lead: 2,
+    task: 65_537,
+    number: 258,
+    attempt: 7,
+});
+
+// Whether the identifier is written so, and read again.
+fn is_written(alloc: Global, id: Id, text: &str) -> Result<bool, Memory> {
+    Ok(
+        id_text(alloc, id)?.is(text)
+            && names(read_id(text), id)
+            && names(uuid_key(key_uuid(id)), id),
+    )
+}
+
+static RUN_TEXTS: [&str; 4] = [
+    "00020001-0001-8001-8000-000001020007",
+    "00020001000180018000000001020007",
+    "{00020001-0001-8001-8000-000001020007}",
+    "urn:uuid:00020001-0001-8001-8000-000001020007",
+];
+
+fn check_run_texts(texts: &[&str]) -> Result<(), Fail> {
+    for text in texts {
+        if !names(read_id(text), RUN) {
+            return Err(Fail::new(format_args!("at {text}")));
+        }
     }
     Ok(())
 }
 
 #[test]
-fn other_uuids_name_nothing(rt: HostRuntime) {
-    for other in [
-        "00010000-0001-4000-8000-000000000000",
-        "00010000-0001-8000-c000-000000000000",
-        "00010000-0001-8000-0000-000000000000",
-        "00010000-0001-8002-8000-000000000000",
-        "00010000-0001-8001-8001-000000000000",
-        "00010000-0001-8000-8000-000000010000",
-        "00010000-0001-8000-8000-000000000001",
-        "00010000-0001-8001-8000-00000000000",
-        "",
-        "a",
-    ] {
-        assert!(rt; read_id(other).is_none(), "at {other}");
+fn identifiers_are_uuids_of_version_8(rt: HostRuntime) -> Result<(), Fail> {
+    let alloc = rt.alloc();
+    assert!(rt; is_written(alloc, TASK, "00010000-0001-8000-8000-000000000000")?);
+    assert!(rt; is_written(alloc, RUN, "00020001-0001-8001-8000-000001020007")?);
+    check_run_texts(&RUN_TEXTS)
+}
+
+static NO_IDS: [&str; 10] = [
+    "00010000-0001-4000-8000-000000000000",
+    "00010000-0001-8000-c000-000000000000",
+    "00010000-0001-8000-0000-000000000000",
+    "00010000-0001-8002-8000-000000000000",
+    "00010000-0001-8001-8001-000000000000",
+    "00010000-0001-8000-8000-000000010000",
+    "00010000-0001-8000-8000-000000000001",
+    "00010000-0001-8001-8000-00000000000",
+    "",
+    "a",
+];
+
+fn check_no_ids(texts: &[&str]) -> Result<(), Fail> {
+    for text in texts {
+        if read_id(text).is_some() {
+            return Err(Fail::new(format_args!("at {text}")));
+        }
     }
+    Ok(())
+}
+
+#[test]
+fn other_uuids_name_nothing(_rt: HostRuntime) -> Result<(), Fail> {
+    check_no_ids(&NO_IDS)
 }

@@ -7,6 +7,7 @@ use Rattle.ps_time.specs.Span.{Span}
 use Rattle.ps_time.specs.declared.key.RunKey.{RunKey}
 use Rattle.ps_time.specs.declared.asker.Verdict.TheVariants.{AboveCeiling}
 use Rattle.plugin_core.specs.declared.test_spec.TestSpec.{TestSpec}
+use Rattle.plugin_core.specs.TestSpec.{sleep_of}
 use Rattle.plugin_core.specs.declared.test_spec.TestSpec.TheVariants.{Idleex, Simplestream}
 use Rattle.run_states.specs.Life.{settled_rows}
 use Rattle.run_states.specs.declared.row.RunRow.{RunRow}
@@ -50,7 +51,7 @@ abbrev normal : TestSpec
 normal = Simplestream [] [] 0 50
 
 abbrev exclusive : TestSpec
-exclusive = Idleex 20 None None
+exclusive = Idleex (sleep_of 20)
 
 declared : ok_line 1 ≡ codes "1 ok\n"
 unfolding digits

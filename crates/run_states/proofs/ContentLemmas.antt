@@ -9,6 +9,7 @@ use Rattle.ps_time.specs.Key.{key_cmp}
 use Rattle.ps_time.specs.declared.asker.Asker.{Asker}
 use Rattle.ps_time.specs.declared.key.RunKey.{RunKey}
 use Rattle.ps_time.proofs.KeyLemmas.{same_key, key_cmp_same}
+use Rattle.plugin_core.specs.declared.test_spec.Sleep.{Sleep}
 use Rattle.plugin_core.specs.declared.test_spec.TestSpec.{TestSpec}
 use Rattle.plugin_core.specs.declared.test_spec.TestSpec.TheVariants.{Idle, Idleex, Idlebgm, Idlemany, Simplestream}
 use Rattle.run_states.specs.declared.proposal.Proposal.{Proposal}
@@ -44,26 +45,29 @@ texts_same : (xs : List (List ℕ)) → same_texts xs xs ≡ true
 texts_same xs = (slice_eq-Decides bytes_eq-Decides xs xs (same_texts xs xs) refl).1 refl
 
 -- ---- tests
-sleep_is : (d : ℕ) (s p : Option (List ℕ)) (e : ℕ) (t q : Option (List ℕ)) → same_sleep d s p e t q ≡ true → (d ≡ e) × (s ≡ t) × (p ≡ q)
-sleep_is d s p e t q holds =
-    let a = and_both (d == e) (same_option bytes_eq s t && same_option bytes_eq p q) holds in
-    let b = and_both (same_option bytes_eq s t) (same_option bytes_eq p q) a.1 in
-    ((Decides-eqb d e).0 a.0, option_is s t b.0, option_is p q b.1)
+sleep_is : (y z : Sleep) → same_sleep y z ≡ true → y ≡ z
+sleep_is y z holds =
+    let comments = same_option bytes_eq y.starting_comment z.starting_comment && same_option bytes_eq y.parting_comment z.parting_comment in
+    let a = and_both (y.duration == z.duration) comments holds in
+    let b = and_both (same_option bytes_eq y.starting_comment z.starting_comment) (same_option bytes_eq y.parting_comment z.parting_comment) a.1 in
+    same_fields y.duration z.duration y.starting_comment z.starting_comment y.parting_comment z.parting_comment ((Decides-eqb y.duration z.duration).0 a.0) (option_is y.starting_comment z.starting_comment b.0) (option_is y.parting_comment z.parting_comment b.1)
+  where
+    sleep : ℕ → Option (List ℕ) → Option (List ℕ) → Sleep
+    sleep d s p = record { duration = d; starting_comment = s; parting_comment = p }
 
-sleep_same : (d : ℕ) (s p : Option (List ℕ)) → same_sleep d s p d s p ≡ true
-sleep_same d s p = both_and _ _ ((Decides-eqb d d).1 refl) (both_and _ _ (option_same s) (option_same p))
+    same_fields : (d e : ℕ) (s t p q : Option (List ℕ)) → d ≡ e → s ≡ t → p ≡ q → sleep d s p ≡ sleep e t q
+    same_fields d e s t p q de st pq = rw (de, st, pq) refl
+
+sleep_same : (z : Sleep) → same_sleep z z ≡ true
+sleep_same z = both_and _ _ ((Decides-eqb z.duration z.duration).1 refl) (both_and _ _ (option_same z.starting_comment) (option_same z.parting_comment))
 
 test_is : (a b : TestSpec) → same_test a b ≡ true → a ≡ b
-test_is (Idle d s p) (Idle e t q) holds = let f = sleep_is d s p e t q holds in rw (f.0, f.1, f.2) refl
-test_is (Idleex d s p) (Idleex e t q) holds = let f = sleep_is d s p e t q holds in rw (f.0, f.1, f.2) refl
-test_is (Idlebgm d s p i) (Idlebgm e t q j) holds =
-    let both = and_both (same_sleep d s p e t q) (i == j) holds in
-    let f = sleep_is d s p e t q both.0 in
-    rw (f.0, f.1, f.2, (Decides-eqb i j).0 both.1) refl
-test_is (Idlemany d s p hosts) (Idlemany e t q others) holds =
-    let both = and_both (same_sleep d s p e t q) (same_texts hosts others) holds in
-    let f = sleep_is d s p e t q both.0 in
-    rw (f.0, f.1, f.2, texts_is hosts others both.1) refl
+test_is (Idle y) (Idle z) holds = ap Idle (sleep_is y z holds)
+test_is (Idleex y) (Idleex z) holds = ap Idleex (sleep_is y z holds)
+test_is (Idlebgm y i) (Idlebgm z j) holds =
+    let both = and_both (same_sleep y z) (i == j) holds in ap₂ Idlebgm (sleep_is y z both.0) ((Decides-eqb i j).0 both.1)
+test_is (Idlemany y hosts) (Idlemany z others) holds =
+    let both = and_both (same_sleep y z) (same_texts hosts others) holds in ap₂ Idlemany (sleep_is y z both.0) (texts_is hosts others both.1)
 test_is (Simplestream a m d o) (Simplestream b n e u) holds =
     let one = and_both (bytes_eq a b) (bytes_eq m n && ((d == e) && (o == u))) holds in
     let two = and_both (bytes_eq m n) ((d == e) && (o == u)) one.1 in
@@ -72,10 +76,10 @@ test_is (Simplestream a m d o) (Simplestream b n e u) holds =
 test_is _ _ fails = cc
 
 test_same : (a : TestSpec) → same_test a a ≡ true
-test_same (Idle d s p) = sleep_same d s p
-test_same (Idleex d s p) = sleep_same d s p
-test_same (Idlebgm d s p i) = both_and _ _ (sleep_same d s p) ((Decides-eqb i i).1 refl)
-test_same (Idlemany d s p hosts) = both_and _ _ (sleep_same d s p) (texts_same hosts)
+test_same (Idle z) = sleep_same z
+test_same (Idleex z) = sleep_same z
+test_same (Idlebgm z i) = both_and _ _ (sleep_same z) ((Decides-eqb i i).1 refl)
+test_same (Idlemany z hosts) = both_and _ _ (sleep_same z) (texts_same hosts)
 test_same (Simplestream a m d o) =
     both_and _ _ ((bytes_eq-Decides a a).1 refl) (both_and _ _ ((bytes_eq-Decides m m).1 refl) (both_and _ _ ((Decides-eqb d d).1 refl) ((Decides-eqb o o).1 refl)))
 

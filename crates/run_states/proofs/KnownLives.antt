@@ -1,5 +1,6 @@
 -- The tables of a row's life on known rows: a run over the seconds 100 to 150, worked out by hand.
 use Rattle.std.proofs.Common.{◌≡◌, ℕ, pos, [], Option, Some, None, true, false, refl}
+use Rattle.plugin_core.specs.TestSpec.{sleep_of}
 use Rattle.plugin_core.specs.declared.test_spec.TestSpec.TheVariants.{Idleex}
 use Rattle.run_states.specs.declared.row.Ending.{Ending}
 use Rattle.run_states.specs.declared.row.RunRow.{RunRow}
@@ -12,7 +13,7 @@ use Rattle.run_states.specs.Life.{lapse_of, state_of}
 abbrev run : Option ℕ → Option ℕ → Option ℕ → Option ℕ → Option Ending → Option Closing → RunRow
 run asked accepted confirmed started ended closed = record {
   key = record { lead = 1; task = 0; number = 1; attempt = 0 };
-  test = Idleex 50 None None;
+  test = Idleex (sleep_of 50);
   tool = None;
   interval = Some (record { start = 100; end = 150 });
   priority = pos 0;

@@ -5,7 +5,7 @@ use Rattle.std.proofs.lemmas.List.Elements.{All-map}
 use Rattle.ps_time.specs.Numbers.{grace, greatest_moment, hold}
 use Rattle.ps_time.specs.Span.{Span, span_of}
 use Rattle.ps_time.specs.declared.key.RunKey.{RunKey}
-use Rattle.plugin_core.specs.Choice.{tool_of_text}
+use Rattle.plugin_tool.specs.Choice.{tool_of_text}
 use Rattle.plugin_core.specs.TestSpec.{test_length}
 use Rattle.archive_retry.specs.Merge.{IsResult, IsResultText, IsTreeText}
 use Rattle.archive_retry.specs.declared.state.ArchiveState.{ArchiveState}

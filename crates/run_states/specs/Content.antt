@@ -5,6 +5,7 @@ use Rattle.std.specs.Prelude.{◌&&◌, ◌==◌, Bool, List, None, Option, Some
 use Rattle.ps_time.specs.Key.{key_cmp}
 use Rattle.ps_time.specs.Span.{Span}
 use Rattle.ps_time.specs.declared.asker.Asker.{Asker}
+use Rattle.plugin_core.specs.declared.test_spec.Sleep.{Sleep}
 use Rattle.plugin_core.specs.declared.test_spec.TestSpec.{TestSpec}
 use Rattle.plugin_core.specs.declared.test_spec.TestSpec.TheVariants.{Idle, Idleex, Idlebgm, Idlemany, Simplestream}
 use Rattle.run_states.specs.declared.proposal.Proposal.{Proposal}
@@ -21,15 +22,16 @@ abbrev pub same_texts : List (List ℕ) → List (List ℕ) → Bool
 same_texts = pointwise bytes_eq
 
 -- the same duration and comments
-abbrev pub same_sleep : ℕ → Option (List ℕ) → Option (List ℕ) → ℕ → Option (List ℕ) → Option (List ℕ) → Bool
-same_sleep d s p e t q = (d == e) && (same_option bytes_eq s t && same_option bytes_eq p q)
+abbrev pub same_sleep : Sleep → Sleep → Bool
+same_sleep y z =
+    (y.duration == z.duration) && (same_option bytes_eq y.starting_comment z.starting_comment && same_option bytes_eq y.parting_comment z.parting_comment)
 
 -- the same test, with the same parameters
 abbrev pub same_test : TestSpec → TestSpec → Bool
-same_test (Idle d s p) (Idle e t q) = same_sleep d s p e t q
-same_test (Idleex d s p) (Idleex e t q) = same_sleep d s p e t q
-same_test (Idlebgm d s p i) (Idlebgm e t q j) = same_sleep d s p e t q && (i == j)
-same_test (Idlemany d s p hosts) (Idlemany e t q others) = same_sleep d s p e t q && same_texts hosts others
+same_test (Idle y) (Idle z) = same_sleep y z
+same_test (Idleex y) (Idleex z) = same_sleep y z
+same_test (Idlebgm y i) (Idlebgm z j) = same_sleep y z && (i == j)
+same_test (Idlemany y hosts) (Idlemany z others) = same_sleep y z && same_texts hosts others
 same_test (Simplestream a m d o) (Simplestream b n e u) = bytes_eq a b && (bytes_eq m n && ((d == e) && (o == u)))
 same_test _ _ = false
 

@@ -7,7 +7,7 @@ use Rattle.std.specs.Prelude.{◌+◌, ◌≡◌, ◌≤◌, All, IfSome, IsNone
 use Rattle.ps_time.specs.Numbers.{greatest_length, greatest_moment}
 use Rattle.ps_time.specs.Span.{Range, Span, span_of}
 use Rattle.plugin_core.specs.Bounds.{IsTest}
-use Rattle.plugin_core.specs.Choice.{tool_of_text}
+use Rattle.plugin_tool.specs.Choice.{tool_of_text}
 use Rattle.plugin_core.specs.TestSpec.{test_length}
 use Rattle.plugin_core.specs.declared.test_spec.TestSpec.{TestSpec}
 use Rattle.archive_retry.specs.Merge.{IsTreeText}

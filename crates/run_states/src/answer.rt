@@ -15,10 +15,12 @@ use std::alloc::Global;
 pub struct FreeAnswer {
     /// The names of the host's tools that run the test.
     pub tools: Items<Text>,
+    /// The starts at which it is free, and those that preemption would free.
     pub tiers: Tiers,
 }
 
 impl FreeAnswer {
+    /// The same answer once more.
     pub fn copy(&self, alloc: Global) -> Result<FreeAnswer, Memory>
         ensures { IfOk result (λ made. made ≡ self.now) }
     {
@@ -76,6 +78,7 @@ impl Answer {
 /// What a lead knows of one other participant.
 #[derive(Drop)]
 pub struct Other {
+    /// When it is free, where it answered.
     pub free: Option<FreeAnswer>,
     /// Whether it accepted.
     pub accepted: bool,
@@ -132,6 +135,7 @@ impl Other {
         }
     }
 
+    /// The same once more.
     pub fn copy(&self, alloc: Global) -> Result<Other, Memory>
         ensures { IfOk result (λ made. made ≡ self.now) }
     {

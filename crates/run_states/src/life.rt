@@ -22,14 +22,18 @@ pub const GRACE: u64 = 15;
 /// A step in the life of a row.
 #[derive(Drop)]
 pub enum LifeStep {
+    /// The run is confirmed.
     Confirm,
+    /// Its tool is started.
     Start,
+    /// It ends with a result.
     End {
         /// Whether the run succeeded.
         good: bool,
         /// The result, a JSON text.
         body: Text,
     },
+    /// It is given up.
     Close(Why),
 }
 
@@ -38,12 +42,14 @@ pub enum LifeStep {
 pub struct Wrong;
 
 impl RunRow {
+    /// Whether the run was accepted here, and isn't closed.
     pub fn is_booked(&self) -> bool
         ensures { result ≡ is_booked self.now }
     {
         self.accepted.is_some() && self.closed.is_none()
     }
 
+    /// Whether the run has started and not ended.
     pub fn is_active(&self) -> bool
         ensures { result ≡ is_active self.now }
     {
@@ -51,7 +57,7 @@ impl RunRow {
     }
 
     /// Sets the moment of the confirmation, unless the row has one.
-    pub fn confirm(&mut self, moment: Moment)
+    pub(crate) fn confirm(&mut self, moment: Moment)
         ensures { self.new ≡ confirm_row moment self.old }
     {
         if self.confirmed.is_none() {
@@ -60,7 +66,7 @@ impl RunRow {
     }
 
     /// Sets the moment of the start, unless the row has one.
-    pub fn start(&mut self, moment: Moment)
+    pub(crate) fn start(&mut self, moment: Moment)
         ensures { self.new ≡ start_row moment self.old }
     {
         if self.started.is_none() {
@@ -69,7 +75,7 @@ impl RunRow {
     }
 
     /// Sets how the run ended, unless it ended before.
-    pub fn end(&mut self, ending: Ending)
+    pub(crate) fn end(&mut self, ending: Ending)
         requires result { IsResultText ending.body }
         ensures { self.new ≡ end_row ending self.old }
     {
@@ -81,7 +87,7 @@ impl RunRow {
     }
 
     /// Closes the row, unless it is closed.
-    pub fn close(&mut self, closing: Closing)
+    pub(crate) fn close(&mut self, closing: Closing)
         ensures { self.new ≡ close_row closing self.old }
     {
         if self.closed.is_none() {
@@ -92,7 +98,7 @@ impl RunRow {
     }
 
     /// Sets what the step sets, unless the row has it.
-    pub fn mark(&mut self, step: LifeStep, moment: Moment)
+    pub(crate) fn mark(&mut self, step: LifeStep, moment: Moment)
         requires result { BringsResult step }
         ensures { self.new ≡ marked_row step moment self.old }
     {

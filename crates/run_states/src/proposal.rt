@@ -15,17 +15,22 @@ use std::alloc::Global;
 /// A run at a start. Its class, length and participants follow from the test and the lead's name.
 #[derive(Drop)]
 pub struct Proposal {
+    /// Of which run.
     pub key: RunKey,
+    /// What it measures.
     pub test: TestSpec,
     /// The name of the tool.
     pub tool: Text,
     /// In seconds since 1970 UTC.
     pub start: Moment,
+    /// A run of a greater one may preempt it.
     pub priority: i16,
+    /// Who asks, and which host.
     pub asker: Asker,
 }
 
 impl Proposal {
+    /// The same proposal once more.
     pub fn copy(&self, alloc: Global) -> Result<Proposal, Memory>
         ensures { IfOk result (λ made. made ≡ self.now) }
     {
@@ -62,13 +67,18 @@ impl Same for Proposal {
 /// Which starts in a window are free for a run.
 #[derive(Drop)]
 pub struct Question {
+    /// Of which run.
     pub key: RunKey,
+    /// What it measures.
     pub test: TestSpec,
+    /// A run of a greater one may preempt it.
     pub priority: i16,
+    /// The starts that are asked about.
     pub window: Window,
 }
 
 impl Question {
+    /// The same question once more.
     pub fn copy(&self, alloc: Global) -> Result<Question, Memory>
         ensures { IfOk result (λ made. made ≡ self.now) }
     {

@@ -29,6 +29,7 @@ pub struct Ending {
 }
 
 impl Ending {
+    /// The same ending once more.
     pub fn copy(&self, alloc: Global) -> Result<Ending, Memory>
         ensures { IfOk result (λ made. made ≡ self.now) }
     {
@@ -55,22 +56,31 @@ impl Same for Ending {
 /// A run, as one host keeps it. Moments are seconds since 1970 UTC.
 #[derive(Drop)]
 pub struct RunRow {
+    /// Which run it is.
     pub key: RunKey,
+    /// What it measures.
     pub test: TestSpec,
     /// The name of the tool, once the run was accepted here.
     pub tool: Option<Text>,
     /// What it reserves, once it was accepted here. A run that ends early keeps it.
     pub interval: Option<Interval>,
+    /// A run of a greater one may preempt it.
     pub priority: i16,
     /// The names of the hosts that take part, the lead's first.
     pub participants: Items<Text>,
+    /// Who asked for it, and which host.
     pub asker: Asker,
+    /// When this host accepted it.
     pub accepted: Option<Moment>,
+    /// When this host learned that all participants had accepted it.
     pub confirmed: Option<Moment>,
+    /// When its tool was started here.
     pub started: Option<Moment>,
+    /// How its tool ended here.
     pub ended: Option<Ending>,
     /// When the test's material came.
     pub material: Option<Moment>,
+    /// When and why it was given up.
     pub closed: Option<Closing>,
     /// On the lead of a task's run, the starts that it asked about.
     pub question: Option<Window>,

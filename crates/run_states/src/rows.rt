@@ -38,6 +38,7 @@ impl Model for Rows {
 }
 
 impl Rows {
+    /// No rows, without reserved places.
     pub fn new(alloc: Global) -> Rows
         ensures { result.list ≡ [] }
     {
@@ -64,6 +65,7 @@ impl Rows {
         self.rows.as_slice()
     }
 
+    /// The row of the key, if there is one.
     pub fn find(&self, key: RunKey) -> Option<&RunRow>
         ensures { option_copied result ≡ find_row self.now.list key }
     {

@@ -59,6 +59,7 @@ impl Drop for Denial {
 }
 
 impl Denial {
+    /// The same denial once more.
     pub fn copy(&self, alloc: Global) -> Result<Denial, Memory>
         ensures { IfOk result (λ made. made ≡ self.now) }
     {
@@ -127,6 +128,7 @@ impl Drop for Cause {
 }
 
 impl Cause {
+    /// The same cause once more.
     pub fn copy(&self, alloc: Global) -> Result<Cause, Memory>
         ensures { IfOk result (λ made. made ≡ self.now) }
     {
@@ -168,7 +170,9 @@ pub enum Why {
     Missed,
     /// A run of higher priority, with this key, took its place.
     Preempted(RunKey),
+    /// It didn't come about, for this cause.
     Nonstart(Cause),
+    /// It was canceled.
     Canceled,
 }
 
@@ -184,6 +188,7 @@ impl Drop for Why {
 }
 
 impl Why {
+    /// The same reason once more.
     pub fn copy(&self, alloc: Global) -> Result<Why, Memory>
         ensures { IfOk result (λ made. made ≡ self.now) }
     {
@@ -219,10 +224,12 @@ impl Same for Why {
 pub struct Closing {
     /// In seconds since 1970 UTC.
     pub moment: Moment,
+    /// The reason.
     pub why: Why,
 }
 
 impl Closing {
+    /// The same closing once more.
     pub fn copy(&self, alloc: Global) -> Result<Closing, Memory>
         ensures { IfOk result (λ made. made ≡ self.now) }
     {

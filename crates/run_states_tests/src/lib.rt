@@ -2,4 +2,8 @@
 #![tactic(auto)]
 
 #[cfg(test)]
+mod full_row_tests;
+#[cfg(test)]
+mod life_tests;
+#[cfg(test)]
 mod tests;

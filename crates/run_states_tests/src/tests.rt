@@ -1,6 +1,6 @@
 //! Names of states, against the table of docs/specification/run-rows.md, copies, and rows that take
 //! steps and facts.
-use plugin_core::test_spec::TestSpec;
+use plugin_core::test_spec::{Sleep, TestSpec};
 use ps_time::asker::Asker;
 use ps_time::class::Class;
 use ps_time::interval::{Interval, Window};
@@ -51,7 +51,7 @@ fn is_other_copied(alloc: Global) -> Result<bool, Memory> {
     Ok(other.copy(alloc)?.same(&other))
 }
 
-const KEY: RunKey = RunKey {
+pub(crate) const KEY: RunKey = RunKey {
     lead: 1,
     task: 2,
     number: 3,
@@ -66,7 +66,7 @@ fn pair(alloc: Global) -> Result<Items<Text>, Memory> {
     Ok(names)
 }
 
-fn an_asker(alloc: Global) -> Result<Asker, Memory> {
+pub(crate) fn an_asker(alloc: Global) -> Result<Asker, Memory> {
     let requester = Text::new(alloc, "127.0.0.1")?;
     let server = Text::new(alloc, "a")?;
     Ok(Asker { requester, server })
@@ -89,11 +89,7 @@ fn one_other(alloc: Global) -> Result<Items<Other>, Memory> {
 fn asked(alloc: Global, participants: Items<Text>, asker: Asker, others: Items<Other>) -> RunRow {
     RunRow {
         key: KEY,
-        test: TestSpec::Idleex {
-            duration: 10,
-            starting_comment: None,
-            parting_comment: None,
-        },
+        test: TestSpec::Idleex(Sleep::of(10)),
         tool: None,
         interval: None,
         priority: 0,
@@ -165,7 +161,7 @@ fn takes_facts(mut row: RunRow, tool: Text) -> bool {
         && row.rest() == 70
 }
 
-fn is_row_copied(alloc: Global, row: RunRow) -> Result<bool, Memory> {
+pub(crate) fn is_row_copied(alloc: Global, row: RunRow) -> Result<bool, Memory> {
     Ok(row.copy(alloc)?.same(&row))
 }
 

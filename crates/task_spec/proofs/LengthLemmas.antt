@@ -13,7 +13,7 @@ use Rattle.serde_json.specs.View.{items_of}
 use Rattle.serde_json.specs.Written.{compact_text, members_text}
 use Rattle.ps_json.specs.TreeText.{kept_tree}
 use Rattle.ps_time.proofs.PictureLemmas.{and_true}
-use Rattle.plugin_core.proofs.ChoiceLemmas.{tool_length}
+use Rattle.plugin_tool.proofs.ChoiceLemmas.{tool_length}
 use Rattle.plugin_core.proofs.LengthLemmas.{text_short, items_short, member_short, put_short, length_short, moment_short, test_short}
 use Rattle.plugin_core.specs.WriteTest.{length_data, names_data, test_data}
 use Rattle.archive_retry.specs.Bounds.{IsEntry, IsPolicy}

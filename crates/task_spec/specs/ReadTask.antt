@@ -11,7 +11,7 @@ use Rattle.ps_json.specs.Kinds.{count_of, text_of, list_of, members_of, integer_
 use Rattle.ps_json.specs.declared.fault.JsonFault.TheVariants.{WrongKind}
 use Rattle.plugin_core.specs.declared.test_spec.TestSpec.{TestSpec}
 use Rattle.plugin_core.specs.declared.test_spec.TestSpec.TheVariants.{Idle, Idleex, Idlebgm, Idlemany, Simplestream}
-use Rattle.plugin_core.specs.Choice.{tool_of_text}
+use Rattle.plugin_tool.specs.Choice.{tool_of_text}
 use Rattle.ps_json.specs.Member.{required, optional, member_then}
 use Rattle.plugin_core.specs.ReadTest.{test_of}
 use Rattle.schedule_rule.specs.Rule.{Schedule}
@@ -31,10 +31,10 @@ schema name d = in_json (count_of name 1 5 d)
 
 -- the lead is the first of the hosts of a test that has some
 abbrev pub leads : List ℕ → TestSpec → Bool
-leads lead (Idle duration starting parting) = true
-leads lead (Idleex duration starting parting) = true
-leads lead (Idlebgm duration starting parting interval) = true
-leads lead (Idlemany duration starting parting hosts) = is_first hosts
+leads lead (Idle sleep) = true
+leads lead (Idleex sleep) = true
+leads lead (Idlebgm sleep interval) = true
+leads lead (Idlemany sleep hosts) = is_first hosts
   where
     is_first : List (List ℕ) → Bool
     is_first [] = false

@@ -1,7 +1,0 @@
-use Rattle.std.proofs.Common.{◌≡◌, drop}
-use Rattle.plugin_core.specs.Choice.{first_wanted}
-use Rattle.plugin_core.proofs.choice.first_wanted.Given as goal
-
--- what is left decides
-abbrev pub invariant-loop-name : goal.invariant-loop-name
-invariant-loop-name l = first_wanted l.lists l.wanted ≡ first_wanted l.lists (drop l.name-index l.wanted)

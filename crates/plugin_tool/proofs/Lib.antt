@@ -1,0 +1,4 @@
+pub mod ChoiceLemmas
+pub mod LengthLemmas
+pub mod ResultLemmas
+pub mod ShapeLemmas

@@ -1,0 +1,4 @@
+pub mod Choice
+pub mod ResultText
+pub mod Run
+pub mod Tool
