@@ -1,5 +1,5 @@
 -- Leaving comments out, member by member, and once more.
-use Rattle.std.proofs.Common.{◌≡◌, ℕ, List, [], ◌∷◌, ◌++◌, Bool, true, false, cond, map, Less, Greater, string_bytes, string_cmp, nat_cmp, refl, sym, ap, ◌∙◌}
+use Rattle.std.proofs.Common.{◌≡◌, ℕ, List, [], ◌∷◌, ◌++◌, Bool, true, false, cond, map, Less, Equal, Greater, string_bytes, string_cmp, nat_cmp, refl, sym, ap, ◌∙◌}
 use Rattle.std.proofs.lemmas.Cmp.{nat_list_cmp_total}
 use Rattle.std.specs.Cmp.Lexicographic.{slice_cmp}
 use Rattle.std.specs.List.{AllByRecursion}
@@ -11,6 +11,8 @@ use Rattle.serde_json.specs.View.{view, items_view, items_of, members_view}
 use Rattle.serde_json.specs.declared.value.Value.{Value}
 use Rattle.serde_json.proofs.Views.{Entry}
 use Rattle.ps_json.specs.Fields.{is_comment}
+use Rattle.std.specs.Ordering.{match_ordering}
+use Rattle.limit_ident.specs.Plain.{AreAbove, IsPlain, ArePlainItems, ArePlain}
 use Rattle.limit_apply.specs.Bare.{bare, bare_items, bare_members, with_plain}
 
 -- ---- comments are left out once
@@ -88,3 +90,41 @@ bare_items-map (d ∷ ds) = ap (item (bare d)) (bare_items-map ds)
 
 pub items_copied : (made items : List Value) → map view made ≡ map bare (map view items) → items_view made ≡ bare_items (items_view items)
 items_copied made items same = ap items_of same ∙ sym (bare_items-map (map view items))
+
+-- ---- what is copied is plain: names ascend, and none is a comment
+
+above_all : (k l : List ℕ) (ms : Members) → slice_cmp nat_cmp k l ≡ Less → AreAbove l ms → AreAbove k ms
+above_all k l no_members below above = tt
+above_all k l (member n d ms) below above = (nat_list_cmp_total.trans k l n below above.0, above_all k l ms below above.1)
+
+above_put : (j k : List ℕ) (d : Data) (ms : Members) → slice_cmp nat_cmp j k ≡ Less → AreAbove j ms → AreAbove j (put k d ms)
+above_put j k d no_members below above = (below, tt)
+above_put j k d (member l e ms) below above =
+    elim (slice_cmp nat_cmp k l) as (λ o. AreAbove j (match_ordering o (member k d (member l e ms)) (member l d ms) (member l e (put k d ms)))) [
+      | Less ↦ (below, above)
+      | Equal ↦ above
+      | Greater ↦ (above.0, above_put j k d ms below above.1)
+    ]
+
+plain_put : (k : List ℕ) (d : Data) (ms : Members) → is_comment k ≡ false → IsPlain d → ArePlain ms → ArePlain (put k d ms)
+plain_put k d no_members plain one all = (plain, tt, one, tt)
+plain_put k d (member l e ms) plain one all =
+    let cases = elim (slice_cmp nat_cmp k l) as (λ o. slice_cmp nat_cmp k l ≡ o → ArePlain (match_ordering o (member k d (member l e ms)) (member l d ms) (member l e (put k d ms)))) [
+      | Less ↦ λ is. (plain, (is, above_all k l ms is all.1), one, all)
+      | Equal ↦ λ is. (all.0, all.1, one, all.3)
+      | Greater ↦ λ is. let below : slice_cmp nat_cmp l k ≡ Less = nat_list_cmp_total.antisymm l k ∙ ap ordering_reverse is in
+          (all.0, above_put l k d ms below all.1, all.2, plain_put k d ms plain one all.3)
+    ] in
+    cases refl
+
+pub plain_with : (k : List ℕ) (d : Data) (ms : Members) → IsPlain d → ArePlain ms → ArePlain (with_plain k d ms)
+plain_with k d ms one all =
+    let cases = elim (is_comment k) as (λ b. is_comment k ≡ b → ArePlain (cond b ms (put k d ms))) [
+      | true ↦ λ is. all
+      | false ↦ λ is. plain_put k d ms is one all
+    ] in
+    cases refl
+
+pub plain_items-push : (vs : List Value) (v : Value) → ArePlainItems (items_view vs) → IsPlain (view v) → ArePlainItems (items_view (vs ++ v ∷ []))
+plain_items-push [] v all one = (one, tt)
+plain_items-push (x ∷ vs) v all one = (all.0, plain_items-push vs v all.1 one)

@@ -1,6 +1,7 @@
 pub mod AdmitsLemmas
 pub mod BareLemmas
 pub mod CeilingLemmas
+pub mod FlatLemmas
 pub mod OpenLemmas
 pub mod ReadLemmas
 pub mod SignedLemmas

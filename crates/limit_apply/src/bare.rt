@@ -1,9 +1,10 @@
 //! Trees without their comments.
-ghost use Rattle.std.specs.Prelude.{◌≡◌, IfOk, IfSome, OnOk, Ok};
+ghost use Rattle.std.specs.Prelude.{◌≡◌, IfOk, IfSome, IsSome, OnOk, Ok};
 ghost use Rattle.serde_json.specs.View.{view, items_view, members_view};
 ghost use Rattle.serde_json.specs.Written.{compact_text};
 ghost use Rattle.ps_json.specs.Fields.{is_comment};
 ghost use Rattle.ps_json.specs.Tree.{tree_of};
+ghost use Rattle.limit_ident.specs.Plain.{IsPlain, ArePlainItems, ArePlain, IsFlat};
 ghost use Rattle.limit_apply.specs.Bare.{bare, bare_items, bare_members, with_plain};
 
 use ps_json::fields::is_comment;
@@ -17,7 +18,8 @@ use std::alloc::Global;
 /// A copy without the members whose names begin with `#`, at every depth.
 #[cycle(bare)]
 pub fn copy_bare(alloc: Global, value: &Value) -> Result<Value, Memory>
-    ensures { IfOk result (λ made. view made ≡ bare (view value.now)) }
+    ensures bare { IfOk result (λ made. view made ≡ bare (view value.now)) }
+    ensures plain { IfOk result (λ made. IsPlain (view made)) }
 {
     match value {
         Value::Null => Ok(Value::Null),
@@ -31,7 +33,8 @@ pub fn copy_bare(alloc: Global, value: &Value) -> Result<Value, Memory>
 
 #[cycle(bare)]
 fn copy_items(alloc: Global, items: &Vec<Value>) -> Result<Vec<Value>, Memory>
-    ensures { IfOk result (λ made. items_view made.items ≡ bare_items (items_view items.now.items)) }
+    ensures bare { IfOk result (λ made. items_view made.items ≡ bare_items (items_view items.now.items)) }
+    ensures plain { IfOk result (λ made. ArePlainItems (items_view made.items)) }
 {
     let mut copies = Vec::new(alloc);
     for item in items {
@@ -42,7 +45,8 @@ fn copy_items(alloc: Global, items: &Vec<Value>) -> Result<Vec<Value>, Memory>
 
 #[cycle(bare)]
 fn copy_members(alloc: Global, members: &Map<String, Value>) -> Result<Map<String, Value>, Memory>
-    ensures { IfOk result (λ made. members_view made.entries ≡ bare_members (members_view members.now.entries)) }
+    ensures bare { IfOk result (λ made. members_view made.entries ≡ bare_members (members_view members.now.entries)) }
+    ensures plain { IfOk result (λ made. ArePlain (members_view made.entries)) }
 {
     let mut copies = Map::new(alloc);
     for (name, member) in members.iter() {
@@ -73,8 +77,12 @@ fn put_plain(
 pub fn plain_text(alloc: Global, value: &Value) -> Result<Option<Text>, Memory>
     ensures text { IfOk result (λ o. IfSome o (λ text. text ≡ compact_text (view value.now))) }
     ensures reads { IfOk result (λ o. IfSome o (λ text. tree_of text ≡ Ok (view value.now))) }
+    ensures there { IfOk result (λ o. IsFlat 64 (view value.now) → IsSome o) }
 {
-    if !is_whole(value) || is_deeper(value, MAX_DEPTH) {
+    if !is_whole(value) {
+        return Ok(None);
+    }
+    if is_deeper(value, MAX_DEPTH) {
         return Ok(None);
     }
     Ok(Some(write_text(alloc, value)?))

@@ -6,6 +6,7 @@ ghost use Rattle.limit_apply.specs.Read.{config_in, IsKept};
 use crate::application::Application;
 use limit_ident::classifier::Classifiers;
 use limit_ident::identifier::Identifiers;
+use limit_ident::known_asker::KnownAsker;
 use limit_ident::named::Named;
 use limit_rule::limit::Limit;
 use plugin_core::test_spec::TestSpec;
@@ -105,19 +106,19 @@ impl Limits {
     }
 
     /// Whether the classifier at this place holds; none stands past the end, and doesn't hold.
-    fn holds(&self, place: usize, asker: &Asker) -> bool
+    fn holds(&self, place: usize, asker: &KnownAsker) -> bool
         ensures { result ≡ holds_at self.now asker.now place }
     {
         place < self.classifiers.len() && self.classifiers.holds(place, &self.identifiers, asker)
     }
 
-    fn greatest_ceiling(&self, asker: &Asker) -> i16
+    fn greatest_ceiling(&self, asker: &KnownAsker) -> i16
         ensures { result ≡ ceiling_of self.now asker.now }
     {
         let mut greatest = self.priorities.default;
         for entry in self.priorities.ceilings.as_slice() {
-            if self.holds(entry.classifier, asker) {
-                greatest = greatest.max(entry.ceiling);
+            if entry.ceiling > greatest && self.holds(entry.classifier, asker) {
+                greatest = entry.ceiling;
             }
         }
         greatest
@@ -130,11 +131,11 @@ impl Limits {
         ensures within { IsPriority result }
     {
         let _ = &self.priorities;
-        self.greatest_ceiling(asker)
+        self.greatest_ceiling(&KnownAsker::new(asker))
     }
 
     /// What the first application decides that takes part and decides anything.
-    fn walk(&self, asker: &Asker, test: &TestSpec, run: &Option<Interval>) -> Verdict
+    fn walk(&self, asker: &KnownAsker, test: &TestSpec, run: &Option<Interval>) -> Verdict
         ensures { result ≡ verdict_at self.now asker.now test.now run.now }
     {
         for index in 0..self.applications.len() {
@@ -154,10 +155,10 @@ impl Limits {
     }
 
     /// What is said where the application at this place permits.
-    fn below_ceiling(&self, asker: &Asker, place: u32, priority: i16) -> Verdict
+    fn below_ceiling(&self, asker: &KnownAsker, place: u32, priority: i16) -> Verdict
         ensures { result ≡ below_ceiling self.now asker.now priority (Verdict.Permitted place) }
     {
-        let ceiling = self.ceiling(asker);
+        let ceiling = self.greatest_ceiling(asker);
         if priority > ceiling {
             return Verdict::AboveCeiling(ceiling);
         }
@@ -174,8 +175,9 @@ impl Limits {
     ) -> Verdict
         ensures { result ≡ permits_of self.now asker.now test.now interval.now priority }
     {
-        match self.walk(asker, test, &Some(*interval)) {
-            Verdict::Permitted(place) => self.below_ceiling(asker, place, priority),
+        let asker = KnownAsker::new(asker);
+        match self.walk(&asker, test, &Some(*interval)) {
+            Verdict::Permitted(place) => self.below_ceiling(&asker, place, priority),
             verdict => verdict,
         }
     }
@@ -183,7 +185,7 @@ impl Limits {
     fn walk_without_run(&self, asker: &Asker, test: &TestSpec) -> Verdict
         ensures { result ≡ admits_of self.now asker.now test.now }
     {
-        self.walk(asker, test, &None)
+        self.walk(&KnownAsker::new(asker), test, &None)
     }
 
     /// What they say of the test before there is a run.

@@ -1,10 +1,11 @@
 //! The reader of configurations.
-ghost use Rattle.std.specs.Prelude.{◌≡◌, ◌<◌, ◌^◌, ◌↔◌, ℕ, List, IsTrue, Ok, Some, codes, IfOk, OnOk};
+ghost use Rattle.std.specs.Prelude.{◌≡◌, ◌<◌, ◌^◌, ◌↔◌, ℕ, List, IsTrue, Ok, Some, codes, IfOk, IfErr, OnOk};
 ghost use Rattle.serde_json.specs.View.{view};
 ghost use Rattle.ps_json.specs.Answer.{GivesUnless};
 ghost use Rattle.ps_json.specs.Fields.{without_member};
 ghost use Rattle.ps_json.specs.Member.{required};
 ghost use Rattle.limit_ident.specs.Fault.{wrapped};
+ghost use Rattle.limit_ident.specs.Plain.{IsPlain, IsFlat, IsTold};
 ghost use Rattle.limit_apply.specs.Limits.{Config, AreBounded};
 ghost use Rattle.limit_apply.specs.ReadApplications.{applications_in};
 ghost use Rattle.limit_rule.specs.ReadLimits.{limits_in};
@@ -16,9 +17,11 @@ use crate::limits::{Limits, Priorities};
 use crate::read_applications::{read_applications, read_priorities};
 use limit_ident::classifier::{Classifier, Classifiers};
 use limit_ident::fault::LimitFault;
-use limit_ident::identifier::Identifiers;
+use limit_ident::identifier::{Identifier, Identifiers};
 use limit_ident::member::{end_described, read_whole};
-use limit_ident::named::Named;
+use limit_ident::named::Entries;
+use limit_ident::read_classifiers::read_classifiers;
+use limit_ident::read_identifiers::read_identifiers;
 use limit_rule::limit::Limit;
 use limit_rule::read_limits::read_limits;
 use ps_json::fields::Fields;
@@ -31,9 +34,9 @@ use std::alloc::Global;
 
 /// The lists of a configuration.
 pub struct Lists {
-    identifiers: Identifiers,
-    classifiers: Classifiers,
-    limits: Items<Named<Limit>>,
+    identifiers: Entries<Identifier>,
+    classifiers: Entries<Classifier>,
+    limits: Entries<Limit>,
     applications: Items<Application>,
 }
 
@@ -66,28 +69,28 @@ fn take_schema(alloc: Global, fields: &mut Fields) -> Result<(), LimitFault>
     }
 }
 
-fn need_identifiers(alloc: Global, fields: &mut Fields) -> Result<Identifiers, LimitFault>
+fn need_identifiers(alloc: Global, fields: &mut Fields) -> Result<Entries<Identifier>, LimitFault>
     ensures value { GivesUnless LimitFault.Memory result (required wrapped identifiers_in (codes "identifiers") fields.old) }
     ensures rest { fields.new ≡ without_member (codes "identifiers") fields.old }
 {
     let value = fields.need(alloc, "identifiers")?;
-    Identifiers::read(alloc, value)
+    read_identifiers(alloc, value)
 }
 
 fn need_classifiers(
     alloc: Global,
     fields: &mut Fields,
-    identifiers: &Identifiers,
-) -> Result<Classifiers, LimitFault>
+    identifiers: &Entries<Identifier>,
+) -> Result<Entries<Classifier>, LimitFault>
     ensures value { GivesUnless LimitFault.Memory result
         (required wrapped (classifiers_in identifiers.now) (codes "classifiers") fields.old) }
     ensures rest { fields.new ≡ without_member (codes "classifiers") fields.old }
 {
     let value = fields.need(alloc, "classifiers")?;
-    Classifiers::read(alloc, value, identifiers)
+    read_classifiers(alloc, value, identifiers)
 }
 
-fn need_limits(alloc: Global, fields: &mut Fields) -> Result<Items<Named<Limit>>, LimitFault>
+fn need_limits(alloc: Global, fields: &mut Fields) -> Result<Entries<Limit>, LimitFault>
     ensures value { GivesUnless LimitFault.Memory result (required wrapped limits_in (codes "limits") fields.old) }
     ensures rest { fields.new ≡ without_member (codes "limits") fields.old }
 {
@@ -98,8 +101,8 @@ fn need_limits(alloc: Global, fields: &mut Fields) -> Result<Items<Named<Limit>>
 fn need_applications(
     alloc: Global,
     fields: &mut Fields,
-    classifiers: &[Named<Classifier>],
-    limits: &[Named<Limit>],
+    classifiers: &Entries<Classifier>,
+    limits: &Entries<Limit>,
 ) -> Result<Items<Application>, LimitFault>
     ensures value { GivesUnless LimitFault.Memory result
         (required wrapped (applications_in classifiers.now limits.now) (codes "applications") fields.old) }
@@ -116,7 +119,7 @@ fn take_lists(alloc: Global, fields: &mut Fields) -> Result<Lists, LimitFault>
     let identifiers = need_identifiers(alloc, fields)?;
     let classifiers = need_classifiers(alloc, fields, &identifiers)?;
     let limits = need_limits(alloc, fields)?;
-    let applications = need_applications(alloc, fields, classifiers.as_slice(), limits.as_slice())?;
+    let applications = need_applications(alloc, fields, &classifiers, &limits)?;
     Ok(Lists {
         identifiers,
         classifiers,
@@ -157,9 +160,9 @@ impl Lists {
             applications,
         } = self;
         Ok(Limits {
-            identifiers,
-            classifiers,
-            limits,
+            identifiers: Identifiers::from_entries(identifiers),
+            classifiers: Classifiers::from_entries(classifiers),
+            limits: limits.into_items(),
             applications,
             priorities,
             text,
@@ -171,7 +174,7 @@ impl Lists {
 fn take_priorities(
     alloc: Global,
     mut fields: Fields,
-    classifiers: &[Named<Classifier>],
+    classifiers: &Entries<Classifier>,
 ) -> Result<Priorities, LimitFault>
     ensures value { GivesUnless LimitFault.Memory result (ended_priorities classifiers.now fields) }
     ensures bounds { IfOk result AreBounded }
@@ -190,8 +193,19 @@ fn read_parts(alloc: Global, value: Value) -> Result<(Lists, Priorities), LimitF
     let mut fields = Fields::open(alloc, value, "limits")?;
     take_schema(alloc, &mut fields)?;
     let lists = take_lists(alloc, &mut fields)?;
-    let priorities = take_priorities(alloc, fields, lists.classifiers.as_slice())?;
+    let priorities = take_priorities(alloc, fields, &lists.classifiers)?;
     Ok((lists, priorities))
+}
+
+/// The same of a tree without comments, whose names ascend. One that is accepted is flat, with whole numbers.
+fn read_plain(alloc: Global, value: Value) -> Result<(Lists, Priorities), LimitFault>
+    requires { IsPlain (view value) }
+    ensures value { GivesUnless LimitFault.Memory result (parts_of (view value)) }
+    ensures bounds { IfOk result (λ parts. AreBounded parts.1) }
+    ensures flat { OnOk result (IsFlat 64 (view value)) }
+    ensures told { IfErr result IsTold }
+{
+    read_parts(alloc, value)
 }
 
 impl Limits {
@@ -199,13 +213,14 @@ impl Limits {
     /// `docs/specification/limits.md` names the members.
     #[tactic(auto, using(crate::proofs::ReadLemmas::read_again))]
     pub fn read(alloc: Global, value: Value) -> Result<Limits, LimitFault>
-        ensures { GivesUnless LimitFault.Memory result (config_of (view value)) }
+        ensures value { GivesUnless LimitFault.Memory result (config_of (view value)) }
+        ensures told { IfErr result IsTold }
     {
         let value = copy_bare(alloc, &value)?;
         let text = plain_text(alloc, &value)?;
-        let (lists, priorities) = read_parts(alloc, value)?;
+        let (lists, priorities) = read_plain(alloc, value)?;
         let Some(text) = text else {
-            return Err(LimitFault::Memory);
+            unreachable!();
         };
         lists.counted(priorities, text)
     }
@@ -213,7 +228,8 @@ impl Limits {
     /// The configuration that a JSON text is, or the first refusal.
     #[tactic(auto, unfolding(crate::specs::Read::config_in))]
     pub fn from_text(alloc: Global, bytes: &[u8]) -> Result<Limits, LimitFault>
-        ensures { GivesUnless LimitFault.Memory result (config_in bytes.now) }
+        ensures value { GivesUnless LimitFault.Memory result (config_in bytes.now) }
+        ensures told { IfErr result IsTold }
     {
         let value = read_tree(alloc, bytes)?;
         Limits::read(alloc, value)

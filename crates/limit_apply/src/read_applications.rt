@@ -13,10 +13,10 @@ ghost use Rattle.limit_apply.specs.ReadApplications.{group_of, apply_in, told_of
 
 use crate::application::{Application, Group};
 use crate::limits::{Ceiling, Priorities};
-use limit_ident::classifier::{Classifier, Classifiers};
+use limit_ident::classifier::Classifier;
 use limit_ident::fault::LimitFault;
 use limit_ident::member::{end_described, read_some, read_whole, take_flag};
-use limit_ident::named::{Named, read_place};
+use limit_ident::named::{Entries, read_place};
 use limit_ident::read_classifiers::{read_places, read_require};
 use limit_ident::require::Require;
 use limit_rule::limit::Limit;
@@ -37,7 +37,7 @@ fn need_require(alloc: Global, fields: &mut Fields) -> Result<Require, LimitFaul
 fn need_limits(
     alloc: Global,
     fields: &mut Fields,
-    limits: &[Named<Limit>],
+    limits: &Entries<Limit>,
 ) -> Result<Items<usize>, LimitFault>
     ensures value { GivesUnless LimitFault.Memory result
         (required wrapped (places_in limits.now) (codes "limits") fields.old) }
@@ -47,7 +47,7 @@ fn need_limits(
     read_places(alloc, value, "limits", limits)
 }
 
-fn read_group(alloc: Global, value: Value, limits: &[Named<Limit>]) -> Result<Group, LimitFault>
+fn read_group(alloc: Global, value: Value, limits: &Entries<Limit>) -> Result<Group, LimitFault>
     ensures { GivesUnless LimitFault.Memory result (group_of limits.now (view value)) }
 {
     let mut fields = Fields::open(alloc, value, "apply")?;
@@ -63,7 +63,7 @@ fn read_group(alloc: Global, value: Value, limits: &[Named<Limit>]) -> Result<Gr
 fn read_groups(
     alloc: Global,
     values: Vec<Value>,
-    limits: &[Named<Limit>],
+    limits: &Entries<Limit>,
 ) -> Result<Items<Group>, LimitFault>
     ensures { GivesUnless LimitFault.Memory result (read_each (group_of limits.now) (map view values.items)) }
 {
@@ -77,7 +77,7 @@ fn read_groups(
 fn need_apply(
     alloc: Global,
     fields: &mut Fields,
-    limits: &[Named<Limit>],
+    limits: &Entries<Limit>,
 ) -> Result<Items<Group>, LimitFault>
     ensures value { GivesUnless LimitFault.Memory result
         (required wrapped (apply_in limits.now) (codes "apply") fields.old) }
@@ -91,7 +91,7 @@ fn need_apply(
 fn need_classifier(
     alloc: Global,
     fields: &mut Fields,
-    classifiers: &[Named<Classifier>],
+    classifiers: &Entries<Classifier>,
 ) -> Result<usize, LimitFault>
     ensures value { GivesUnless LimitFault.Memory result
         (required wrapped (place_in classifiers.now) (codes "classifier") fields.old) }
@@ -105,8 +105,8 @@ fn need_classifier(
 fn take_application(
     alloc: Global,
     fields: &mut Fields,
-    classifiers: &[Named<Classifier>],
-    limits: &[Named<Limit>],
+    classifiers: &Entries<Classifier>,
+    limits: &Entries<Limit>,
 ) -> Result<Application, LimitFault>
     ensures value { GivesUnless LimitFault.Memory result (told_of classifiers.now limits.now fields.old) }
     ensures rest { OnOk result (fields.new ≡ after_told fields.old) }
@@ -126,8 +126,8 @@ fn take_application(
 fn read_application(
     alloc: Global,
     value: Value,
-    classifiers: &[Named<Classifier>],
-    limits: &[Named<Limit>],
+    classifiers: &Entries<Classifier>,
+    limits: &Entries<Limit>,
 ) -> Result<Application, LimitFault>
     ensures { GivesUnless LimitFault.Memory result (application_of classifiers.now limits.now (view value)) }
 {
@@ -140,8 +140,8 @@ fn read_application(
 fn read_entries(
     alloc: Global,
     values: Vec<Value>,
-    classifiers: &[Named<Classifier>],
-    limits: &[Named<Limit>],
+    classifiers: &Entries<Classifier>,
+    limits: &Entries<Limit>,
 ) -> Result<Items<Application>, LimitFault>
     ensures { GivesUnless LimitFault.Memory result
         (read_each (application_of classifiers.now limits.now) (map view values.items)) }
@@ -157,8 +157,8 @@ fn read_entries(
 pub(crate) fn read_applications(
     alloc: Global,
     value: Value,
-    classifiers: &[Named<Classifier>],
-    limits: &[Named<Limit>],
+    classifiers: &Entries<Classifier>,
+    limits: &Entries<Limit>,
 ) -> Result<Items<Application>, LimitFault>
     ensures { GivesUnless LimitFault.Memory result
         (applications_in classifiers.now limits.now (codes "applications") (view value)) }
@@ -189,7 +189,7 @@ fn need_ceiling(alloc: Global, fields: &mut Fields) -> Result<i16, LimitFault>
 fn take_entry(
     alloc: Global,
     fields: &mut Fields,
-    classifiers: &[Named<Classifier>],
+    classifiers: &Entries<Classifier>,
 ) -> Result<Ceiling, LimitFault>
     ensures value { GivesUnless LimitFault.Memory result (ceiling_of classifiers.now fields.old) }
     ensures bound { IfOk result (λ c. IsPriority c.ceiling) }
@@ -206,7 +206,7 @@ fn take_entry(
 fn read_entry(
     alloc: Global,
     value: Value,
-    classifiers: &[Named<Classifier>],
+    classifiers: &Entries<Classifier>,
 ) -> Result<Ceiling, LimitFault>
     ensures value { GivesUnless LimitFault.Memory result (entry_of classifiers.now (view value)) }
     ensures bound { IfOk result (λ c. IsPriority c.ceiling) }
@@ -220,7 +220,7 @@ fn read_entry(
 fn read_ceilings(
     alloc: Global,
     values: Vec<Value>,
-    classifiers: &[Named<Classifier>],
+    classifiers: &Entries<Classifier>,
 ) -> Result<Items<Ceiling>, LimitFault>
     ensures value { GivesUnless LimitFault.Memory result (read_each (entry_of classifiers.now) (map view values.items)) }
     ensures bounds { IfOk result (λ cs. All (λ c. IsPriority c.ceiling) cs) }
@@ -246,7 +246,7 @@ fn take_default(alloc: Global, fields: &mut Fields) -> Result<i16, LimitFault>
 fn take_ceilings(
     alloc: Global,
     fields: &mut Fields,
-    classifiers: &[Named<Classifier>],
+    classifiers: &Entries<Classifier>,
 ) -> Result<Items<Ceiling>, LimitFault>
     ensures value { GivesUnless LimitFault.Memory result (ceilings_of classifiers.now fields.old) }
     ensures bounds { IfOk result (λ cs. All (λ c. IsPriority c.ceiling) cs) }
@@ -266,7 +266,7 @@ fn take_ceilings(
 pub(crate) fn read_priorities(
     alloc: Global,
     value: Option<Value>,
-    classifiers: &[Named<Classifier>],
+    classifiers: &Entries<Classifier>,
 ) -> Result<Priorities, LimitFault>
     ensures value { GivesUnless LimitFault.Memory result (priorities_of classifiers.now (option_map view value)) }
     ensures bounds { IfOk result AreBounded }

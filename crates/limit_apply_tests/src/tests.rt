@@ -5,7 +5,7 @@ mod verdicts;
 
 use limit_apply::limits::Limits;
 use limit_ident::fault::LimitFault;
-use plugin_core::test_spec::TestSpec;
+use plugin_core::test_spec::{Sleep, TestSpec};
 use ps_time::asker::{Asker, Verdict};
 use ps_time::interval::Interval;
 use ps_time::memory::Memory;
@@ -24,11 +24,7 @@ fn asker(alloc: Global, requester: &str) -> Result<Asker, Memory> {
 }
 
 fn idle(duration: u64) -> TestSpec {
-    TestSpec::Idle {
-        duration,
-        starting_comment: None,
-        parting_comment: None,
-    }
+    TestSpec::Idle(Sleep::of(duration))
 }
 
 /// What is said of a run of the test. Who asks and the test are let go here.

@@ -27,18 +27,15 @@ abbrev pub matches : Style → List ℕ → List ℕ → Bool
 matches Exact hint text = bytes_eq hint text
 matches Contains hint text = contains_text text hint
 
--- the requester reads as an address, which lies in one of the blocks
-abbrev pub in_blocks : List ℕ → List Block → Bool
-in_blocks requester blocks = lies (address_of requester)
-  where
-    lies : Option Address → Bool
-    lies None = false
-    lies (Some address) = list_any (λ block. is_within block address) blocks
+-- an address that lies in one of the blocks
+abbrev pub in_blocks : Option Address → List Block → Bool
+in_blocks None blocks = false
+in_blocks (Some address) blocks = list_any (λ block. is_within block address) blocks
 
 abbrev pub condition_holds : Asker → Condition → Bool
 condition_holds asker Always = true
 condition_holds asker (hinted hint style text) = matches style (hint_text hint asker) text
-condition_holds asker (CidrList blocks) = in_blocks asker.requester blocks
+condition_holds asker (CidrList blocks) = in_blocks (address_of asker.requester) blocks
 
 -- `invert` turns an outcome round
 abbrev pub turned : Bool → Bool → Bool

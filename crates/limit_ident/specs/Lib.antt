@@ -4,6 +4,7 @@ pub mod Fault
 pub mod Identifier
 pub mod Member
 pub mod Named
+pub mod Plain
 pub mod ReadClassifiers
 pub mod ReadIdentifiers
 pub mod Require

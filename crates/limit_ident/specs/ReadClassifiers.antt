@@ -14,7 +14,7 @@ use Rattle.limit_ident.specs.declared.require.Require.TheVariants.{All as all, A
 use Rattle.ps_json.specs.Member.{required, optional, member_then}
 use Rattle.limit_ident.specs.Member.{text_in, object_in, some_in, described}
 use Rattle.limit_ident.specs.Fault.{wrapped}
-use Rattle.limit_ident.specs.Named.{new_in, place_in}
+use Rattle.limit_ident.specs.Named.{place_in, entries_in}
 
 abbrev pub require_of : List ℕ → Option Require
 require_of bs =
@@ -36,22 +36,12 @@ abbrev pub places_in : {T : Type 0} → List (Named T) → List ℕ → Data →
 places_in es name d = then_with (some_in name d) (read_each (place_in es name))
 
 -- what stands behind the name
-abbrev pub rest_of : List (Named Identifier) → Members → Result Classifier LimitFault
-rest_of is ms =
+abbrev pub classifier_of : List (Named Identifier) → Members → Result Classifier LimitFault
+classifier_of is ms =
     member_then (codes "identifiers") (required wrapped (places_in is)) ms (λ places ms.
     member_then (codes "require") (optional any require_in) ms (λ require ms.
     then_with (described ms) (λ _. Ok (record { identifiers = places; require = require }))))
 
-abbrev pub classifier_of : List (Named Identifier) → List (Named Classifier) → Data → Result (Named Classifier) LimitFault
-classifier_of is before d =
-    then_with (object_in (codes "classifiers") d) (λ ms.
-    member_then (codes "name") (required wrapped (new_in before)) ms (λ name ms.
-    then_with (rest_of is ms) (λ classifier. Ok (record { name = name; value = classifier }))))
-
-abbrev pub classifiers_from : List (Named Identifier) → List (Named Classifier) → List Data → Result (List (Named Classifier)) LimitFault
-classifiers_from is done [] = Ok done
-classifiers_from is done (d ∷ ds) = then_with (classifier_of is done d) (λ c. classifiers_from is (done ++ c ∷ []) ds)
-
 -- a list of classifiers over these identifiers, which isn't empty
 abbrev pub classifiers_of : List (Named Identifier) → Data → Result (List (Named Classifier)) LimitFault
-classifiers_of is d = then_with (some_in (codes "classifiers") d) (classifiers_from is [])
+classifiers_of is d = entries_in (classifier_of is) (codes "classifiers") d

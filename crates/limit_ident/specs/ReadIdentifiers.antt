@@ -23,7 +23,7 @@ use Rattle.limit_ident.specs.Address.{block_of}
 use Rattle.ps_json.specs.Member.{required, optional, member_then}
 use Rattle.limit_ident.specs.Member.{text_in, flag_in, object_in, some_in, ended, described}
 use Rattle.limit_ident.specs.Fault.{wrapped}
-use Rattle.limit_ident.specs.Named.{new_in}
+use Rattle.limit_ident.specs.Named.{entries_in}
 
 -- ---- words
 
@@ -112,17 +112,10 @@ after_told ms = without_member (codes "invert") (without_member (codes "data") m
 abbrev pub rest_of : Kind → Members → Result Identifier LimitFault
 rest_of kind ms = then_with (told_of kind ms) (λ identifier. then_with (described (after_told ms)) (λ _. Ok identifier))
 
-abbrev pub identifier_of : List (Named Identifier) → Data → Result (Named Identifier) LimitFault
-identifier_of before d =
-    then_with (object_in (codes "identifiers") d) (λ ms.
-    member_then (codes "name") (required wrapped (new_in before)) ms (λ name ms.
-    member_then (codes "type") (required wrapped kind_in) ms (λ kind ms.
-    then_with (rest_of kind ms) (λ identifier. Ok (record { name = name; value = identifier })))))
-
-abbrev pub identifiers_from : List (Named Identifier) → List Data → Result (List (Named Identifier)) LimitFault
-identifiers_from done [] = Ok done
-identifiers_from done (d ∷ ds) = then_with (identifier_of done d) (λ i. identifiers_from (done ++ i ∷ []) ds)
+-- what stands behind the name
+abbrev pub identifier_of : Members → Result Identifier LimitFault
+identifier_of ms = member_then (codes "type") (required wrapped kind_in) ms (λ kind ms. rest_of kind ms)
 
 -- a list of identifiers, which isn't empty
 abbrev pub identifiers_of : Data → Result (List (Named Identifier)) LimitFault
-identifiers_of d = then_with (some_in (codes "identifiers") d) (identifiers_from [])
+identifiers_of d = entries_in identifier_of (codes "identifiers") d

@@ -5,9 +5,9 @@ ghost use Rattle.limit_ident.specs.Require.{walked};
 ghost use Rattle.limit_ident.specs.Classifier.{held, held_at};
 
 use crate::identifier::Identifiers;
-use crate::named::{Named, copy_places};
+use crate::known_asker::KnownAsker;
+use crate::named::{Entries, Named, copy_places};
 use crate::require::Require;
-use ps_time::asker::Asker;
 use ps_time::duplicate::Duplicate;
 use ps_time::items::Items;
 use ps_time::memory::Memory;
@@ -48,7 +48,7 @@ impl Duplicate for Classifier {
 
 impl Classifier {
     /// It looks at identifiers as far as the first that decides.
-    fn walk(&self, identifiers: &Identifiers, asker: &Asker) -> bool
+    fn walk(&self, identifiers: &Identifiers, asker: &KnownAsker) -> bool
         ensures { result ≡ walked self.now.require false
             (map (identified_at identifiers.now asker.now) self.now.identifiers) }
     {
@@ -64,7 +64,7 @@ impl Classifier {
     }
 
     #[tactic(auto, using(crate::proofs::RequireLemmas::walked_met))]
-    fn holds(&self, identifiers: &Identifiers, asker: &Asker) -> bool
+    fn holds(&self, identifiers: &Identifiers, asker: &KnownAsker) -> bool
         ensures { result ≡ held identifiers.now asker.now self.now }
     {
         self.walk(identifiers, asker)
@@ -72,10 +72,12 @@ impl Classifier {
 }
 
 impl Classifiers {
-    pub(crate) fn from_items(list: Items<Named<Classifier>>) -> Classifiers
-        ensures { result ≡ list }
+    pub fn from_entries(entries: Entries<Classifier>) -> Classifiers
+        ensures { result ≡ entries }
     {
-        Classifiers { list }
+        Classifiers {
+            list: entries.into_items(),
+        }
     }
 
     /// The classifiers, in their order.
@@ -92,7 +94,7 @@ impl Classifiers {
     }
 
     /// Whether the classifier at this place holds of who asks.
-    pub fn holds(&self, index: usize, identifiers: &Identifiers, asker: &Asker) -> bool
+    pub fn holds(&self, index: usize, identifiers: &Identifiers, asker: &KnownAsker) -> bool
         requires { index < length self.now }
         ensures { result ≡ held_at self.now identifiers.now asker.now index }
     {

@@ -3,8 +3,9 @@ ghost use Rattle.std.specs.Prelude.{◌≡◌, ◌==◌, ◌<◌, ◌≤◌, dro
 ghost use Rattle.std.specs.List.{starts_with};
 ghost use Rattle.limit_ident.specs.Identifier.{hint_text, contains_text, matches, in_blocks, condition_holds, identified, identified_at};
 
-use crate::address::{Block, read_address};
-use crate::named::Named;
+use crate::address::{Address, Block};
+use crate::known_asker::KnownAsker;
+use crate::named::{Entries, Named};
 use ps_time::asker::Asker;
 use ps_time::duplicate::Duplicate;
 use ps_time::items::Items;
@@ -139,10 +140,10 @@ fn matches(style: Style, hint: &str, text: &str) -> bool
     }
 }
 
-fn is_in_blocks(requester: &str, blocks: &[Block]) -> bool
-    ensures { result ≡ in_blocks requester.now blocks.now }
+fn is_in_blocks(address: Option<Address>, blocks: &[Block]) -> bool
+    ensures { result ≡ in_blocks address blocks.now }
 {
-    let Some(address) = read_address(requester) else {
+    let Some(address) = address else {
         return false;
     };
     for block in blocks {
@@ -154,23 +155,21 @@ fn is_in_blocks(requester: &str, blocks: &[Block]) -> bool
 }
 
 impl Condition {
-    fn holds(&self, asker: &Asker) -> bool
+    fn holds(&self, asker: &KnownAsker) -> bool
         ensures { result ≡ condition_holds asker.now self.now }
     {
         match self {
             Condition::Always => true,
             Condition::Hint { hint, style, text } => {
-                matches(*style, hint_text(*hint, asker), text.as_str())
+                matches(*style, hint_text(*hint, asker.asker()), text.as_str())
             }
-            Condition::CidrList(blocks) => {
-                is_in_blocks(asker.requester.as_str(), blocks.as_slice())
-            }
+            Condition::CidrList(blocks) => { is_in_blocks(asker.address(), blocks.as_slice()) }
         }
     }
 }
 
 impl Identifier {
-    fn is_true(&self, asker: &Asker) -> bool
+    fn is_true(&self, asker: &KnownAsker) -> bool
         ensures { result ≡ identified asker.now self.now }
     {
         let holds = self.condition.holds(asker);
@@ -179,10 +178,12 @@ impl Identifier {
 }
 
 impl Identifiers {
-    pub(crate) fn from_items(list: Items<Named<Identifier>>) -> Identifiers
-        ensures { result ≡ list }
+    pub fn from_entries(entries: Entries<Identifier>) -> Identifiers
+        ensures { result ≡ entries }
     {
-        Identifiers { list }
+        Identifiers {
+            list: entries.into_items(),
+        }
     }
 
     pub(crate) fn as_slice(&self) -> &[Named<Identifier>]
@@ -198,7 +199,7 @@ impl Identifiers {
     }
 
     /// Whether the identifier at this place is true of who asks.
-    pub fn identifies(&self, index: usize, asker: &Asker) -> bool
+    pub fn identifies(&self, index: usize, asker: &KnownAsker) -> bool
         requires { index < length self.now }
         ensures { result ≡ identified_at self.now asker.now index }
     {
@@ -206,7 +207,7 @@ impl Identifiers {
     }
 
     /// The same, where a place past the end is one of no identifier, which isn't true.
-    pub(crate) fn is_true(&self, place: usize, asker: &Asker) -> bool
+    pub(crate) fn is_true(&self, place: usize, asker: &KnownAsker) -> bool
         ensures { result ≡ identified_at self.now asker.now place }
     {
         place < self.len() && self.identifies(place, asker)

@@ -5,6 +5,7 @@ pub mod address;
 pub mod classifier;
 pub mod fault;
 pub mod identifier;
+pub mod known_asker;
 pub mod member;
 pub mod named;
 pub mod read_classifiers;

@@ -1,5 +1,5 @@
 //! The reader of classifiers.
-ghost use Rattle.std.specs.Prelude.{◌≡◌, ◌<◌, [], map, length, codes, IfOk, All};
+ghost use Rattle.std.specs.Prelude.{◌≡◌, [], map, codes};
 ghost use Rattle.serde_json.specs.View.{view};
 ghost use Rattle.ps_json.specs.Each.{read_each};
 ghost use Rattle.ps_json.specs.Answer.{GivesUnless};
@@ -7,14 +7,14 @@ ghost use Rattle.ps_json.specs.Fields.{without_member};
 ghost use Rattle.ps_json.specs.Member.{required, optional};
 ghost use Rattle.limit_ident.specs.Fault.{wrapped};
 ghost use Rattle.limit_ident.specs.declared.require.Require.TheVariants.{Any as any};
-ghost use Rattle.limit_ident.specs.Named.{place_in};
-ghost use Rattle.limit_ident.specs.ReadClassifiers.{require_of, require_in, places_in, rest_of, classifier_of, classifiers_from, classifiers_of};
+ghost use Rattle.limit_ident.specs.Named.{place_in, entry_in, entries_from};
+ghost use Rattle.limit_ident.specs.ReadClassifiers.{require_of, require_in, places_in, classifier_of, classifiers_of};
 
-use crate::classifier::{Classifier, Classifiers};
+use crate::classifier::Classifier;
 use crate::fault::LimitFault;
-use crate::identifier::Identifiers;
+use crate::identifier::Identifier;
 use crate::member::{end_described, read_some};
-use crate::named::{Named, need_name, read_place};
+use crate::named::{Entries, Named, read_head, read_place};
 use crate::require::Require;
 use ps_json::fault::JsonFault;
 use ps_json::fields::Fields;
@@ -60,10 +60,9 @@ fn read_listed<T>(
     alloc: Global,
     values: Vec<Value>,
     name: &str,
-    entries: &[Named<T>],
+    entries: &Entries<T>,
 ) -> Result<Items<usize>, LimitFault>
-    ensures value { GivesUnless LimitFault.Memory result (read_each (place_in entries.now name.now) (map view values.items)) }
-    ensures within { IfOk result (λ places. All (λ place. place < length entries.now) places) }
+    ensures { GivesUnless LimitFault.Memory result (read_each (place_in entries.now name.now) (map view values.items)) }
 {
     let mut places = Items::new(alloc);
     for value in values {
@@ -77,10 +76,9 @@ pub fn read_places<T>(
     alloc: Global,
     value: Value,
     name: &str,
-    entries: &[Named<T>],
+    entries: &Entries<T>,
 ) -> Result<Items<usize>, LimitFault>
-    ensures value { GivesUnless LimitFault.Memory result (places_in entries.now name.now (view value)) }
-    ensures within { IfOk result (λ places. All (λ place. place < length entries.now) places) }
+    ensures { GivesUnless LimitFault.Memory result (places_in entries.now name.now (view value)) }
 {
     let values = read_some(alloc, value, name)?;
     read_listed(alloc, values, name, entries)
@@ -89,23 +87,23 @@ pub fn read_places<T>(
 fn need_identifiers(
     alloc: Global,
     fields: &mut Fields,
-    identifiers: &Identifiers,
+    identifiers: &Entries<Identifier>,
 ) -> Result<Items<usize>, LimitFault>
     ensures value { GivesUnless LimitFault.Memory result
         (required wrapped (places_in identifiers.now) (codes "identifiers") fields.old) }
     ensures rest { fields.new ≡ without_member (codes "identifiers") fields.old }
 {
     let value = fields.need(alloc, "identifiers")?;
-    read_places(alloc, value, "identifiers", identifiers.as_slice())
+    read_places(alloc, value, "identifiers", identifiers)
 }
 
 /// What stands behind the name.
 fn read_rest(
     alloc: Global,
     mut fields: Fields,
-    identifiers: &Identifiers,
+    identifiers: &Entries<Identifier>,
 ) -> Result<Classifier, LimitFault>
-    ensures { GivesUnless LimitFault.Memory result (rest_of identifiers.now fields) }
+    ensures { GivesUnless LimitFault.Memory result (classifier_of identifiers.now fields) }
 {
     let places = need_identifiers(alloc, &mut fields, identifiers)?;
     let require = take_require(alloc, &mut fields)?;
@@ -119,13 +117,13 @@ fn read_rest(
 fn read_classifier(
     alloc: Global,
     value: Value,
-    identifiers: &Identifiers,
-    before: &[Named<Classifier>],
+    identifiers: &Entries<Identifier>,
+    before: &Entries<Classifier>,
 ) -> Result<Named<Classifier>, LimitFault>
-    ensures { GivesUnless LimitFault.Memory result (classifier_of identifiers.now before.now (view value)) }
+    ensures { GivesUnless LimitFault.Memory result
+        (entry_in (codes "classifiers") (classifier_of identifiers.now) before.now (view value)) }
 {
-    let mut fields = Fields::open(alloc, value, "classifiers")?;
-    let name = need_name(alloc, &mut fields, before)?;
+    let (name, fields) = read_head(alloc, value, "classifiers", before)?;
     let value = read_rest(alloc, fields, identifiers)?;
     Ok(Named { name, value })
 }
@@ -133,30 +131,29 @@ fn read_classifier(
 fn read_entries(
     alloc: Global,
     values: Vec<Value>,
-    identifiers: &Identifiers,
-) -> Result<Items<Named<Classifier>>, LimitFault>
-    ensures { GivesUnless LimitFault.Memory result (classifiers_from identifiers.now [] (map view values.items)) }
+    identifiers: &Entries<Identifier>,
+) -> Result<Entries<Classifier>, LimitFault>
+    ensures { GivesUnless LimitFault.Memory result
+        (entries_from (codes "classifiers") (classifier_of identifiers.now) [] (map view values.items)) }
 {
-    let mut entries = Items::new(alloc);
+    let mut entries = Entries::new(alloc);
     for value in values {
-        let entry = read_classifier(alloc, value, identifiers, entries.as_slice())?;
-        entries.push(entry)?;
+        let entry = read_classifier(alloc, value, identifiers, &entries)?;
+        entries = entries.with(alloc, entry)?;
     }
     Ok(entries)
 }
 
-impl Classifiers {
-    /// The classifiers that the member `classifiers` of a configuration is, over its identifiers: a list
-    /// that isn't empty. The first refusal comes, in the order in which `docs/specification/limits.md`
-    /// names the members.
-    pub fn read(
-        alloc: Global,
-        value: Value,
-        identifiers: &Identifiers,
-    ) -> Result<Classifiers, LimitFault>
-        ensures { GivesUnless LimitFault.Memory result (classifiers_of identifiers.now (view value)) }
-    {
-        let values = read_some(alloc, value, "classifiers")?;
-        Ok(Classifiers::from_items(read_entries(alloc, values, identifiers)?))
-    }
+/// The classifiers that the member `classifiers` of a configuration is, over its identifiers: a list
+/// that isn't empty. The first refusal comes, in the order in which `docs/specification/limits.md`
+/// names the members.
+pub fn read_classifiers(
+    alloc: Global,
+    value: Value,
+    identifiers: &Entries<Identifier>,
+) -> Result<Entries<Classifier>, LimitFault>
+    ensures { GivesUnless LimitFault.Memory result (classifiers_of identifiers.now (view value)) }
+{
+    let values = read_some(alloc, value, "classifiers")?;
+    read_entries(alloc, values, identifiers)
 }

@@ -6,13 +6,14 @@ ghost use Rattle.ps_json.specs.Answer.{GivesUnless};
 ghost use Rattle.ps_json.specs.Fields.{without_member};
 ghost use Rattle.ps_json.specs.Member.{required};
 ghost use Rattle.limit_ident.specs.Fault.{wrapped};
-ghost use Rattle.limit_ident.specs.ReadIdentifiers.{kind_of, kind_in, hint_in, style_in, match_in, hinted_in, block_in, cidr_list_in, always_of, condition_of, told_of, after_told, rest_of, identifier_of, identifiers_from, identifiers_of};
+ghost use Rattle.limit_ident.specs.ReadIdentifiers.{kind_of, kind_in, hint_in, style_in, match_in, hinted_in, block_in, cidr_list_in, always_of, condition_of, told_of, after_told, rest_of, identifier_of, identifiers_of};
+ghost use Rattle.limit_ident.specs.Named.{entry_in, entries_from};
 
 use crate::address::{Block, read_block};
 use crate::fault::LimitFault;
-use crate::identifier::{Condition, Hint, Identifier, Identifiers, Style};
+use crate::identifier::{Condition, Hint, Identifier, Style};
 use crate::member::{end_described, need_text, read_some, take_flag};
-use crate::named::{Named, need_name};
+use crate::named::{Entries, Named, read_head};
 use ps_json::fault::JsonFault;
 use ps_json::fields::Fields;
 use ps_json::kinds::read_text;
@@ -172,35 +173,32 @@ fn read_rest(alloc: Global, mut fields: Fields, kind: Kind) -> Result<Identifier
 fn read_identifier(
     alloc: Global,
     value: Value,
-    before: &[Named<Identifier>],
+    before: &Entries<Identifier>,
 ) -> Result<Named<Identifier>, LimitFault>
-    ensures { GivesUnless LimitFault.Memory result (identifier_of before.now (view value)) }
+    ensures { GivesUnless LimitFault.Memory result (entry_in (codes "identifiers") identifier_of before.now (view value)) }
 {
-    let mut fields = Fields::open(alloc, value, "identifiers")?;
-    let name = need_name(alloc, &mut fields, before)?;
+    let (name, mut fields) = read_head(alloc, value, "identifiers", before)?;
     let kind = need_kind(alloc, &mut fields)?;
     let value = read_rest(alloc, fields, kind)?;
     Ok(Named { name, value })
 }
 
-fn read_entries(alloc: Global, values: Vec<Value>) -> Result<Items<Named<Identifier>>, LimitFault>
-    ensures { GivesUnless LimitFault.Memory result (identifiers_from [] (map view values.items)) }
+fn read_entries(alloc: Global, values: Vec<Value>) -> Result<Entries<Identifier>, LimitFault>
+    ensures { GivesUnless LimitFault.Memory result (entries_from (codes "identifiers") identifier_of [] (map view values.items)) }
 {
-    let mut entries = Items::new(alloc);
+    let mut entries = Entries::new(alloc);
     for value in values {
-        let entry = read_identifier(alloc, value, entries.as_slice())?;
-        entries.push(entry)?;
+        let entry = read_identifier(alloc, value, &entries)?;
+        entries = entries.with(alloc, entry)?;
     }
     Ok(entries)
 }
 
-impl Identifiers {
-    /// The identifiers that the member `identifiers` of a configuration is: a list that isn't empty. The
-    /// first refusal comes, in the order in which `docs/specification/limits.md` names the members.
-    pub fn read(alloc: Global, value: Value) -> Result<Identifiers, LimitFault>
-        ensures { GivesUnless LimitFault.Memory result (identifiers_of (view value)) }
-    {
-        let values = read_some(alloc, value, "identifiers")?;
-        Ok(Identifiers::from_items(read_entries(alloc, values)?))
-    }
+/// The identifiers that the member `identifiers` of a configuration is: a list that isn't empty. The first
+/// refusal comes, in the order in which `docs/specification/limits.md` names the members.
+pub fn read_identifiers(alloc: Global, value: Value) -> Result<Entries<Identifier>, LimitFault>
+    ensures { GivesUnless LimitFault.Memory result (identifiers_of (view value)) }
+{
+    let values = read_some(alloc, value, "identifiers")?;
+    read_entries(alloc, values)
 }

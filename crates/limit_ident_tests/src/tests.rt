@@ -3,6 +3,9 @@ use limit_ident::address::{Address, read_address, read_block};
 use limit_ident::classifier::Classifiers;
 use limit_ident::fault::LimitFault;
 use limit_ident::identifier::Identifiers;
+use limit_ident::known_asker::KnownAsker;
+use limit_ident::read_classifiers::read_classifiers;
+use limit_ident::read_identifiers::read_identifiers;
 use limit_ident::require::law_walked;
 use ps_json::tree::read_tree;
 use ps_time::asker::Asker;
@@ -130,13 +133,16 @@ fn read_both(
     identifiers: &str,
     classifiers: &str,
 ) -> Result<(Identifiers, Classifiers), LimitFault> {
-    let identifiers = Identifiers::read(alloc, read_tree(alloc, identifiers.as_bytes())?)?;
-    let classifiers = Classifiers::read(
+    let identifiers = read_identifiers(alloc, read_tree(alloc, identifiers.as_bytes())?)?;
+    let classifiers = read_classifiers(
         alloc,
         read_tree(alloc, classifiers.as_bytes())?,
         &identifiers,
     )?;
-    Ok((identifiers, classifiers))
+    Ok((
+        Identifiers::from_entries(identifiers),
+        Classifiers::from_entries(classifiers),
+    ))
 }
 
 const ONE: &str = "[{\"name\":\"a\",\"type\":\"always\"}]";
@@ -340,7 +346,11 @@ fn letter(answer: bool) -> &'static str {
     if answer { "y" } else { "n" }
 }
 
-fn identified(alloc: Global, identifiers: &Identifiers, asker: &Asker) -> Result<String, Fail> {
+fn identified(
+    alloc: Global,
+    identifiers: &Identifiers,
+    asker: &KnownAsker,
+) -> Result<String, Fail> {
     let mut told = String::new(alloc);
     for index in 0..identifiers.len() {
         told.push_str(letter(identifiers.identifies(index, asker)))?;
@@ -352,7 +362,7 @@ fn held(
     alloc: Global,
     classifiers: &Classifiers,
     identifiers: &Identifiers,
-    asker: &Asker,
+    asker: &KnownAsker,
 ) -> Result<String, Fail> {
     let mut told = String::new(alloc);
     for index in 0..classifiers.len() {
@@ -372,6 +382,7 @@ fn check_askers(
             requester: Text::new(alloc, requester)?,
             server: Text::new(alloc, server)?,
         };
+        let asker = KnownAsker::new(&asker);
         let told = identified(alloc, identifiers, &asker)?;
         if told.as_str() != *first {
             return Err(Fail::new(format_args!("{requester} {server} is told {told}")));

@@ -1,1 +1,2 @@
 pub mod CivilLemmas
+pub mod FlatLemmas

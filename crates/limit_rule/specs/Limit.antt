@@ -21,14 +21,14 @@ use Rattle.limit_rule.specs.declared.limit.Limit.{Limit}
 
 -- the lengths that a test has
 abbrev pub duration_in : TestSpec → Option ℕ
-duration_in (Idle duration starting parting) = Some duration
-duration_in (Idleex duration starting parting) = Some duration
-duration_in (Idlebgm duration starting parting interval) = Some duration
-duration_in (Idlemany duration starting parting hosts) = Some duration
+duration_in (Idle sleep) = Some sleep.duration
+duration_in (Idleex sleep) = Some sleep.duration
+duration_in (Idlebgm sleep interval) = Some sleep.duration
+duration_in (Idlemany sleep hosts) = Some sleep.duration
 duration_in (Simplestream dest material dawdle timeout) = None
 
 abbrev pub interval_in : TestSpec → Option ℕ
-interval_in (Idlebgm duration starting parting interval) = Some interval
+interval_in (Idlebgm sleep interval) = Some interval
 interval_in _ = None
 
 abbrev pub dawdle_in : TestSpec → Option ℕ

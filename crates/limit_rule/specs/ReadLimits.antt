@@ -1,5 +1,5 @@
 -- Which limits a JSON tree is.
-use Rattle.std.specs.Prelude.{ℕ, nat_lt, List, [], ◌∷◌, ◌++◌, Option, Some, None, Result, Ok, Err, if◌then◌else◌, false, bytes_eq, codes}
+use Rattle.std.specs.Prelude.{ℕ, nat_lt, List, Option, Some, None, Result, Ok, Err, if◌then◌else◌, false, bytes_eq, codes}
 use Rattle.serde_json.specs.Data.{Data, Members}
 use Rattle.serde_json.specs.Find.{get_member}
 use Rattle.ps_json.specs.Each.{read_each}
@@ -16,7 +16,7 @@ use Rattle.plugin_core.specs.Kind.{kind_of_text}
 use Rattle.plugin_core.specs.declared.kind.TestKind.{TestKind}
 use Rattle.limit_ident.specs.Member.{text_in, flag_in, object_in, some_in, ended, described}
 use Rattle.limit_ident.specs.Fault.{wrapped}
-use Rattle.limit_ident.specs.Named.{new_in}
+use Rattle.limit_ident.specs.Named.{entries_in}
 use Rattle.limit_ident.specs.declared.fault.LimitFault.{LimitFault}
 use Rattle.limit_ident.specs.declared.fault.LimitFault.TheVariants.{Json, UnknownType, UnknownName, BadRange}
 use Rattle.limit_ident.specs.declared.named.Named.{Named}
@@ -160,16 +160,10 @@ after_told ms = without_member (codes "invert") (without_member (codes "data") m
 abbrev pub rest_of : Kind → Members → Result Limit LimitFault
 rest_of kind ms = then_with (told_of kind ms) (λ limit. then_with (described (after_told ms)) (λ _. Ok limit))
 
-abbrev pub limit_of : List (Named Limit) → Data → Result (Named Limit) LimitFault
-limit_of before d =
-    then_with (object_in (codes "limits") d) (λ ms.
-    member_then (codes "name") (required wrapped (new_in before)) ms (λ name ms.
-    member_then (codes "type") (required wrapped kind_in) ms (λ kind ms.
-    then_with (rest_of kind ms) (λ limit. Ok (record { name = name; value = limit })))))
+-- what stands behind the name
+abbrev pub limit_of : Members → Result Limit LimitFault
+limit_of ms = member_then (codes "type") (required wrapped kind_in) ms (λ kind ms. rest_of kind ms)
 
-abbrev pub limits_from : List (Named Limit) → List Data → Result (List (Named Limit)) LimitFault
-limits_from done [] = Ok done
-limits_from done (d ∷ ds) = then_with (limit_of done d) (λ l. limits_from (done ++ l ∷ []) ds)
-
+-- a list of limits, which isn't empty
 abbrev pub limits_in : List ℕ → Data → Result (List (Named Limit)) LimitFault
-limits_in name d = then_with (some_in name d) (limits_from [])
+limits_in name d = entries_in limit_of name d

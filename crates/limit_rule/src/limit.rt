@@ -91,10 +91,10 @@ fn duration_in(test: &TestSpec) -> Option<Length>
     ensures { result ≡ duration_in test.now }
 {
     match test {
-        TestSpec::Idle { duration, .. } => Some(*duration),
-        TestSpec::Idleex { duration, .. } => Some(*duration),
-        TestSpec::Idlebgm { duration, .. } => Some(*duration),
-        TestSpec::Idlemany { duration, .. } => Some(*duration),
+        TestSpec::Idle(sleep) => Some(sleep.duration),
+        TestSpec::Idleex(sleep) => Some(sleep.duration),
+        TestSpec::Idlebgm { sleep, .. } => Some(sleep.duration),
+        TestSpec::Idlemany { sleep, .. } => Some(sleep.duration),
         TestSpec::Simplestream { .. } => None,
     }
 }

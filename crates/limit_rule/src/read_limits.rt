@@ -6,14 +6,15 @@ ghost use Rattle.ps_json.specs.Answer.{GivesUnless};
 ghost use Rattle.ps_json.specs.Fields.{without_member};
 ghost use Rattle.ps_json.specs.Member.{required, optional};
 ghost use Rattle.limit_ident.specs.Fault.{wrapped};
-ghost use Rattle.limit_rule.specs.ReadLimits.{kind_of, kind_in, test_name_in, pass_of, test_type_in, length_in, moment_in, range_in, bounds_in, some_bounds_in, lengths_in, test_in, dates_in, dates_of, times_in, rule_of, told_of, after_told, rest_of, limit_of, limits_from, limits_in};
+ghost use Rattle.limit_rule.specs.ReadLimits.{kind_of, kind_in, test_name_in, pass_of, test_type_in, length_in, moment_in, range_in, bounds_in, some_bounds_in, lengths_in, test_in, dates_in, dates_of, times_in, rule_of, told_of, after_told, rest_of, limit_of, limits_in};
+ghost use Rattle.limit_ident.specs.Named.{entry_in, entries_from};
 
 use crate::bounds::Bounds;
 use crate::limit::{DateRange, Lengths, Limit, Rule};
 use crate::read_schedule::read_schedule;
 use limit_ident::fault::LimitFault;
 use limit_ident::member::{end_described, need_text, read_some, take_flag};
-use limit_ident::named::{Named, need_name};
+use limit_ident::named::{Entries, Named, read_head};
 use plugin_core::kind::{self, TestKind};
 use ps_json::fault::JsonFault;
 use ps_json::fields::Fields;
@@ -267,30 +268,29 @@ fn read_rest(alloc: Global, mut fields: Fields, kind: Kind) -> Result<Limit, Lim
 fn read_limit(
     alloc: Global,
     value: Value,
-    before: &[Named<Limit>],
+    before: &Entries<Limit>,
 ) -> Result<Named<Limit>, LimitFault>
-    ensures { GivesUnless LimitFault.Memory result (limit_of before.now (view value)) }
+    ensures { GivesUnless LimitFault.Memory result (entry_in (codes "limits") limit_of before.now (view value)) }
 {
-    let mut fields = Fields::open(alloc, value, "limits")?;
-    let name = need_name(alloc, &mut fields, before)?;
+    let (name, mut fields) = read_head(alloc, value, "limits", before)?;
     let kind = need_kind(alloc, &mut fields)?;
     let value = read_rest(alloc, fields, kind)?;
     Ok(Named { name, value })
 }
 
-fn read_entries(alloc: Global, values: Vec<Value>) -> Result<Items<Named<Limit>>, LimitFault>
-    ensures { GivesUnless LimitFault.Memory result (limits_from [] (map view values.items)) }
+fn read_entries(alloc: Global, values: Vec<Value>) -> Result<Entries<Limit>, LimitFault>
+    ensures { GivesUnless LimitFault.Memory result (entries_from (codes "limits") limit_of [] (map view values.items)) }
 {
-    let mut entries = Items::new(alloc);
+    let mut entries = Entries::new(alloc);
     for value in values {
-        let entry = read_limit(alloc, value, entries.as_slice())?;
-        entries.push(entry)?;
+        let entry = read_limit(alloc, value, &entries)?;
+        entries = entries.with(alloc, entry)?;
     }
     Ok(entries)
 }
 
 /// The limits that the member `limits` is: a list that isn't empty.
-pub fn read_limits(alloc: Global, value: Value) -> Result<Items<Named<Limit>>, LimitFault>
+pub fn read_limits(alloc: Global, value: Value) -> Result<Entries<Limit>, LimitFault>
     ensures { GivesUnless LimitFault.Memory result (limits_in (codes "limits") (view value)) }
 {
     let values = read_some(alloc, value, "limits")?;

@@ -7,22 +7,18 @@ use limit_ident::fault::LimitFault;
 use limit_ident::named::Named;
 use limit_rule::limit::Limit;
 use limit_rule::read_limits::read_limits;
-use plugin_core::test_spec::TestSpec;
+use plugin_core::test_spec::{Sleep, TestSpec};
 use ps_json::tree::read_tree;
 use ps_time::interval::Interval;
 use ps_time::items::Items;
 use std::alloc::Global;
 
 fn read(alloc: Global, text: &str) -> Result<Items<Named<Limit>>, LimitFault> {
-    read_limits(alloc, read_tree(alloc, text.as_bytes())?)
+    Ok(read_limits(alloc, read_tree(alloc, text.as_bytes())?)?.into_items())
 }
 
 fn idle(duration: u64) -> TestSpec {
-    TestSpec::Idle {
-        duration,
-        starting_comment: None,
-        parting_comment: None,
-    }
+    TestSpec::Idle(Sleep::of(duration))
 }
 
 /// Whether each limit of a list is true of a run of the test. The test is let go here.

@@ -2,7 +2,7 @@
 use crate::tests::{holds, idle, letter, read};
 use limit_ident::named::Named;
 use limit_rule::limit::Limit;
-use plugin_core::test_spec::TestSpec;
+use plugin_core::test_spec::{Sleep, TestSpec};
 use ps_time::interval::Interval;
 use ps_time::items::Items;
 use ps_time::memory::Memory;
@@ -18,21 +18,13 @@ static BEHIND: &str = "}]";
 fn test(alloc: Global, number: usize) -> Result<TestSpec, Memory> {
     match number {
         0 => Ok(idle(10)),
-        1 => Ok(TestSpec::Idleex {
-            duration: 10,
-            starting_comment: None,
-            parting_comment: None,
-        }),
+        1 => Ok(TestSpec::Idleex(Sleep::of(10))),
         2 => Ok(TestSpec::Idlebgm {
-            duration: 10,
-            starting_comment: None,
-            parting_comment: None,
+            sleep: Sleep::of(10),
             interval: 2,
         }),
         3 => Ok(TestSpec::Idlemany {
-            duration: 10,
-            starting_comment: None,
-            parting_comment: None,
+            sleep: Sleep::of(10),
             hosts: Items::new(alloc),
         }),
         _ => Ok(TestSpec::Simplestream {

@@ -1,11 +1,13 @@
-use Rattle.std.proofs.Common.{◌≡◌, [], ◌∷◌, ◌++◌, sym, ap, ◌∙◌, subst, append_assoc, take_all, map, rules}
+use Rattle.std.proofs.Common.{◌≡◌, [], ◌∷◌, ◌++◌, sym, ap, ◌∙◌, subst, append_assoc, take_all, map, rules, arith}
+use Rattle.std.proofs.lemmas.Grind.{common_steps}
 use Rattle.std.specs.List.Sorted.{IsStrictlySortedBy}
 use Rattle.std.specs.Map.{keys_of}
 use Rattle.std.specs.String.{string_cmp}
 use Rattle.serde_json.proofs.Views.{Entry}
-use Rattle.serde_json.specs.View.{view}
+use Rattle.serde_json.specs.View.{view, items_view, members_view}
+use Rattle.limit_ident.specs.Plain.{ArePlainItems, ArePlain}
 use Rattle.limit_apply.specs.Bare.{bare, with_plain}
-use Rattle.limit_apply.proofs.BareLemmas.{bare-next, items_copied}
+use Rattle.limit_apply.proofs.BareLemmas.{bare-next, items_copied, plain_with, plain_items-push}
 use Rattle.limit_apply.proofs.bare.+bare.Goals as goal
 
 pub copy_members-loop-name-preserved : goal.copy_members-loop-name-preserved
@@ -18,13 +20,20 @@ copy_members-loop-name-preserved t c =
     let next = bare-next done e left (subst (λ es. IsStrictlySortedBy string_cmp (keys_of es)) all c.iter-name-items.ensures.ordered) in (
       done ++ e ∷ [],
       all ∙ sym (append_assoc done (e ∷ []) left),
-      c.in_ok-put_plain.ensures ∙ (λ i. with_plain (c.as_str.ensures.value i) (c.in_ok-copy.ensures i) (l.invariant.2 i)) ∙ next,
+      c.in_ok-put_plain.ensures ∙ (λ i. with_plain (c.as_str.ensures.value i) (c.in_ok-copy.ensures.bare i) (l.invariant.2 i)) ∙ next,
+      subst ArePlain (sym c.in_ok-put_plain.ensures) (plain_with c.as_str.result.now (view c.in_ok-copy.copy) (members_view l.copies.entries) c.in_ok-copy.ensures.plain l.invariant.3),
     )
 
-pub copy_items-returns : goal.copy_items-returns
-copy_items-returns t c =
+pub copy_items-returns-clause-bare : goal.copy_items-returns-clause-bare
+copy_items-returns-clause-bare t c =
     let l = c.loop-item in
     let items = c.deref-item-items.result.now in
     let here : items ≡ c.args.items.now.items = search rules in
     let all = take_all l.item-index items (search rules) in
-    items_copied _ _ (l.invariant ∙ ap (λ vs. map bare (map view vs)) (all ∙ here))
+    items_copied _ _ (l.invariant.copied ∙ ap (λ vs. map bare (map view vs)) (all ∙ here))
+
+pub copy_items-loop-item-preserved : goal.copy_items-loop-item-preserved
+copy_items-loop-item-preserved t c = record {
+  copied = first_of (search rules, grind (arith, common_steps));
+  plain = subst (λ vs. ArePlainItems (items_view vs)) (sym c.in_ok-push.ensures.items) (plain_items-push _ _ c.loop-item.invariant.plain c.in_ok-copy_bare.ensures.plain);
+}

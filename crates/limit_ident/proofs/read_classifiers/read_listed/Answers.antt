@@ -1,18 +1,11 @@
-use Rattle.std.proofs.Common.{arith, ◌∙◌}
-use Rattle.std.proofs.lemmas.Grind.{common_steps}
+use Rattle.std.proofs.Common.{◌∙◌}
 use Rattle.serde_json.specs.View.{view}
 use Rattle.ps_json.proofs.EachLemmas.{read_each-begins, read_after-item}
 use Rattle.limit_ident.specs.Named.{place_in}
 use Rattle.limit_ident.proofs.read_classifiers.read_listed.Goals as goal
 
 pub loop-value-init : goal.loop-value-init
-loop-value-init g c = record {
-  decides = read_each-begins (place_in c.args.entries.now c.args.name.now) view _ _ _ c.new-places.ensures c.into_iter-value-iterator.ensures.into_iter_gives.0;
-  within = grind (arith, common_steps);
-}
+loop-value-init g c = read_each-begins (place_in c.args.entries.now c.args.name.now) view _ _ _ c.new-places.ensures c.into_iter-value-iterator.ensures.into_iter_gives.0
 
 pub loop-value-preserved : goal.loop-value-preserved
-loop-value-preserved g c = record {
-  decides = c.loop-value.invariant.decides ∙ read_after-item (place_in c.args.entries.now c.args.name.now) view _ _ _ _ _ _ c.in-Some.ensures.steps.0 c.in_ok-read_place.ensures.value c.in_ok-push.ensures.ok;
-  within = grind (arith, common_steps);
-}
+loop-value-preserved g c = c.loop-value.invariant ∙ read_after-item (place_in c.args.entries.now c.args.name.now) view _ _ _ _ _ _ c.in-Some.ensures.steps.0 c.in_ok-read_place.ensures c.in_ok-push.ensures.ok
