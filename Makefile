@@ -4,7 +4,7 @@
 # make examples                     runs examples/ on build/psched
 # make test                         the gate: every proof and test, then the examples
 # make gate-cost                    the gate, and the processor seconds that each crate takes in it
-# make bench                        times build/psched
+# make bench                        times build/psched, and the opening of journals
 .PHONY: rehearse validate-limits build examples test gate-cost bench
 
 PROVED := crates/psched_cli/out/psched_cli
@@ -39,3 +39,5 @@ gate-cost:
 bench: build
 	python3 bench/run.py build/psched
 	python3 bench/limits.py build/psched
+	-cd crates/host_journal_bench && rt run
+	python3 bench/journal.py crates/host_journal_bench/out/host_journal_bench

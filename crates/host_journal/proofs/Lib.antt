@@ -5,6 +5,7 @@ mod ChoiceLemmas
 mod FormatLemmas
 mod FrontLemmas
 mod HeadLemmas
+mod LookLemmas
 mod OpenLemmas
 mod PairLemmas
 mod RecordLemmas

@@ -1,6 +1,6 @@
 //! Runs of calls on one disk, or on both.
-ghost use Rattle.std.specs.Prelude.{◌≡◌, ◌+◌, ◌≤◌, ◌<◌, ◌^◌, ◌∷◌, [], ◌⊎◌, ◌==◌, slice_index_or, length, take, IfOk, OnOk, OnErr, IsErrOf};
-ghost use Rattle.ps_disks.specs.Disk.{written, Torn, Shortened, Follows, Only, LeavesOnly};
+ghost use Rattle.std.specs.Prelude.{◌≡◌, ◌+◌, ◌≤◌, ◌<◌, ◌^◌, ◌∷◌, [], ◌⊎◌, ◌==◌, slice_index_or, nat_le, length, take, drop, IfOk, OnOk, OnErr, IsErrOf};
+ghost use Rattle.ps_disks.specs.Disk.{ReadsAt, written, Torn, Shortened, Follows, Only, LeavesOnly};
 ghost use Rattle.ps_ports.specs.Causes.{Rose};
 ghost use Rattle.ps_disks.specs.declared.disk.DiskCall.TheVariants.{Write, Cut, Sync};
 ghost use Rattle.host_journal.specs.Told.{TellsAll, TellsFirst, TellsSyncs};
@@ -66,24 +66,78 @@ pub fn replace_rest<D: Disk>(disk: &mut D, piece: &[u8]) -> Result<(), DiskFault
     Ok(())
 }
 
-/// Makes sure of what is on a disk, and gives all its bytes.
-pub fn read_whole<D: Disk>(alloc: Global, disk: &mut D) -> Result<Vec<u8>, OpenReason>
-    ensures bytes { D.premise → IfOk result (λ bytes. bytes.items ≡ D.seen disk.old) }
-    ensures fixed { D.premise → OnOk result (Only (D.seen disk.old) (D.may_leave disk.new)) }
+/// Reads the first bytes of a disk, as many as the buffer has or all where there are fewer, and answers
+/// how many.
+pub fn read_head<D: Disk>(disk: &mut D, head: &mut [u8]) -> Result<usize, DiskFault>
+    ensures head { D.premise → IfOk result (λ n. take n head.new ≡ take (length head.old) (D.seen disk.old)) }
+    ensures bound { IfOk result (λ n. n ≤ length head.new) }
     ensures read { D.premise → IsRead D.seen D.may_leave D.moment D.left_since disk.old disk.new }
-    ensures told { TellsAll (D.told disk.old) (D.told disk.new) (Sync ∷ []) }
+    ensures told { D.told disk.new ≡ D.told disk.old }
     ensures later { D.disk_faults disk.old ≤ D.disk_faults disk.new }
-    ensures calm { (IsErrOf result OpenReason.DiskFault → ⊥) → D.disk_faults disk.new ≡ D.disk_faults disk.old }
-    ensures cause { IsErrOf result OpenReason.DiskFault → Rose (D.disk_faults disk.old) (D.disk_faults disk.new) }
-    ensures journal { (place : _) → IsErrOf result (OpenReason.NotAJournal place) → ⊥ }
+    ensures calm { OnOk result (D.disk_faults disk.new ≡ D.disk_faults disk.old) }
+    ensures cause { OnErr result (Rose (D.disk_faults disk.old) (D.disk_faults disk.new)) }
 {
-    if disk.sync().is_err() {
-        return Err(OpenReason::DiskFault);
+    let mut count = 0;
+    while count < head.len() {
+        let more = read_part(disk, head, count)?;
+        if more == 0 {
+            return Ok(count);
+        }
+        count += more;
     }
-    read_rest(alloc, disk)
+    Ok(count)
 }
 
-// How many bytes there are to read. Nothing stands on it but how much memory is asked for.
+// One read from a place on, to the same place of the buffer.
+fn read_part<D: Disk>(disk: &mut D, bytes: &mut [u8], at: usize) -> Result<usize, DiskFault>
+    requires { at ≤ length bytes.old }
+    ensures bytes { D.premise → IfOk result (λ n. ReadsAt (D.seen disk.old) at (drop at bytes.new) n) }
+    ensures bound { IfOk result (λ n. at + n ≤ length bytes.new) }
+    ensures front { take at bytes.new ≡ take at bytes.old }
+    ensures len { length bytes.new ≡ length bytes.old }
+    ensures read { D.premise → IsRead D.seen D.may_leave D.moment D.left_since disk.old disk.new }
+    ensures told { D.told disk.new ≡ D.told disk.old }
+    ensures later { D.disk_faults disk.old ≤ D.disk_faults disk.new }
+    ensures calm { OnOk result (D.disk_faults disk.new ≡ D.disk_faults disk.old) }
+    ensures cause { OnErr result (Rose (D.disk_faults disk.old) (D.disk_faults disk.new)) }
+{
+    Ok(disk.read(at as u64, &mut bytes[at..])?)
+}
+
+/// Whether there is a byte at a place.
+pub fn has_byte_at<D: Disk>(disk: &mut D, at: u64) -> Result<bool, DiskFault>
+    ensures has { D.premise → IfOk result (λ has. has ≡ nat_le (at + 1) (length (D.seen disk.old))) }
+    ensures read { D.premise → IsRead D.seen D.may_leave D.moment D.left_since disk.old disk.new }
+    ensures told { D.told disk.new ≡ D.told disk.old }
+    ensures later { D.disk_faults disk.old ≤ D.disk_faults disk.new }
+    ensures calm { OnOk result (D.disk_faults disk.new ≡ D.disk_faults disk.old) }
+    ensures cause { OnErr result (Rose (D.disk_faults disk.old) (D.disk_faults disk.new)) }
+{
+    let mut byte = [0; 1];
+    let count = disk.read(at, &mut byte)?;
+    Ok(count == 1)
+}
+
+// A length, of which there are no more bytes: 65,536, or twice that, and so on.
+fn bound_of<D: Disk>(disk: &mut D) -> Result<u64, DiskFault>
+    ensures read { D.premise → IsRead D.seen D.may_leave D.moment D.left_since disk.old disk.new }
+    ensures told { D.told disk.new ≡ D.told disk.old }
+    ensures later { D.disk_faults disk.old ≤ D.disk_faults disk.new }
+    ensures calm { OnOk result (D.disk_faults disk.new ≡ D.disk_faults disk.old) }
+    ensures cause { OnErr result (Rose (D.disk_faults disk.old) (D.disk_faults disk.new)) }
+{
+    let mut bound = 65_536u64;
+    while has_byte_at(disk, bound)? {
+        let Some(twice) = bound.checked_mul(2) else {
+            return Ok(bound);
+        };
+        bound = twice;
+    }
+    Ok(bound)
+}
+
+// How many bytes there are to read, found by halves. Nothing stands on it but how much memory is asked
+// for.
 fn measure<D: Disk>(disk: &mut D) -> Result<usize, DiskFault>
     ensures read { D.premise → IsRead D.seen D.may_leave D.moment D.left_since disk.old disk.new }
     ensures told { D.told disk.new ≡ D.told disk.old }
@@ -91,18 +145,17 @@ fn measure<D: Disk>(disk: &mut D) -> Result<usize, DiskFault>
     ensures calm { OnOk result (D.disk_faults disk.new ≡ D.disk_faults disk.old) }
     ensures cause { OnErr result (Rose (D.disk_faults disk.old) (D.disk_faults disk.new)) }
 {
-    let mut len = 0usize;
-    let mut buf = [0; 65536];
-    loop {
-        let count = disk.read(len as u64, &mut buf)?;
-        if count == 0 {
-            return Ok(len);
+    let mut low = 0;
+    let mut high = bound_of(disk)?;
+    while low < high {
+        let middle = low + (high - low) / 2;
+        if has_byte_at(disk, middle)? {
+            low = middle + 1;
+        } else {
+            high = middle;
         }
-        let Some(next) = len.checked_add(count) else {
-            return Ok(len);
-        };
-        len = next;
     }
+    Ok(low as usize)
 }
 
 /// All the bytes, in a buffer of their length.

@@ -11,10 +11,12 @@ ghost use Rattle.host_journal.specs.Pair.{AreGatesOf, number_of, pair_of};
 ghost use Rattle.host_journal.specs.State.{is_ready, stored, opened_as, EachImage, IsAt, IsOurs, SameButRoom, first_disk, second_disk};
 ghost use Rattle.host_journal.specs.Told.{TellsAll, TellsSyncs};
 
-use crate::disk_calls::{read_rest, read_whole};
-use crate::fault::{OpenFault, OpenReason};
+use crate::disk_calls::{has_byte_at, read_head, read_rest};
+use crate::fault::{DiskFault, OpenFault, OpenReason};
 use crate::pending::Pending;
-use crate::reading::{Counted, Front, SNAPSHOT_AT, choose, disk_number, front_of, read_one};
+use crate::reading::{
+    Counted, Front, SNAPSHOT_AT, choose, disk_number, front_of, numbers_in, read_one,
+};
 use ps_disks::disk::Disk;
 use ps_disks::memory_disk::MemoryDisk;
 use ps_time::items::Items;
@@ -247,8 +249,8 @@ fn read_disks<D: Disk>(
     ensures later_second { D.disk_faults second.old ≤ D.disk_faults second.new }
     ensures calm { (IsErrOf result OpenReason.DiskFault → ⊥) → (D.disk_faults first.new ≡ D.disk_faults first.old) × (D.disk_faults second.new ≡ D.disk_faults second.old) }
 {
-    let one = read_front(alloc, false, first)?;
-    let two = read_front(alloc, true, second)?;
+    let one = read_front(false, first)?;
+    let two = read_front(true, second)?;
     let is_second = match choose(one, two) {
         Ok(is_second) => is_second,
         Err(at) => return Err(OpenReason::NotAJournal(at)),
@@ -266,19 +268,40 @@ fn read_disks<D: Disk>(
     Ok((counted, !stands))
 }
 
-// Makes sure of a disk, and looks at it.
-fn read_front<D: Disk>(alloc: Global, second: bool, disk: &mut D) -> Result<Front, OpenReason>
+// Makes sure of a disk, and looks at its head, and at whether it has its first gate.
+fn read_front<D: Disk>(second: bool, disk: &mut D) -> Result<Front, DiskFault>
     ensures front { D.premise → IfOk result (λ front. IsFrontOf second (D.seen disk.old) front) }
     ensures fixed { D.premise → OnOk result (Only (D.seen disk.old) (D.may_leave disk.new)) }
     ensures read { D.premise → IsRead D.seen D.may_leave D.moment D.left_since disk.old disk.new }
     ensures told { TellsAll (D.told disk.old) (D.told disk.new) (Sync ∷ []) }
     ensures later { D.disk_faults disk.old ≤ D.disk_faults disk.new }
-    ensures calm { (IsErrOf result OpenReason.DiskFault → ⊥) → D.disk_faults disk.new ≡ D.disk_faults disk.old }
-    ensures cause { IsErrOf result OpenReason.DiskFault → Rose (D.disk_faults disk.old) (D.disk_faults disk.new) }
-    ensures journal { (place : _) → IsErrOf result (OpenReason.NotAJournal place) → ⊥ }
+    ensures calm { OnOk result (D.disk_faults disk.new ≡ D.disk_faults disk.old) }
+    ensures cause { OnErr result (Rose (D.disk_faults disk.old) (D.disk_faults disk.new)) }
 {
-    let bytes = read_whole(alloc, disk)?;
-    Ok(front_of(second, &bytes))
+    disk.sync()?;
+    look_at(second, disk)
+}
+
+// The front of a disk. Of a disk that stands it looks at the place of its first gate.
+fn look_at<D: Disk>(second: bool, disk: &mut D) -> Result<Front, DiskFault>
+    ensures front { D.premise → IfOk result (λ front. IsFrontOf second (D.seen disk.old) front) }
+    ensures read { D.premise → IsRead D.seen D.may_leave D.moment D.left_since disk.old disk.new }
+    ensures told { D.told disk.new ≡ D.told disk.old }
+    ensures later { D.disk_faults disk.old ≤ D.disk_faults disk.new }
+    ensures calm { OnOk result (D.disk_faults disk.new ≡ D.disk_faults disk.old) }
+    ensures cause { OnErr result (Rose (D.disk_faults disk.old) (D.disk_faults disk.new)) }
+{
+    let mut head = [0; 21];
+    let count = read_head(disk, &mut head)?;
+    let head = &head[..count];
+    let Some(numbers) = numbers_in(head) else {
+        return Ok(front_of(second, head));
+    };
+    if has_byte_at(disk, numbers.start)? {
+        Ok(Front::Open(Some(numbers.generation)))
+    } else {
+        Ok(Front::Open(None))
+    }
 }
 
 // All the bytes of one of two disks.

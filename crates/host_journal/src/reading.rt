@@ -2,7 +2,7 @@
 ghost use Rattle.std.specs.Prelude.{◌≡◌, ◌+◌, ◌≤◌, ◌<◌, ◌^◌, true, false, length, take, drop, IfOk, IfSome, IfNone, Some, None, Ok, [], ◌∷◌};
 ghost use Rattle.host_journal.specs.Format.{agreeing, stands, sized, body_of, record_bytes, records_of};
 ghost use Rattle.host_journal.specs.Pair.{number_of, counted, headless, alone};
-ghost use Rattle.host_journal.specs.Front.{is_open, generation_in, IsFrontOf, chosen_open, chosen};
+ghost use Rattle.host_journal.specs.Front.{is_open, generation_in, numbers_behind, numbers_in, IsFrontOf, chosen_open, chosen};
 ghost use Rattle.host_journal.specs.Reading.{Walked, IsWithin};
 
 use ps_time::items::Items;
@@ -246,6 +246,42 @@ impl Front {
     {
         matches!(self, Front::Open(_))
     }
+}
+
+/// The numbers in the head of a disk that stands.
+#[derive(Clone, Copy)]
+pub(crate) struct Numbers {
+    pub(crate) generation: u64,
+    /// The place of the first gate.
+    pub(crate) start: u64,
+}
+
+/// The numbers of a disk that stands, from its head: its first 21 bytes, or all where there are fewer.
+pub(crate) fn numbers_in(head: &[u8]) -> Option<Numbers>
+    ensures { result ≡ numbers_in head.now }
+{
+    if is_standing(head) {
+        numbers_behind(&head[9..])
+    } else {
+        None
+    }
+}
+
+fn numbers_behind(bytes: &[u8]) -> Option<Numbers>
+    ensures { result ≡ numbers_behind bytes.now }
+{
+    let [a, b, c, d, e, f, g, h, rest @ ..] = bytes else {
+        return None;
+    };
+    let generation = u64::from_be_bytes([*a, *b, *c, *d, *e, *f, *g, *h]);
+    let [a, b, c, d, ..] = rest else {
+        return None;
+    };
+    let size = u32::from_be_bytes([*a, *b, *c, *d]);
+    Some(Numbers {
+        generation,
+        start: SNAPSHOT_AT + u64::from(size),
+    })
 }
 
 /// The front of a disk with these bytes.

@@ -39,13 +39,19 @@ static APPENDS: [Bytes; 3] = [
 
 // A journal on this first disk and a new second one, after an append of 01 02.
 fn appended(alloc: Global, first: &[u8]) -> Result<Option<Journal<MemoryDisk>>, Memory> {
-    let Some(mut journal) = journal_on(alloc, first, &FRESH_SECOND)? else {
-        return Ok(None);
-    };
-    if !add(&mut journal, &[1, 2])? {
-        return Ok(None);
+    match journal_on(alloc, first, &FRESH_SECOND)? {
+        Some(journal) => with_record(journal),
+        None => Ok(None),
     }
-    Ok(Some(journal))
+}
+
+fn with_record(journal: Journal<MemoryDisk>) -> Result<Option<Journal<MemoryDisk>>, Memory> {
+    let mut journal = journal;
+    if add(&mut journal, &[1, 2])? {
+        Ok(Some(journal))
+    } else {
+        Ok(None)
+    }
 }
 
 fn has_bytes(journal: Journal<MemoryDisk>, wanted: &[u8]) -> bool {

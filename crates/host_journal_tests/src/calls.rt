@@ -17,14 +17,16 @@ pub const OLDER: [u8; 30] =
 // A snapshot of ab, made on the second disk of a new pair.
 pub const SNAPSHOT: [u8; 23] = *b"PSCHJRN1\x01\0\0\0\0\0\0\0\x02\0\0\0\x01\xab\0";
 
-pub fn disk_of(alloc: Global, bytes: &[u8]) -> Result<MemoryDisk, AllocError> {
+// A disk of which the calls with these numbers fail.
+pub fn disk_of(alloc: Global, bytes: &[u8], failing: &[u64]) -> Result<MemoryDisk, AllocError> {
     let bytes = bytes.to_vec(alloc)?;
-    Ok(MemoryDisk::new(alloc, bytes, Vec::new(alloc)))
+    let failing = failing.to_vec(alloc)?;
+    Ok(MemoryDisk::new(alloc, bytes, failing))
 }
 
 pub fn pair_of(alloc: Global, first: &[u8], second: &[u8]) -> Result<Pair, AllocError> {
-    let first = disk_of(alloc, first)?;
-    let second = disk_of(alloc, second)?;
+    let first = disk_of(alloc, first, &[])?;
+    let second = disk_of(alloc, second, &[])?;
     Ok((first, second))
 }
 
@@ -60,16 +62,18 @@ pub fn opened(alloc: Global, pair: Pair, wanted: &[&[u8]]) -> Option<Journal<Mem
     }
 }
 
+pub fn journal_of(alloc: Global, pair: Pair) -> Option<Journal<MemoryDisk>> {
+    let (journal, _list) = found(alloc, pair)?;
+    Some(journal)
+}
+
 // The journal on disks with these bytes.
 pub fn journal_on(
     alloc: Global,
     first: &[u8],
     second: &[u8],
 ) -> Result<Option<Journal<MemoryDisk>>, AllocError> {
-    match found(alloc, pair_of(alloc, first, second)?) {
-        Some((journal, _list)) => Ok(Some(journal)),
-        None => Ok(None),
-    }
+    Ok(journal_of(alloc, pair_of(alloc, first, second)?))
 }
 
 // Whether the disks read so.

@@ -6,12 +6,8 @@ mod append_tests;
 #[cfg(test)]
 mod calls;
 #[cfg(test)]
-mod keeper_tests;
-#[cfg(test)]
 mod open_tests;
 #[cfg(test)]
 mod reload_tests;
-#[cfg(test)]
-mod run_tests;
 #[cfg(test)]
 mod snapshot_tests;

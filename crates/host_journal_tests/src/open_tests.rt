@@ -55,32 +55,40 @@ static JOURNALS: [Row; 7] = [
     ),
 ];
 
+fn has_places_of(journal: &Journal<MemoryDisk>, at: At) -> bool {
+    let (is_second, generation, start, end) = at;
+    journal.generation() == generation
+        && journal.counting_disk() == if is_second { 2 } else { 1 }
+        && Some(journal.snapshot_bytes()) == start.checked_sub(21)
+        && Some(journal.record_bytes()) == end.checked_sub(start)
+}
+
 // One more append of 03 stands on the disk that counts, at the place of its last gate.
 fn is_at(journal: Journal<MemoryDisk>, at: At) -> Result<bool, Memory> {
-    let (is_second, generation, start, end) = at;
     let mut journal = journal;
-    if journal.generation() != generation
-        || journal.counting_disk() != if is_second { 2 } else { 1 }
-        || Some(journal.snapshot_bytes()) != start.checked_sub(21)
-        || Some(journal.record_bytes()) != end.checked_sub(start)
-    {
+    if !has_places_of(&journal, at) || !add(&mut journal, &[3])? {
         return Ok(false);
     }
-    let calls = if is_second { (1, 5) } else { (5, 1) };
-    if !add(&mut journal, &[3])? || journal.calls() != calls {
-        return Ok(false);
-    }
+    Ok(has_record(journal, at))
+}
+
+// With the sync of the opening the disk that counts has five calls.
+fn has_record(journal: Journal<MemoryDisk>, at: At) -> bool {
+    let (is_second, _generation, _start, end) = at;
+    let calls = journal.calls();
     let (first, second) = journal.into_disks();
     if is_second {
-        Ok(has_record_at(&second, end))
+        calls == (1, 5) && has_record_at(second.bytes(), end)
     } else {
-        Ok(has_record_at(&first, end))
+        calls == (5, 1) && has_record_at(first.bytes(), end)
     }
 }
 
-fn has_record_at(disk: &MemoryDisk, gate: u64) -> bool {
-    match disk.bytes().get(gate as usize..) {
-        Some(bytes) => bytes.starts_with(b"\x01\0\0\0\x01\x03\0"),
+static RECORD: [u8; 7] = *b"\x01\0\0\0\x01\x03\0";
+
+fn has_record_at(bytes: &[u8], gate: u64) -> bool {
+    match bytes.get(gate as usize..) {
+        Some(bytes) => bytes.starts_with(&RECORD),
         None => false,
     }
 }
@@ -147,18 +155,23 @@ fn pairs_that_are_no_journal(rt: HostRuntime) -> Result<(), Fail> {
 }
 
 // What an opening does to its disks: one sync each, and no byte.
+fn is_as_opened(journal: Journal<MemoryDisk>) -> bool {
+    if !journal.is_ready() || journal.generation() != 2 || journal.record_bytes() != 0 {
+        return false;
+    }
+    journal.calls() == (1, 1) && gives_back(journal, &ONE_RECORD, &SNAPSHOT)
+}
+
+fn opens_and_gives_back(alloc: Global) -> Result<bool, Memory> {
+    match opened(alloc, pair_of(alloc, &ONE_RECORD, &SNAPSHOT)?, &[&[0xab]]) {
+        Some(journal) => Ok(is_as_opened(journal)),
+        None => Ok(false),
+    }
+}
+
 #[test]
 fn a_pair_is_opened_and_given_back(rt: HostRuntime) -> Result<(), Fail> {
-    let alloc = rt.alloc();
-    let found = opened(alloc, pair_of(alloc, &ONE_RECORD, &SNAPSHOT)?, &[&[0xab]]);
-    assert!(rt; found.is_some());
-    if let Some(journal) = found {
-        assert!(rt; journal.is_ready());
-        assert_eq!(rt; journal.generation(), 2);
-        assert_eq!(rt; journal.record_bytes(), 0);
-        assert_eq!(rt; journal.calls(), (1, 1));
-        assert!(rt; gives_back(journal, &ONE_RECORD, &SNAPSHOT));
-    }
+    assert!(rt; opens_and_gives_back(rt.alloc())?);
     Ok(())
 }
 

@@ -1,6 +1,6 @@
 //! A fault at each disk call of a snapshot, of an append and of a cut, `reload` after it, and one more
 //! append.
-use crate::calls::{OLDER, ONE_RECORD, add, found, goes_on, journal_on, snap};
+use crate::calls::{OLDER, ONE_RECORD, add, disk_of, goes_on, journal_of, journal_on, snap};
 use host_journal::journal::Journal;
 use ps_disks::memory_disk::MemoryDisk;
 use ps_disks::rack::{FRESH_FIRST, FRESH_SECOND};
@@ -142,20 +142,18 @@ fn a_cut_that_fails_and_a_reload(rt: HostRuntime) -> Result<(), Fail> {
     Ok(())
 }
 
-// A journal on a new pair of which the calls with these numbers fail, reads counted too. The opening syncs
-// each disk, and reads it twice with two reads, a read and a read at the end: five calls. Then it reads
-// the first disk, which counts, in the same way: nine calls there.
+// A journal on a new pair of which the calls with these numbers fail, reads counted too. The opening makes
+// three calls on each disk: a sync, a read of the head, and a read of the first gate or, on the second
+// disk, at the end. Then it finds the length of the first disk, which counts, by 17 reads of a byte, and
+// reads it with a read and a read at the end: 22 calls there.
 fn failing(
     alloc: Global,
     first: &[u64],
     second: &[u64],
 ) -> Result<Option<Journal<MemoryDisk>>, Memory> {
-    let first = MemoryDisk::new(alloc, FRESH_FIRST.to_vec(alloc)?, first.to_vec(alloc)?);
-    let second = MemoryDisk::new(alloc, FRESH_SECOND.to_vec(alloc)?, second.to_vec(alloc)?);
-    match found(alloc, (first, second)) {
-        Some((journal, _list)) => Ok(Some(journal)),
-        None => Ok(None),
-    }
+    let first = disk_of(alloc, &FRESH_FIRST, first)?;
+    let second = disk_of(alloc, &FRESH_SECOND, second)?;
+    Ok(journal_of(alloc, (first, second)))
 }
 
 // `reload` answers so, and the next call of the disk that counts fails: it was the last one.
@@ -166,17 +164,17 @@ fn reloads_with(journal: &mut Journal<MemoryDisk>, stood: bool) -> Result<bool, 
     Ok(!add(journal, &[3])?)
 }
 
-// After an append a sync and the read of one gate: calls 14 and 15.
+// After an append a sync and the read of one gate: calls 27 and 28.
 fn append_reads(alloc: Global) -> Result<bool, Memory> {
-    match failing(alloc, &[13, 16], &[])? {
+    match failing(alloc, &[26, 29], &[])? {
         Some(mut journal) => Ok(!add(&mut journal, &[1, 2])? && reloads_with(&mut journal, true)?),
         None => Ok(false),
     }
 }
 
-// After a snapshot the same on the other disk: calls 13 and 14.
+// After a snapshot the same on the other disk: calls 11 and 12.
 fn snapshot_reads(alloc: Global) -> Result<bool, Memory> {
-    match failing(alloc, &[], &[12, 15])? {
+    match failing(alloc, &[], &[10, 13])? {
         Some(mut journal) => Ok(
             !snap(&mut journal, &[0xab])? && reloads_with(&mut journal, false)?,
         ),
@@ -184,9 +182,9 @@ fn snapshot_reads(alloc: Global) -> Result<bool, Memory> {
     }
 }
 
-// After a cut a sync alone: call 11.
+// After a cut a sync alone: call 24.
 fn cut_reads(alloc: Global) -> Result<bool, Memory> {
-    match failing(alloc, &[10, 12], &[])? {
+    match failing(alloc, &[23, 25], &[])? {
         Some(mut journal) => Ok(
             journal.is_ready() && journal.cut_tail().is_err() && reloads_with(&mut journal, false)?,
         ),

@@ -33,13 +33,19 @@ fn snapped(
     first: &[u8],
     second: &[u8],
 ) -> Result<Option<Journal<MemoryDisk>>, Memory> {
-    let Some(mut journal) = journal_on(alloc, first, second)? else {
-        return Ok(None);
-    };
-    if !snap(&mut journal, &[0xab])? {
-        return Ok(None);
+    match journal_on(alloc, first, second)? {
+        Some(journal) => with_snapshot(journal),
+        None => Ok(None),
     }
-    Ok(Some(journal))
+}
+
+fn with_snapshot(journal: Journal<MemoryDisk>) -> Result<Option<Journal<MemoryDisk>>, Memory> {
+    let mut journal = journal;
+    if snap(&mut journal, &[0xab])? {
+        Ok(Some(journal))
+    } else {
+        Ok(None)
+    }
 }
 
 fn has_bytes(journal: Journal<MemoryDisk>, row: &Row) -> bool {

@@ -1,28 +1,27 @@
 //! A keeper of one number over a journal: its clauses follow from the journal's alone.
-ghost use Rattle.std.specs.Prelude.{◌≡◌, ◌≤◌, IsTrue, IfOk, OnOk};
-ghost use Rattle.std.specs.Int.{w64, to_be_bytes};
+ghost use Rattle.std.specs.Prelude.{◌≡◌, ◌+◌, ◌≤◌, IsTrue, IfOk, OnOk, length};
 ghost use Rattle.host_journal.specs.State.{is_ready, stored, which, EachImage};
 
-use crate::calls::{Pair, found, journal_on};
+use crate::pairs::{Pair, list_of, new_journal};
 use host_journal::fault::DiskFault;
 use host_journal::journal::Journal;
 use ps_disks::disk::Disk;
 use ps_disks::memory_disk::MemoryDisk;
-use ps_disks::rack::{FRESH_FIRST, FRESH_SECOND};
 use ps_time::memory::Memory;
 use std::alloc::Global;
 use std::process::Abort;
 use std::test::Fail;
 
 /// Keeps a number. After a fault it takes the journal up, and answers whether the number is kept.
-fn keep<D: Disk>(journal: &mut Journal<D>, number: u64) -> Result<bool, DiskFault>
+fn keep<D: Disk>(journal: &mut Journal<D>, number: &[u8]) -> Result<bool, DiskFault>
     requires ready { IsTrue (is_ready journal.old.pending) }
-    requires room { 21 ≤ journal.old.room }
-    ensures kept { D.premise → IfOk result (λ stood. EachImage D.may_leave journal.new (λ pair. pair ≡ which (to_be_bytes w64 number) stood (stored D.seen journal.old))) }
+    requires room { length number.now + 13 ≤ journal.old.room }
+    requires bound { length number.now ≤ 8388608 }
+    ensures kept { D.premise → IfOk result (λ stood. EachImage D.may_leave journal.new (λ pair. pair ≡ which number.now stood (stored D.seen journal.old))) }
     ensures ready { OnOk result (IsTrue (is_ready journal.new.pending)) }
-    ensures room { OnOk result (21 ≤ journal.new.room) }
+    ensures room { OnOk result (length number.now + 13 ≤ journal.new.room) }
 {
-    if journal.append(&number.to_be_bytes()).is_ok() {
+    if journal.append(number).is_ok() {
         return Ok(true);
     }
     journal.reload()
@@ -39,7 +38,7 @@ fn kept(
     if !journal.is_ready() {
         return Ok(None);
     }
-    Ok(keep(journal, number).ok())
+    Ok(keep(journal, &number.to_be_bytes()).ok())
 }
 
 // A number, the call that fails, and whether the number is kept.
@@ -64,16 +63,14 @@ fn keeps_each(
 
 // The pair has two numbers behind its snapshot, and this is the last one.
 fn is_last(alloc: Global, pair: Pair, number: u64) -> bool {
-    match found(alloc, pair) {
-        Some((_journal, list)) => {
-            list.len() == 3 && list[2].as_slice() == number.to_be_bytes().as_slice()
-        }
+    match list_of(alloc, pair) {
+        Some(list) => list.len() == 3 && list[2].as_slice() == number.to_be_bytes().as_slice(),
         None => false,
     }
 }
 
 fn all_kept(alloc: Global) -> Result<bool, Memory> {
-    let Some(mut journal) = journal_on(alloc, &FRESH_FIRST, &FRESH_SECOND)? else {
+    let Some(mut journal) = new_journal(alloc)? else {
         return Ok(false);
     };
     if !keeps_each(&mut journal, &KEPT)? {

@@ -5,14 +5,12 @@ ghost use Rattle.ps_disks.specs.Disk.{Only};
 ghost use Rattle.host_journal.specs.Moments.{Adds, LeftIn, LiesBeside, Shows};
 ghost use Rattle.host_journal.specs.Pair.{pair_of};
 ghost use Rattle.host_journal.specs.State.{is_ready, stored, EachSince, snapshot_of, first_disk, second_disk};
-ghost use Rattle.host_journal_tests.specs.Kept.{Keeps, IsMade};
+ghost use Rattle.host_journal_keeper_tests.specs.Kept.{Keeps, IsMade};
 
-use crate::calls::{Pair, journal_on, opened, pair_of};
+use crate::pairs::{Pair, list_of, new_journal, new_pair};
 use host_journal::fault::{DiskFault, OpenFault};
 use host_journal::journal::Journal;
 use ps_disks::disk::Disk;
-use ps_disks::memory_disk::MemoryDisk;
-use ps_disks::rack::{FRESH_FIRST, FRESH_SECOND};
 use ps_time::memory::Memory;
 use std::alloc::Global;
 use std::test::Fail;
@@ -104,7 +102,7 @@ fn open_keeper<D: Disk>(
 
 // A new pair in which a number is turned.
 fn turned(alloc: Global, number: &[u8]) -> Result<Option<Pair>, Memory> {
-    let Some(mut journal) = journal_on(alloc, &FRESH_FIRST, &FRESH_SECOND)? else {
+    let Some(mut journal) = new_journal(alloc)? else {
         return Ok(None);
     };
     journal.reserve(number.len())?;
@@ -119,8 +117,16 @@ fn turned(alloc: Global, number: &[u8]) -> Result<Option<Pair>, Memory> {
 
 fn turns(alloc: Global) -> Result<bool, Memory> {
     match turned(alloc, &[7, 7])? {
-        Some(pair) => Ok(opened(alloc, pair, &[&[7, 7]]).is_some()),
+        Some(pair) => Ok(is_once(alloc, pair, &[7, 7])),
         None => Ok(false),
+    }
+}
+
+// The number is the snapshot, and there is no record.
+fn is_once(alloc: Global, pair: Pair, number: &[u8]) -> bool {
+    match list_of(alloc, pair) {
+        Some(list) => list.len() == 1 && list[0].as_slice() == number,
+        None => false,
     }
 }
 
@@ -131,15 +137,21 @@ fn a_number_is_added_and_then_the_snapshot(rt: HostRuntime) -> Result<(), Fail> 
 }
 
 fn opens(alloc: Global) -> Result<bool, Memory> {
-    let (first, second) = pair_of(alloc, &FRESH_FIRST, &FRESH_SECOND)?;
+    let (first, second) = new_pair(alloc)?;
     match open_keeper(alloc, first, second, &[9]) {
-        Ok((journal, done)) => Ok(done && is_nine_twice(alloc, journal)),
+        Ok((journal, done)) => Ok(done && is_twice(alloc, journal.into_disks(), &[9])),
         Err(_fault) => Ok(false),
     }
 }
 
-fn is_nine_twice(alloc: Global, journal: Journal<MemoryDisk>) -> bool {
-    opened(alloc, journal.into_disks(), &[&[9], &[9]]).is_some()
+// The number is the snapshot, and the one record too.
+fn is_twice(alloc: Global, pair: Pair, number: &[u8]) -> bool {
+    match list_of(alloc, pair) {
+        Some(list) => {
+            list.len() == 2 && list[0].as_slice() == number && list[1].as_slice() == number
+        }
+        None => false,
+    }
 }
 
 #[test]
