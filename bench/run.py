@@ -1,6 +1,7 @@
 #!/usr/bin/env python3
-"""Times `psched rehearse` on scripts of 5,000 and 20,000 bookings beside a plain program of the same
-semantics, in one run, and prints seconds and ratios. Both must print the same report.
+"""Times `psched rehearse` on scripts of 5,000, 20,000 and 50,000 bookings of three kinds beside a plain program of the
+same semantics with sorted maps, in one run, and prints seconds and ratios. Both must print the same report. For the
+mixed kind up to 20,000 a second plain program, which passes over all rows, must print it too.
 
 usage: run.py PROGRAM    (make bench gives build/psched)
 """
@@ -11,7 +12,8 @@ import tempfile
 import time
 
 HERE = pathlib.Path(__file__).resolve().parent
-SIZES = [5_000, 20_000]
+KINDS = ["mixed", "lapsing", "touching"]
+SIZES = [5_000, 20_000, 50_000]
 ROUNDS = 3
 
 
@@ -25,24 +27,35 @@ def timed(words: list[str], script: bytes) -> tuple[float, bytes]:
     return best, printed
 
 
+def compiled(folder: str, name: str) -> str:
+    program = f"{folder}/{name}"
+    subprocess.run(["rustc", "-O", "-o", program, HERE / name / "main.rs"], check=True)
+    return program
+
+
+def measure(program: str, others: dict[str, str], kind: str) -> None:
+    seconds = {}
+    for size in SIZES:
+        words = [sys.executable, HERE / "make_script.py", str(size), kind]
+        script = subprocess.run(words, stdout=subprocess.PIPE, check=True).stdout
+        ours, report = timed([program, "rehearse"], script)
+        other, wanted = timed([others["sorted"]], script)
+        if report != wanted:
+            sys.exit(f"{kind}, {size} bookings: the reports differ")
+        if kind == "mixed" and size <= 20_000 and timed([others["plain"]], script)[1] != wanted:
+            sys.exit(f"{kind}, {size} bookings: the plain programs differ")
+        seconds[size] = ours
+        print(f"{kind}, {size} bookings: psched {ours:.3f} s, sorted maps {other:.3f} s, ratio {ours / other:.1f}", flush=True)
+    small, large = seconds[SIZES[0]], seconds[SIZES[-1]]
+    print(f"{kind}: {SIZES[-1]} take {large / small:.1f} times as long as {SIZES[0]}")
+
+
 def main() -> None:
     program = str(pathlib.Path(sys.argv[1]).resolve())
     with tempfile.TemporaryDirectory() as folder:
-        plain = f"{folder}/plain"
-        subprocess.run(["rustc", "-O", "-o", plain, HERE / "plain" / "main.rs"], check=True)
-        seconds = {}
-        for size in SIZES:
-            script = subprocess.run(
-                [sys.executable, HERE / "make_script.py", str(size)], stdout=subprocess.PIPE, check=True
-            ).stdout
-            ours, report = timed([program, "rehearse"], script)
-            other, wanted = timed([plain], script)
-            if report != wanted:
-                sys.exit(f"{size} bookings: the reports differ")
-            seconds[size] = (ours, other)
-            print(f"{size} bookings: psched {ours:.3f} s, plain {other:.3f} s, ratio {ours / other:.1f}")
-        small, large = (seconds[size][0] for size in SIZES)
-        print(f"psched: {SIZES[1]} take {large / small:.1f} times as long as {SIZES[0]}")
+        others = {name: compiled(folder, name) for name in ("sorted", "plain")}
+        for kind in KINDS:
+            measure(program, others, kind)
 
 
 if __name__ == "__main__":

@@ -1,5 +1,5 @@
 -- The reservations of rows, as rows settle, give way, come and are confirmed.
-use Rattle.std.proofs.Common.{◌≡◌, ℕ, filter, ◌&&◌, Bool, true, false, cond, List, [], ◌∷◌, Option, Some, None, not, is_some, refl, ap, ap₂, sym, subst, ◌∙◌}
+use Rattle.std.proofs.Common.{◌≡◌, ℕ, ◌&&◌, Bool, true, false, cond, List, [], ◌∷◌, Option, Some, None, not, is_some, refl, ap, ap₂, sym, subst, ◌∙◌}
 use Rattle.std.specs.List.{AllByRecursion}
 use Rattle.std.specs.Ordering.{is_eq, match_ordering, ordering_reverse}
 use Rattle.std.specs.declared.cmp.Ordering.{Ordering}
@@ -22,7 +22,7 @@ use Rattle.host_timeline.specs.declared.booking.Booking.{Booking}
 use Rattle.host_timeline.specs.Booking.{conflicts_with, conflicting, firm_from_of, without_conflicts, keys_of}
 use Rattle.host_timeline.specs.Timeline.{find_booking, with_booking, without_booking}
 use Rattle.host_core.specs.Booking.{conflicts, keys_of_rows}
-use Rattle.host_core.specs.Reservations.{blocking, closed_each, freed_row, freed_rows, reserved, booking_of, with_some, bookings_of, lapses, released}
+use Rattle.host_core.specs.Reservations.{blocking, closed_each, closed_keys, freed_row, freed_rows, reserved, booking_of, with_some, bookings_of, lapses, released}
 
 -- ---- one row and its reservation ----
 abbrev HasKey : RunKey → Option Booking → Type 0
@@ -300,6 +300,16 @@ module _ (m : ℕ) (key : RunKey) (class : Class) (s : Span) where
             | true ↦ ap (closed_each m key class s (bookings_of rs)) (own_closed r rs up.0) ∙ (closed_past (close_one r) (bookings_of rs) rs others ∙ ap (λ l. close_one r ∷ l) later)
             | false ↦ closed_past r (bookings_of rs) rs others ∙ ap (λ l. r ∷ l) later
           ]
+
+-- closing one booking after another, each that is in conflict, is closing the keys of the conflicts
+pub closed_each_keys : (m : ℕ) (key : RunKey) (class : Class) (s : Span) (bs : List Booking) (rows : List RunRow) → closed_each m key class s bs rows ≡ closed_keys m key (keys_of (conflicting class s bs)) rows
+closed_each_keys m key class s [] rows = refl
+closed_each_keys m key class s (b ∷ bs) rows =
+    let closed = change_row (close_row (record { moment = m; why = Preempted key })) rows b.key in
+    elim (conflicts_with class s b) as (λ x. closed_each m key class s bs (cond x closed rows) ≡ closed_keys m key (keys_of (cond x (b ∷ conflicting class s bs) (conflicting class s bs))) rows) [
+      | true ↦ closed_each_keys m key class s bs closed
+      | false ↦ closed_each_keys m key class s bs rows
+    ]
 
 pub closed_preempted : (m : ℕ) (key : RunKey) (class : Class) (s : Span) (rows : List RunRow) → IsAscendingRows rows → find_row rows key ≡ None → closed_each m key class s (bookings_of rows) rows ≡ preempted_rows m key class s rows
 closed_preempted m key class s rows up none = closed_freed m key class s rows up ∙ sym (preempted_apart key class s m rows none)

@@ -7,6 +7,7 @@ pub mod IndexLemmas
 pub mod LapseLemmas
 pub mod NumberLemmas
 pub mod Placed
+mod PreemptLemmas
 pub mod RowLemmas
 pub mod SortLemmas
 pub mod Standing

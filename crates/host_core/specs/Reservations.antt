@@ -82,3 +82,8 @@ abbrev pub closed_each : ℕ → RunKey → Class → Span → List Booking → 
 closed_each m key class s [] rows = rows
 closed_each m key class s (b ∷ bs) rows =
     closed_each m key class s bs (if conflicts_with class s b then change_row (close_row (record { moment = m; why = Preempted key })) rows b.key else rows)
+
+-- the rows, those of the keys closed at m in favour of the run that has the key
+abbrev pub closed_keys : ℕ → RunKey → List RunKey → List RunRow → List RunRow
+closed_keys m key [] rows = rows
+closed_keys m key (k ∷ ks) rows = closed_keys m key ks (change_row (close_row (record { moment = m; why = Preempted key })) rows k)

@@ -307,7 +307,7 @@ impl Host {
         ensures room { self.old.room ≤ self.new.room + 1 }
     {
         let run = reservation_of(&proposal);
-        close_conflicts(&mut self.rows, self.timeline.bookings(), &run, moment);
+        close_conflicts(&mut self.rows, &self.timeline, &run, moment);
         self.timeline.release_conflicts(run.class, &run.interval);
         self.timeline.book(run);
         let row = accepted_row(alloc, moment, proposal, participants);
@@ -453,15 +453,15 @@ fn sort_out(
 }
 
 // Closes the rows of the reservations in conflict with the run, in favour of it.
-fn close_conflicts(rows: &mut Rows, bookings: &[Booking], run: &Booking, moment: Moment)
-    ensures rows { rows.new.list ≡ closed_each moment run.now.key run.now.class run.now.interval bookings.now rows.old.list }
+fn close_conflicts(rows: &mut Rows, timeline: &Timeline, run: &Booking, moment: Moment)
+    ensures rows { rows.new.list ≡ closed_each moment run.now.key run.now.class run.now.interval timeline.now.list rows.old.list }
     ensures room { rows.new.room ≡ rows.old.room }
 {
-    for booking in bookings {
-        if booking.conflicts_with(run.class, &run.interval) {
-            let why = Why::Preempted(run.key);
-            rows.close(booking.key, Closing { moment, why });
-        }
+    let mut last = None;
+    while let Some(key) = timeline.next_conflict(run.class, &run.interval, last) {
+        let why = Why::Preempted(run.key);
+        rows.close(key, Closing { moment, why });
+        last = Some(key);
     }
 }
 

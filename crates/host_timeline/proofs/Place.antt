@@ -1,18 +1,14 @@
 -- What a search finds among bookings, and what an edit at that place does.
-use Rattle.std.proofs.Common.{◌≡◌, ◌<◌, ℕ, zero, suc, ◌∷◌, ◌&&◌, ◌-◌, take, drop, Bool, false, arith, List, length, get_or, set, Result, Ok, Err, IfOk, IfErr, Some, None, [], refl, subst}
-use Rattle.std.proofs.lemmas.List.{take_all, length-drop}
-use Rattle.std.specs.List.{filter, insert, remove}
-use Rattle.std.specs.declared.cmp.Ordering.TheVariants.{Less}
-use Rattle.ps_time.specs.Span.{Span}
-use Rattle.ps_time.specs.declared.class.Class.{Class}
+use Rattle.std.proofs.Common.{◌≡◌, ℕ, List, length, get_or, set, Result, Ok, Err, IfOk, IfErr, Some, None, [], refl, subst}
+use Rattle.std.specs.List.{insert, remove}
 use Rattle.std.specs.List.Sorted.{IsSearchInRange, IsBinarySearchResult}
 use Rattle.ps_time.specs.declared.key.RunKey.{RunKey}
 use Rattle.ps_time.specs.Key.{key_cmp}
 use Rattle.ps_time.proofs.KeyLemmas.{key_cmp_total}
-use Rattle.ps_time.proofs.SortedLemmas.{ascending_at, searchable, find_in_gap, insert_in_gap, find_at, without_at, without_in_gap, ascending-without, ascending-insert, set_changes, ascending-change, change_in_gap}
+use Rattle.ps_time.proofs.SortedLemmas.{searchable, find_in_gap, insert_in_gap, find_at, without_at, without_in_gap, ascending-without, ascending-insert, set_changes, ascending-change, change_in_gap}
 use Rattle.host_timeline.proofs.Free.{free_filter, free_insert, free_start}
 use Rattle.host_timeline.specs.declared.booking.Booking.{Booking}
-use Rattle.host_timeline.specs.Booking.{conflicting, conflicting_after, conflicts_with, is_after}
+use Rattle.host_timeline.specs.Booking.{conflicting}
 use Rattle.host_timeline.specs.Timeline.{find_booking, with_booking, without_booking, with_started, started_booking, IsInOrder, IsPlaceOf, IsGapFor}
 
 module _ (bookings : List Booking) (ordered : IsInOrder bookings) (k : RunKey) where
@@ -64,29 +60,3 @@ module _ (bookings : List Booking) (b : Booking) (i : ℕ) (gap : IsGapFor booki
         ascending = ascending-insert key_cmp_total (λ b. b.key) bookings b ordered.ascending (find_gap bookings b.key i gap);
         conflict_free = free_insert bookings b ordered.conflict_free free;
       })
-
--- ---- bookings before a place whose keys are at most another
-module _ {X : Type 0} (p : X → Bool) where
-  -- what fails in front is left out
-  pub filter_behind : (xs : List X) (i : ℕ) → ((j : ℕ) (d : X) → j < i → j < length xs → p (get_or xs j d) ≡ false) → filter p xs ≡ filter p (drop i xs)
-  filter_behind [] zero fails = refl
-  filter_behind [] (suc i) fails = refl
-  filter_behind (x ∷ xs) zero fails = refl
-  filter_behind (x ∷ xs) (suc i) fails = rw (fails 0 x (omega arith) (omega arith)) (filter_behind xs i (λ j d low within. fails (suc j) d (omega arith) (omega arith)))
-
-module _ (bookings : List Booking) (k : RunKey) (class : Class) (interval : Span) where
-  -- a key below k isn't above it
-  not_after : (b : Booking) → key_cmp b.key k ≡ Less → (is_after (Some k) b.key && conflicts_with class interval b) ≡ false
-  not_after b below = rw (key_cmp_total.antisymm k b.key, below) refl
-
-  pub after_gap : (i : ℕ) → IsGapFor bookings k i → conflicting_after class interval (Some k) bookings ≡ conflicting_after class interval (Some k) (drop i bookings)
-  after_gap i gap = filter_behind (λ b. is_after (Some k) b.key && conflicts_with class interval b) bookings i (λ j d low within. not_after (get_or bookings j d) (gap.parted.0 j d (omega arith) low))
-
-  pub after_place : IsInOrder bookings → (i : ℕ) → IsPlaceOf bookings k i → conflicting_after class interval (Some k) bookings ≡ conflicting_after class interval (Some k) (drop i bookings)
-  after_place ordered i place = filter_behind (λ b. is_after (Some k) b.key && conflicts_with class interval b) bookings i (λ j d low within.
-      let up = ascending_at key_cmp_total (λ b. b.key) bookings ordered.ascending j i d low place.within in
-      let below : key_cmp (get_or bookings j d).key k ≡ Less = rw (key_cmp_total.antisymm (get_or bookings j d).key k, ← key_cmp_total.congr (get_or bookings i d).key k (get_or bookings j d).key (place.same d), key_cmp_total.antisymm (get_or bookings i d).key (get_or bookings j d).key, up) refl in
-      not_after (get_or bookings j d) below)
-
-pub behind : {X : Type 0} (xs : List X) (i : ℕ) → take (length xs - i) (drop i xs) ≡ drop i xs
-behind xs i = take_all (length xs - i) (drop i xs) (omega (arith, length-drop i xs))

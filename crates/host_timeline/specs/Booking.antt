@@ -41,6 +41,11 @@ abbrev pub lesser : RunKey → Option RunKey → RunKey
 lesser k None = k
 lesser k (Some j) = if is_lt (key_cmp j k) then j else k
 
+-- the lesser of two keys that may be there
+abbrev pub lesser_of : Option RunKey → Option RunKey → Option RunKey
+lesser_of None b = b
+lesser_of (Some a) b = Some (lesser a b)
+
 -- the least of the keys, in whatever order they stand; None where there is none
 abbrev pub least_key : List RunKey → Option RunKey
 least_key [] = None
@@ -54,6 +59,11 @@ is_after (Some low) k = is_lt (key_cmp low k)
 -- the bookings in conflict with the run whose keys are above another
 abbrev pub conflicting_after : Class → Span → Option RunKey → List Booking → List Booking
 conflicting_after class interval after bookings = filter (λ b. is_after after b.key && conflicts_with class interval b) bookings
+
+-- a key and those after it, if there is one
+abbrev pub key_and : Option RunKey → (RunKey → List RunKey) → List RunKey
+key_and None rest = []
+key_and (Some k) rest = k ∷ rest k
 
 -- the bookings without those in conflict with the run
 abbrev pub without_conflicts : Class → Span → List Booking → List Booking

@@ -1,9 +1,10 @@
 //! Where a run could start among bookings.
-ghost use Rattle.std.specs.Prelude.{◌≡◌, ◌≤◌, IfOk, OnOk, filter, length, not};
+ghost use Rattle.std.specs.Prelude.{◌≡◌, ◌≤◌, ◌+◌, ◌-◌, ◌++◌, ℕ, IfOk, OnOk, filter, length, nat_le, not, true};
 ghost use Rattle.std.specs.List.Sorted.{IsPermutation};
 ghost use Rattle.ps_time.specs.Numbers.{most_intervals};
 ghost use Rattle.ps_time.specs.Starts.{tier_of};
 ghost use Rattle.host_timeline.specs.Booking.{can_preempt};
+ghost use Rattle.host_timeline.specs.Lane.{starts_by};
 ghost use Rattle.host_timeline.specs.Sweep.{barred_from, is_near, is_clear, IsSwept, window_before, window_to, with_window};
 
 use crate::booking::Booking;
@@ -17,25 +18,49 @@ use std::alloc::Global;
 /// The most windows in a tier.
 pub const MAX_WINDOWS: usize = 128;
 
-/// The bookings that bar a run of this class and length from some start of the window, ascending by start.
+/// The bookings of two lists that bar a run of this class and length from some start of the window, ascending by start.
 pub(crate) fn near_bookings(
     alloc: Global,
-    bookings: &[Booking],
+    some: &[Booking],
+    others: &[Booking],
     class: Class,
     length: Length,
     window: &Window,
 ) -> Result<Vec<Booking>, Memory>
-    ensures all { IfOk result (λ near. IsPermutation (filter (is_near class length window.now) bookings.now) near.items) }
+    ensures all { IfOk result (λ near. IsPermutation (filter (is_near class length window.now) some.now ++ filter (is_near class length window.now) others.now) near.items) }
     ensures swept { IfOk result (λ near. IsSwept length near.items) }
 {
     let mut near = Vec::new(alloc);
+    add_near(&mut near, some, class, length, window)?;
+    add_near(&mut near, others, class, length, window)?;
+    near.sort_by_key(|booking| booking.interval.start)?;
+    Ok(near)
+}
+
+// Adds those that bar the run from some start of the window.
+fn add_near(
+    near: &mut Vec<Booking>,
+    bookings: &[Booking],
+    class: Class,
+    length: Length,
+    window: &Window,
+) -> Result<(), Memory>
+    ensures { OnOk result (near.new.items ≡ near.old.items ++ filter (is_near class length window.now) bookings.now) }
+{
     for booking in bookings {
         if is_near(booking, class, length, window) {
             near.push(*booking)?;
         }
     }
-    near.sort_by_key(|booking| booking.interval.start)?;
-    Ok(near)
+    Ok(())
+}
+
+/// The end before which a booking starts that bars a run of this length from a start of the window; `None` where no
+/// moment is behind it.
+pub(crate) fn reach(window: &Window, length: Length) -> Option<Moment>
+    ensures { (start : ℕ) → nat_le (start + 1 - length) window.now.last ≡ true → starts_by result start ≡ true }
+{
+    window.last.checked_add(length)
 }
 
 /// Leaves those that a run of this priority may not preempt at the moment.

@@ -3,4 +3,7 @@
 
 pub mod booking;
 pub mod free_starts;
+pub mod lane;
+mod lanes;
+mod least_key;
 pub mod timeline;

@@ -1,17 +1,21 @@
 //! The timeline: the bookings of a host, ascending by key, with reserved places.
-ghost use Rattle.std.specs.Prelude.{◌≡◌, ◌+◌, ◌<◌, ◌≤◌, [], None, IfOk, IfErr, OnOk, drop, is_some, length, if◌then◌else◌};
+ghost use Rattle.std.specs.Prelude.{◌≡◌, ◌+◌, ◌<◌, ◌≤◌, ◌&&◌, [], Bool, None, Some, IfOk, IfErr, OnOk, is_some, if◌then◌else◌};
 ghost use Rattle.std.specs.List.{list_all};
 ghost use Rattle.std.specs.Option.{is_none};
 ghost use Rattle.ps_time.specs.Key.{key_cmp};
 ghost use Rattle.ps_time.specs.Span.{Span};
 ghost use Rattle.ps_time.specs.declared.class.Class.{Class};
 ghost use Rattle.ps_time.specs.Sorted.{IsAscending};
-ghost use Rattle.host_timeline.specs.Booking.{conflicting, conflicting_after, can_preempt, firm, keys_of, least_key, without_conflicts};
+ghost use Rattle.host_timeline.specs.Booking.{conflicting, conflicting_after, can_preempt, firm, key_and, keys_of, least_key, without_conflicts};
 ghost use Rattle.host_timeline.specs.Free.{free_tiers};
 ghost use Rattle.host_timeline.specs.Timeline.{find_booking, with_booking, without_booking, with_started, IsAscendingBookings, IsConflictFree, IsInOrder, IsPlaceOf, IsGapFor};
+ghost use Rattle.host_timeline.specs.Lane.{how_many, same_class, Decide, IsAscendingPlaces};
+ghost use Rattle.host_timeline.specs.declared.booking.Booking.{Booking as SeenBooking};
 
 use crate::booking::Booking;
-use crate::free_starts::{keep_firm, near_bookings, windows_beside};
+use crate::free_starts::{keep_firm, near_bookings, reach, windows_beside};
+use crate::lanes::Lanes;
+use crate::least_key::{least_conflict, least_firm, lesser_of};
 use ps_time::class::Class;
 use ps_time::interval::{Interval, Window};
 use ps_time::items::Items;
@@ -26,17 +30,22 @@ use std::marker::Model;
 #[derive(Drop)]
 pub struct Timeline {
     bookings: Vec<Booking>,
+    // the same bookings, by class and start
+    lanes: Lanes,
+    // how many are reserved in each vector, taken or not
+    places: usize,
 }
 
 impl Model for Timeline {
     ghost use Rattle.std.specs.Prelude.{◌-◌, vec_len, vec_capacity};
-    ghost use Rattle.host_timeline.specs.Timeline.{Timeline as Seen, IsInOrder};
+    ghost use Rattle.host_timeline.specs.Indexed.{IsIndexed};
+    ghost use Rattle.host_timeline.specs.Timeline.{Timeline as Seen};
 
     ghost Value = { Seen };
 
-    ghost view = { λ t. record { list = t.bookings.items; room = vec_capacity t.bookings - vec_len t.bookings } };
+    ghost view = { λ t. record { list = t.bookings.items; room = t.places - vec_len t.bookings } };
 
-    ghost invariant = { λ t. IsInOrder t.bookings.items };
+    ghost invariant = { λ t. IsIndexed t.bookings.items (vec_capacity t.bookings) t.places t.lanes };
 }
 
 impl Timeline {
@@ -45,6 +54,8 @@ impl Timeline {
     {
         Timeline {
             bookings: Vec::new(alloc),
+            lanes: Lanes::new(alloc),
+            places: 0,
         }
     }
 
@@ -55,6 +66,9 @@ impl Timeline {
         ensures ok { OnOk result (count ≤ self.new.room) }
     {
         self.bookings.reserve(count)?;
+        let places = self.places.max(self.bookings.len() + count);
+        self.lanes.reserve(places)?;
+        self.places = places;
         Ok(())
     }
 
@@ -65,6 +79,14 @@ impl Timeline {
         ensures conflict_free { IsConflictFree self.now.list }
     {
         self.bookings.as_slice()
+    }
+
+    /// The bookings of a class, ascending by start and then by key.
+    pub fn by_start(&self, class: Class) -> &[Booking]
+        ensures same { (test : SeenBooking → Bool) → how_many test result.now ≡ how_many (λ b. same_class class b.class && test b) self.now.list }
+        ensures ascending { IsAscendingPlaces result.now }
+    {
+        self.lanes.of(class)
     }
 
     /// The least key among the conflicts with a run that it may not preempt at the moment.
@@ -78,12 +100,11 @@ impl Timeline {
         ensures least { result ≡ least_key (keys_of (firm class interval.now priority moment self.now.list)) }
         ensures none { is_none result ≡ list_all (can_preempt priority moment) (conflicting class interval.now self.now.list) }
     {
-        for booking in self.bookings.as_slice() {
-            if booking.is_firm(class, interval, priority, moment) {
-                return Some(booking.key);
-            }
-        }
-        None
+        let (exclusive, normal) = self.beside(class, interval.start, Some(interval.end));
+        lesser_of(
+            least_firm(exclusive, class, interval, priority, moment),
+            least_firm(normal, class, interval, priority, moment),
+        )
     }
 
     /// The keys of all bookings in conflict with a run, ascending.
@@ -97,10 +118,10 @@ impl Timeline {
         ensures ascending { IfOk result (λ keys. IsAscending key_cmp (λ k. k) keys) }
     {
         let mut keys = Vec::new(alloc);
-        for booking in self.bookings.as_slice() {
-            if booking.conflicts_with(class, interval) {
-                keys.push(booking.key)?;
-            }
+        let mut after = None;
+        while let Some(key) = self.later_conflict(class, interval, after) {
+            keys.push(key)?;
+            after = Some(key);
         }
         Ok(Items::from_vec(keys))
     }
@@ -113,15 +134,15 @@ impl Timeline {
         interval: &Interval,
         after: Option<RunKey>,
     ) -> Option<RunKey>
-        ensures { result ≡ least_key (keys_of (conflicting_after class interval.now after self.now.list)) }
+        ensures least { result ≡ least_key (keys_of (conflicting_after class interval.now after self.now.list)) }
+        ensures walk { keys_of (conflicting_after class interval.now after self.now.list) ≡ key_and result (λ key. keys_of (conflicting_after class interval.now (Some key) self.now.list)) }
     {
-        let from = self.place_after(after);
-        for later in &self.bookings[from..] {
-            if later.is_after(after) && later.conflicts_with(class, interval) {
-                return Some(later.key);
-            }
-        }
-        None
+        let _ = &self.bookings;
+        let (exclusive, normal) = self.beside(class, interval.start, Some(interval.end));
+        lesser_of(
+            least_conflict(exclusive, class, interval, after),
+            least_conflict(normal, class, interval, after),
+        )
     }
 
     /// Where a run could start: the first 128 windows of the starts without a conflict, and of those whose conflicts it may
@@ -137,7 +158,9 @@ impl Timeline {
     ) -> Result<Tiers, Memory>
         ensures { IfOk result (λ tiers. tiers ≡ free_tiers class length priority window moment self.now.list) }
     {
-        let mut near = near_bookings(alloc, self.bookings.as_slice(), class, length, &window)?;
+        let until = reach(&window, length);
+        let (exclusive, normal) = self.beside(class, window.first, until);
+        let mut near = near_bookings(alloc, exclusive, normal, class, length, &window)?;
         let first = windows_beside(alloc, near.as_slice(), length, &window)?;
         keep_firm(&mut near, priority, moment);
         let second = windows_beside(alloc, near.as_slice(), length, &window)?;
@@ -152,9 +175,22 @@ impl Timeline {
         ensures list { self.new.list ≡ with_booking self.old.list booking }
         ensures room { self.new.room + 1 ≡ self.old.room }
     {
+        self.put(&booking);
+    }
+
+    fn put(&mut self, booking: &Booking)
+        requires room { 0 < self.old.room }
+        requires new_key { find_booking self.old.list booking.now.key ≡ None }
+        requires no_conflict { conflicting booking.now.class booking.now.interval self.old.list ≡ [] }
+        ensures list { self.new.list ≡ with_booking self.old.list booking.now }
+        ensures room { self.new.room + 1 ≡ self.old.room }
+    {
         match self.search(booking.key) {
             Ok(_) => unreachable!(),
-            Err(at) => self.bookings.insert(at, booking).unwrap(),
+            Err(at) => {
+                self.lanes.insert(booking);
+                self.bookings.insert(at, *booking).unwrap()
+            }
         }
     }
 
@@ -166,7 +202,8 @@ impl Timeline {
     {
         match self.search(key) {
             Ok(at) => {
-                self.bookings.remove(at);
+                let booking = self.bookings.remove(at);
+                self.lanes.remove(&booking);
                 true
             }
             Err(_) => false,
@@ -178,8 +215,9 @@ impl Timeline {
         ensures list { self.new.list ≡ without_conflicts class interval.now self.old.list }
         ensures room { self.old.room ≤ self.new.room }
     {
-        self.bookings
-            .retain(|booking| !booking.conflicts_with(class, interval));
+        while let Some(key) = self.later_conflict(class, interval, None) {
+            self.release(key);
+        }
     }
 
     /// Says that the run of a key was started, so that it can't be preempted. Nothing changes for a key that no booking has.
@@ -188,23 +226,34 @@ impl Timeline {
         ensures room { self.new.room ≡ self.old.room }
     {
         match self.search(key) {
-            Ok(at) => self.bookings[at].firm_from = 0,
+            Ok(at) => {
+                let booking = self.bookings[at];
+                self.lanes.mark_started(&booking);
+                self.bookings[at].firm_from = 0;
+            }
             Err(_) => {}
         }
     }
 
-    // A place before which no booking has a key above this one.
-    fn place_after(&self, after: Option<RunKey>) -> usize
-        ensures bound { result ≤ length self.now.list }
-        ensures passed { (class : Class) (interval : Span) → conflicting_after class interval after self.now.list ≡ conflicting_after class interval after (drop result self.now.list) }
+    // `next_conflict`, with the order of the bookings.
+    fn later_conflict(
+        &self,
+        class: Class,
+        interval: &Interval,
+        after: Option<RunKey>,
+    ) -> Option<RunKey>
+        ensures least { result ≡ least_key (keys_of (conflicting_after class interval.now after self.now.list)) }
+        ensures ordered { IsAscendingBookings self.now.list }
     {
-        let Some(key) = after else {
-            return 0;
-        };
-        match self.search(key) {
-            Ok(at) => at,
-            Err(at) => at,
-        }
+        let _ = &self.bookings;
+        self.next_conflict(class, interval, after)
+    }
+
+    // The exclusive and the normal bookings that a run of the class has to look at.
+    fn beside(&self, class: Class, from: Moment, until: Option<Moment>) -> (&[Booking], &[Booking])
+        ensures { Decide class from until self.now.list result.0.now result.1.now }
+    {
+        self.lanes.beside(class, from, until)
     }
 
     // Where the key is, or where it would go.

@@ -288,3 +288,47 @@ fn an_unknown_key_changes_nothing(rt: HostRuntime) -> Result<(), Fail> {
     assert_eq!(rt; timeline.bookings().len(), 2);
     Ok(())
 }
+
+// Two bookings of background runs, of which the one with the greater key starts first.
+fn two_background(alloc: Global) -> Result<Timeline, Memory> {
+    let mut timeline = Timeline::new(alloc);
+    timeline.reserve(2)?;
+    timeline.book(Booking {
+        key: FIRST,
+        class: Background,
+        interval: Interval {
+            start: 120,
+            end: 170,
+        },
+        priority: 0,
+        firm_from: 110,
+    });
+    timeline.book(Booking {
+        key: SECOND,
+        class: Background,
+        interval: Interval {
+            start: 100,
+            end: 150,
+        },
+        priority: 0,
+        firm_from: 90,
+    });
+    Ok(timeline)
+}
+
+fn has_keys(bookings: &[Booking], keys: &[RunKey]) -> bool {
+    bookings.len() == keys.len()
+        && bookings
+            .iter()
+            .zip(keys.iter())
+            .all(|(booking, key)| booking.key == *key)
+}
+
+#[test]
+fn a_class_is_lent_by_start(rt: HostRuntime) -> Result<(), Fail> {
+    let timeline = two_background(rt.alloc())?;
+    assert!(rt; has_keys(timeline.by_start(Background), &[SECOND, FIRST]));
+    assert!(rt; has_keys(timeline.by_start(Exclusive), &[]));
+    assert!(rt; has_keys(timeline.bookings(), &[FIRST, SECOND]));
+    Ok(())
+}

@@ -1,6 +1,8 @@
 use Rattle.std.proofs.Common.{◌≡◌, ◌∙◌, sym, ap, subst, set}
-use Rattle.host_timeline.specs.Timeline.{Timeline, IsPlaceOf, IsInOrder, started_booking}
-use Rattle.host_timeline.proofs.Place.{start_place, in_order_after_start, start_gap}
+use Rattle.host_timeline.specs.Indexed.{IsIndexed}
+use Rattle.host_timeline.specs.Timeline.{Timeline, IsPlaceOf, started_booking}
+use Rattle.host_timeline.proofs.IndexedLemmas.{indexed_start}
+use Rattle.host_timeline.proofs.Place.{start_place, start_gap}
 use Rattle.host_timeline.proofs.timeline.Timeline.mark_started.Goals as goal
 
 -- the booking at the place is changed, and keeps its key
@@ -9,14 +11,15 @@ invariant_of-self c =
     let seen : c.self.inside.bookings.items ≡ c.args.self.now.list = ap (λ (t : Timeline). t.list) c.self.view_is in
     let place : IsPlaceOf c.self.inside.bookings.items c.args.key c.in-Ok.at = rw seen c.in-Ok.ensures.found in
     let written = ap (λ b. set c.self.inside.bookings.items c.in-Ok.at (started_booking b)) c.index_mut.ensures.value in
-    subst IsInOrder (sym (written ∙ start_place _ c.self.invariant _ _ _ place)) (in_order_after_start _ c.self.invariant _)
+    subst (λ l. IsIndexed l c.self.inside.bookings.cap c.self.inside.places c.mark_started.new.self) (sym (written ∙ start_place _ c.self.invariant.in_order _ _ _ place))
+    (indexed_start _ _ _ _ _ c.self.invariant c.args.key c.in-Ok.at c.index.result.now place c.index.ensures c.mark_started.ensures)
 
 pub returns-in-Ok-clause-list : goal.returns-in-Ok-clause-list
 returns-in-Ok-clause-list c =
     let seen : c.self.inside.bookings.items ≡ c.args.self.now.list = ap (λ (t : Timeline). t.list) c.self.view_is in
     let place : IsPlaceOf c.self.inside.bookings.items c.args.key c.in-Ok.at = rw seen c.in-Ok.ensures.found in
     let written = ap (λ b. set c.self.inside.bookings.items c.in-Ok.at (started_booking b)) c.index_mut.ensures.value in
-    rw (← seen) (written ∙ start_place _ c.self.invariant _ _ _ place)
+    rw (← seen) (written ∙ start_place _ c.self.invariant.in_order _ _ _ place)
 
 -- no booking has the key
 pub returns-in-Err-clause-list : goal.returns-in-Err-clause-list

@@ -1,23 +1,24 @@
-use Rattle.std.proofs.Common.{◌≡◌, ◌∙◌, ◌&&◌, true, ap, ap₂, subst, sym}
-use Rattle.host_timeline.specs.Booking.{conflicts_with, is_after}
+use Rattle.std.proofs.Common.{◌≡◌, ◌∙◌, ◌&&◌, Bool, Some, ap, ap₂, subst}
+use Rattle.ps_time.specs.Span.{Span}
+use Rattle.host_timeline.specs.declared.booking.Booking.{Booking}
+use Rattle.host_timeline.specs.Booking.{conflicts_with, is_after, lesser_of}
+use Rattle.host_timeline.specs.Lane.{Decide}
+use Rattle.host_timeline.proofs.Least.{decided_least}
+use Rattle.host_timeline.proofs.Tests.{and_false}
 use Rattle.host_timeline.specs.Timeline.{Timeline, IsAscendingBookings}
-use Rattle.host_timeline.proofs.Least.{least_at, least_at_end}
-use Rattle.host_timeline.proofs.Place.{behind}
+use Rattle.host_timeline.proofs.WalkLemmas.{walk_on}
 use Rattle.host_timeline.proofs.timeline.Timeline.next_conflict.Goals as goal
 
--- none before the place is in question
-pub loop-later-init : goal.loop-later-init
-loop-later-init c =
-    let seen : c.deref.result.now ≡ c.args.self.now.list = c.deref.ensures.value ∙ ap (λ (t : Timeline). t.list) c.self.view_is in
-    rw (behind c.deref.result.now c.place_after-from.result, seen) (c.place_after-from.ensures.passed c.args.class c.args.interval.now)
+-- the least of the two lists
+pub returns-clause-least : goal.returns-clause-least
+returns-clause-least c =
+    let interval = c.args.interval.now in
+    let passes : Booking → Bool = λ b. is_after c.args.after b.key && conflicts_with c.args.class interval b in
+    let decide : Decide c.args.class interval.start (Some interval.end) c.args.self.now.list c.beside.result.0.now c.beside.result.1.now = subst (λ (s : Span). Decide c.args.class s.start (Some s.end) c.args.self.now.list c.beside.result.0.now c.beside.result.1.now) c.interval.view_is c.beside.ensures in
+    c.lesser_of.ensures ∙ ap₂ lesser_of c.least_conflict.ensures c.least_conflict-2.ensures
+    ∙ decided_least passes c.args.class interval.start (Some interval.end) c.args.self.now.list c.beside.result.0.now c.beside.result.1.now decide (λ b off. ap (λ x. is_after c.args.after b.key && x) off ∙ and_false (is_after c.args.after b.key))
 
--- the first that conflicts has the least key
-pub returns-then-conflicts_with : goal.returns-then-conflicts_with
-returns-then-conflicts_with c =
+pub returns-clause-walk : goal.returns-clause-walk
+returns-clause-walk c =
     let seen : c.self.inside.bookings.items ≡ c.args.self.now.list = ap (λ (t : Timeline). t.list) c.self.view_is in
-    let up : IsAscendingBookings c.args.self.now.list = subst IsAscendingBookings seen c.self.invariant.ascending in
-    let passes : (is_after c.args.after c.later-item.result.key && conflicts_with c.args.class c.args.interval.now c.later-item.result) ≡ true = ap₂ (λ x y. x && y) (sym c.is_after.ensures ∙ c.if-is_after.true) (sym c.conflicts_with.ensures ∙ c.if-conflicts_with.true) in
-    least_at (λ b. is_after c.args.after b.key && conflicts_with c.args.class c.args.interval.now b) _ _ _ c.later-item.result up c.loop-later.invariant c.loop-later-test.true c.later-item.is passes
-
-pub returns : goal.returns
-returns c = least_at_end (λ b. is_after c.args.after b.key && conflicts_with c.args.class c.args.interval.now b) _ _ _ c.loop-later.invariant c.loop-later-test.false
+    walk_on c.args.class c.args.interval.now c.args.after c.args.self.now.list c.lesser_of.result (subst IsAscendingBookings seen c.self.invariant.in_order.ascending) (returns-clause-least c)

@@ -1,6 +1,7 @@
 use Rattle.std.proofs.Common.{◌≡◌, refl, sym, ap}
 use Rattle.host_timeline.specs.Timeline.{Timeline, IsPlaceOf}
-use Rattle.host_timeline.proofs.Place.{find_place, release_place, in_order_after_release, find_gap, release_gap}
+use Rattle.host_timeline.proofs.IndexedLemmas.{indexed_release}
+use Rattle.host_timeline.proofs.Place.{find_place, release_place, find_gap, release_gap}
 use Rattle.host_timeline.proofs.timeline.Timeline.release.Goals as goal
 
 -- the booking at the place goes, and the order stays
@@ -8,19 +9,19 @@ pub invariant_of-self : goal.invariant_of-self
 invariant_of-self c =
     let seen : c.self.inside.bookings.items ≡ c.args.self.now.list = ap (λ (t : Timeline). t.list) c.self.view_is in
     let place : IsPlaceOf c.self.inside.bookings.items c.args.key c.in-Ok.at = rw seen c.in-Ok.ensures.found in
-    rw c.remove.ensures.items (in_order_after_release _ c.self.invariant _ _ c.remove.result place)
+    rw (c.remove-booking.ensures.items, c.remove-booking.ensures.capacity) (indexed_release _ _ _ _ _ c.self.invariant c.args.key c.in-Ok.at c.remove-booking.result place c.remove-booking.ensures.value c.remove.ensures)
 
 pub returns-in-Ok-clause-found : goal.returns-in-Ok-clause-found
 returns-in-Ok-clause-found c =
     let seen : c.self.inside.bookings.items ≡ c.args.self.now.list = ap (λ (t : Timeline). t.list) c.self.view_is in
     let place : IsPlaceOf c.self.inside.bookings.items c.args.key c.in-Ok.at = rw seen c.in-Ok.ensures.found in
-    rw (← seen, find_place _ c.self.invariant _ _ c.remove.result place) refl
+    rw (← seen, find_place _ c.self.invariant.in_order _ _ c.remove-booking.result place) refl
 
 pub returns-in-Ok-clause-list : goal.returns-in-Ok-clause-list
 returns-in-Ok-clause-list c =
     let seen : c.self.inside.bookings.items ≡ c.args.self.now.list = ap (λ (t : Timeline). t.list) c.self.view_is in
     let place : IsPlaceOf c.self.inside.bookings.items c.args.key c.in-Ok.at = rw seen c.in-Ok.ensures.found in
-    rw (← seen, release_place _ c.self.invariant _ _ c.remove.result place) c.remove.ensures.items
+    rw (← seen, release_place _ c.self.invariant.in_order _ _ c.remove-booking.result place) c.remove-booking.ensures.items
 
 -- no booking has the key
 pub returns-in-Err-clause-found : goal.returns-in-Err-clause-found

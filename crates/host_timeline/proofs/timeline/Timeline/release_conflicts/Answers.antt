@@ -1,26 +1,31 @@
-use Rattle.std.proofs.Common.{◌≡◌, ◌∙◌, Bool, rules, tests, not, ap}
-use Rattle.std.specs.List.{filter}
-use Rattle.std.proofs.lemmas.Fn.{filter_same}
-use Rattle.ps_time.proofs.KeyLemmas.{key_cmp_total}
-use Rattle.ps_time.proofs.SortedLemmas.{ascending-filter}
-use Rattle.host_timeline.specs.declared.booking.Booking.{Booking}
-use Rattle.host_timeline.specs.Booking.{conflicts_with}
-use Rattle.host_timeline.specs.Timeline.{Timeline}
-use Rattle.host_timeline.proofs.Free.{free_filter}
+use Rattle.std.proofs.Common.{◌∙◌, ◌<◌, length, ap, sym, arith}
+use Rattle.host_timeline.specs.Booking.{conflicts_with, without_conflicts}
+use Rattle.host_timeline.proofs.HoldLemmas.{only}
+use Rattle.host_timeline.proofs.WalkLemmas.{all_stay, fewer, found_one, least_there, left_alike, none_passes}
 use Rattle.host_timeline.proofs.timeline.Timeline.release_conflicts.Goals as goal
 
--- those that stay keep their order, and don't conflict
-pub invariant_of-self : goal.invariant_of-self
-invariant_of-self c =
-    let stays : Booking → Bool = λ b. not (conflicts_with c.args.class c.args.interval.now b) in
-    let made : c.retain.new.self.items ≡ filter stays c.self.inside.bookings.items = filter_same _ _ _ (λ x b f' k. search (rules, tests)) _ _ c.retain.ensures.filtered in
-    rw made (record {
-      ascending = ascending-filter key_cmp_total (λ b. b.key) stays _ c.self.invariant.ascending;
-      conflict_free = free_filter stays _ c.self.invariant.conflict_free;
-    })
+-- the booking that goes is in conflict
+pub loop-key-preserved : goal.loop-key-preserved
+loop-key-preserved c =
+    let list = c.loop-key.self.list in
+    let passes = conflicts_with c.args.class c.args.interval.now in
+    let one = found_one passes c.in-Some.key list c.later_conflict.ensures.ordered (least_there passes c.in-Some.key list (sym c.later_conflict.ensures.least ∙ c.in-Some.is)) in
+    let alone = only c.in-Some.key one.0 list c.later_conflict.ensures.ordered one.1 in
+    record {
+      left = ap (without_conflicts c.args.class c.args.interval.now) c.release.ensures.list ∙ left_alike c.args.class c.args.interval.now list c.in-Some.key one.0 alone one.2 ∙ c.loop-key.invariant.left;
+      room = omega (arith, c.release.ensures.room, c.loop-key.invariant.room);
+    }
 
+pub loop-key-smaller : goal.loop-key-smaller
+loop-key-smaller c =
+    let list = c.loop-key.self.list in
+    let passes = conflicts_with c.args.class c.args.interval.now in
+    let one = found_one passes c.in-Some.key list c.later_conflict.ensures.ordered (least_there passes c.in-Some.key list (sym c.later_conflict.ensures.least ∙ c.in-Some.is)) in
+    let less : length c.release.new.self.list < length list = rw c.release.ensures.list (fewer list c.in-Some.key one.0 one.1) in
+    less
+
+-- none is left
 pub returns-clause-list : goal.returns-clause-list
 returns-clause-list c =
-    let stays : Booking → Bool = λ b. not (conflicts_with c.args.class c.args.interval.now b) in
-    let made : c.retain.new.self.items ≡ filter stays c.self.inside.bookings.items = filter_same _ _ _ (λ x b f' k. search (rules, tests)) _ _ c.retain.ensures.filtered in
-    made ∙ ap (λ (t : Timeline). filter stays t.list) c.self.view_is
+    let none = none_passes (conflicts_with c.args.class c.args.interval.now) c.loop-key.self.list (sym c.later_conflict.ensures.least ∙ c.in_default.is) in
+    sym (all_stay c.args.class c.args.interval.now c.loop-key.self.list none) ∙ c.loop-key.invariant.left

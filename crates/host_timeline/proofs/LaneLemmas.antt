@@ -1,0 +1,164 @@
+-- What a search finds in a lane, what an edit at that place does, and which bookings of a lane are near.
+use Rattle.std.proofs.Common.{◌≡◌, ◌∙◌, ◌<◌, ◌≤◌, ◌+◌, ◌-◌, ℕ, zero, suc, List, [], ◌∷◌, length, get_or, set, take, drop, Bool, true, false, cond, not, ltb, max, Result, Ok, Err, IfOk, IfErr, Option, Some, None, ◌&&◌, refl, ap, subst, arith}
+use Rattle.std.specs.Cmp.{IsTotalOrder}
+use Rattle.std.specs.List.{insert, remove, filter, list_all, AllByRecursion, AllWithin}
+use Rattle.std.specs.List.Sorted.{IsSearchInRange, IsBinarySearchResult, IsPartitionPoint, IsNonDecreasingBy, IsPartitionedBy}
+use Rattle.std.specs.Ordering.{nat_cmp, match_ordering, is_eq}
+use Rattle.std.specs.declared.cmp.Ordering.TheVariants.{Less, Equal, Greater}
+use Rattle.std.proofs.lemmas.Bool.Decides.{nat_tests}
+use Rattle.std.proofs.lemmas.Cmp.{nat_cmp_total, on_total, then_total}
+use Rattle.std.proofs.lemmas.List.{length-drop, get_or-drop}
+use Rattle.std.proofs.lemmas.List.Sorted.{IsPartitionedBy-ltb, IsNonDecreasingBy-from_all_adjacent}
+use Rattle.ps_time.proofs.KeyLemmas.{key_cmp_total}
+use Rattle.ps_time.proofs.SortedLemmas.{ascending_at, searchable, find_in_gap, insert_in_gap, find_at, without_at, without_in_gap, ascending-without, ascending-insert, set_changes, ascending-change, change_in_gap}
+use Rattle.host_timeline.specs.declared.booking.Booking.{Booking}
+use Rattle.host_timeline.specs.declared.lane.Place.{Place}
+use Rattle.host_timeline.specs.Lane.{place_cmp, place_of, find_place, with_place, without_place, with_started_place, IsAscendingPlaces, IsLane, IsFoundAt, IsOpenAt, PassesOthers, PassesOutside, spans, starts_between, starts_by}
+use Rattle.host_timeline.specs.Timeline.{started_booking}
+use Rattle.host_timeline.proofs.Tests.{and_false}
+
+pub place_cmp_total : IsTotalOrder place_cmp
+place_cmp_total = then_total (on_total (λ p. p.start) nat_cmp_total) (on_total (λ p. p.key) key_cmp_total)
+
+abbrev AllShort : ℕ → List Booking → Type 0
+AllShort longest bookings = AllByRecursion (λ b. b.interval.end ≤ b.interval.start + longest) bookings
+
+short_filter : (p : Booking → Bool) (longest : ℕ) (bs : List Booking) → AllShort longest bs → AllShort longest (filter p bs)
+short_filter p longest [] all = tt
+short_filter p longest (b ∷ bs) all =
+    elim (p b) as (λ x. AllShort longest (cond x (b ∷ filter p bs) (filter p bs))) [
+      | true ↦ (all.0, short_filter p longest bs all.1)
+      | false ↦ short_filter p longest bs all.1
+    ]
+
+short_change : (p : Place) (longest : ℕ) (bs : List Booking) → AllShort longest bs → AllShort longest (with_started_place bs p)
+short_change p longest [] all = tt
+short_change p longest (b ∷ bs) all =
+    elim (is_eq (place_cmp (place_of b) p)) as (λ x. AllShort longest ((cond x (started_booking b) b) ∷ with_started_place bs p)) [
+      | true ↦ (all.0, short_change p longest bs all.1)
+      | false ↦ (all.0, short_change p longest bs all.1)
+    ]
+
+short_more : (longest more : ℕ) (bs : List Booking) → longest ≤ more → AllShort longest bs → AllShort more bs
+short_more longest more [] le all = tt
+short_more longest more (b ∷ bs) le all = (omega (arith, all.0), short_more longest more bs le all.1)
+
+short_insert : (longest : ℕ) (bs : List Booking) (y : Booking) → y.interval.end ≤ y.interval.start + longest → AllShort longest bs → AllShort longest (with_place bs y)
+short_insert longest [] y here all = (here, tt)
+short_insert longest (b ∷ bs) y here all =
+    let rest = short_insert longest bs y here all.1 in
+    elim (place_cmp (place_of b) (place_of y)) as (λ c. AllShort longest (match_ordering c (b ∷ with_place bs y) (b ∷ with_place bs y) (y ∷ b ∷ bs))) [
+      | Less ↦ (all.0, rest)
+      | Equal ↦ (all.0, rest)
+      | Greater ↦ (here, all)
+    ]
+
+-- ---- at a place
+module _ (bookings : List Booking) (longest : ℕ) (lane : IsLane bookings longest) (p : Place) where
+  pub searched : (r : Result ℕ ℕ) → IsSearchInRange r (length bookings) → IsBinarySearchResult (λ b. place_cmp (place_of b) p) bookings r → record { found : IfOk r (IsFoundAt bookings p); absent : IfErr r (IsOpenAt bookings p) }
+  searched (Ok at) within equal = record { found = record { within = within; same = equal }; absent = tt }
+  searched (Err at) within parted = record { found = tt; absent = record { within = within; parted = parted (searchable place_cmp_total place_of bookings lane.ascending p) } }
+
+  module _ (i : ℕ) (d : Booking) (found : IsFoundAt bookings p i) where
+    pub find_found : find_place bookings p ≡ Some (get_or bookings i d)
+    find_found = find_at place_cmp_total place_of bookings p i d lane.ascending found.within (found.same d)
+
+    pub remove_found : without_place bookings p ≡ remove bookings i
+    remove_found = without_at place_cmp_total place_of bookings p i d lane.ascending found.within (found.same d)
+
+    pub lane_after_remove : IsLane (remove bookings i) longest
+    lane_after_remove =
+        subst (λ l. IsLane l longest) remove_found (record {
+          ascending = ascending-without place_cmp_total place_of bookings p lane.ascending;
+          short = short_filter _ longest bookings lane.short;
+        })
+
+    pub start_found : set bookings i (started_booking (get_or bookings i d)) ≡ with_started_place bookings p
+    start_found = set_changes place_cmp_total place_of started_booking bookings p i d lane.ascending found.within (found.same d)
+
+  pub lane_after_start : IsLane (with_started_place bookings p) longest
+  lane_after_start = record {
+    ascending = ascending-change place_cmp_total place_of started_booking (λ b. refl) bookings p lane.ascending;
+    short = short_change p longest bookings lane.short;
+  }
+
+module _ (bookings : List Booking) (p : Place) (i : ℕ) (gap : IsOpenAt bookings p i) where
+  pub find_open : find_place bookings p ≡ None
+  find_open = find_in_gap place_cmp_total place_of bookings p i gap.parted
+
+  pub remove_open : without_place bookings p ≡ bookings
+  remove_open = without_in_gap place_cmp_total place_of bookings p i gap.parted
+
+  pub start_open : with_started_place bookings p ≡ bookings
+  start_open = change_in_gap place_cmp_total place_of started_booking bookings p i gap.parted
+
+module _ (bookings : List Booking) (b : Booking) (i : ℕ) (gap : IsOpenAt bookings (place_of b) i) where
+  pub insert_open : with_place bookings b ≡ insert bookings i b
+  insert_open = insert_in_gap place_cmp_total place_of bookings b i gap.within gap.parted
+
+  pub lane_after_insert : (longest : ℕ) → IsLane bookings longest → IsLane (insert bookings i b) (max longest (b.interval.end - b.interval.start))
+  lane_after_insert longest lane =
+      let more = max longest (b.interval.end - b.interval.start) in
+      subst (λ l. IsLane l more) insert_open (record {
+        ascending = ascending-insert place_cmp_total place_of bookings b lane.ascending (find_open bookings (place_of b) i gap);
+        short = short_insert more bookings b (omega arith) (short_more longest more bookings (omega arith) lane.short);
+      })
+
+-- ---- what is near
+-- a place below another starts no later
+start_below : (p q : Place) → place_cmp p q ≡ Less → p.start ≤ q.start
+start_below p q below =
+    let cases = elim (nat_cmp p.start q.start) as (λ c. nat_cmp p.start q.start ≡ c → p.start ≤ q.start) [
+      | Less ↦ λ is. grind (arith, nat_tests)
+      | Equal ↦ λ is. grind (arith, nat_tests)
+      | Greater ↦ λ is. let no : place_cmp p q ≡ Greater = rw is refl in cc (no, below)
+    ] in
+    cases refl
+
+pub starts_rise : (bs : List Booking) → IsAscendingPlaces bs → IsNonDecreasingBy (λ b. b.interval.start) bs
+starts_rise bs up =
+    IsNonDecreasingBy-from_all_adjacent (λ b. b.interval.start) bs (λ k d within. start_below (place_of (get_or bs k d)) (place_of (get_or bs (k + 1) d)) (ascending_at place_cmp_total place_of bs up k (k + 1) d (omega arith) within))
+
+pub parts_at : (moment : ℕ) (bs : List Booking) → IsAscendingPlaces bs → IsPartitionedBy (λ b. ltb b.interval.start moment) bs
+parts_at moment bs up = IsPartitionedBy-ltb (λ b. b.interval.start) bs moment (starts_rise bs up)
+
+module _ (test : Booking → Bool) where
+  -- what passes in front is left out
+  all_behind : (bs : List Booking) (i : ℕ) → ((j : ℕ) (d : Booking) → j < i → j < length bs → test (get_or bs j d) ≡ true) → list_all test (drop i bs) ≡ list_all test bs
+  all_behind [] zero passes = refl
+  all_behind [] (suc i) passes = refl
+  all_behind (b ∷ bs) zero passes = refl
+  all_behind (b ∷ bs) (suc i) passes = rw (passes 0 b (omega arith) (omega arith)) (all_behind bs i (λ j d low within. passes (suc j) d (omega arith) (omega arith)))
+
+  -- what passes at the end is left out
+  all_before : (bs : List Booking) (i : ℕ) → ((j : ℕ) (d : Booking) → i ≤ j → j < length bs → test (get_or bs j d) ≡ true) → list_all test (take i bs) ≡ list_all test bs
+  all_before [] zero passes = refl
+  all_before [] (suc i) passes = refl
+  all_before (b ∷ bs) zero passes = rw (passes 0 b (omega arith) (omega arith)) (all_before bs zero (λ j d low within. passes (suc j) d (omega arith) (omega arith)))
+  all_before (b ∷ bs) (suc i) passes = ap (λ x. test b && x) (all_before bs i (λ j d low within. passes (suc j) d (omega arith) (omega arith)))
+
+module _ (bs : List Booking) (from : ℕ) (until : Option ℕ) (first last : ℕ) (test : Booking → Bool) (outside : PassesOthers bs (starts_between from until) test) where
+  pub between_all : IsPartitionPoint (λ b. ltb b.interval.start from ≡ true) (λ b. ltb b.interval.start from ≡ false) bs first → AllWithin (λ b. starts_by until b.interval.start ≡ false) bs last (length bs) → list_all test (take (max last first - first) (drop first bs)) ≡ list_all test bs
+  between_all low high =
+      let early : (j : ℕ) (d : Booking) → j < first → j < length bs → test (get_or bs j d) ≡ true = λ j d lt within.
+      let is : ltb (get_or bs j d).interval.start from ≡ true = low.0 j d (omega arith) lt in
+      outside j d within (rw is refl) in
+      let late : (j : ℕ) (d : Booking) → max last first - first ≤ j → j < length (drop first bs) → test (get_or (drop first bs) j d) ≡ true = λ j d le within.
+      let inside : first + j < length bs = omega (arith, length-drop first bs) in
+      let starts : starts_by until (get_or bs (first + j) d).interval.start ≡ false = high (first + j) d (omega arith) inside in
+      let over : starts_between from until (get_or bs (first + j) d) ≡ false = rw starts (and_false (not (ltb (get_or bs (first + j) d).interval.start from))) in
+      rw (get_or-drop first bs j d) (outside (first + j) d inside over) in
+      all_before test (drop first bs) (max last first - first) late ∙ all_behind test bs first early
+
+short_at : (longest : ℕ) (bs : List Booking) → AllShort longest bs → (i : ℕ) (d : Booking) → i < length bs → (get_or bs i d).interval.end ≤ (get_or bs i d).interval.start + longest
+short_at longest [] all i d within = absurd (omega arith)
+short_at longest (b ∷ bs) all zero d within = all.0
+short_at longest (b ∷ bs) all (suc i) d within = short_at longest bs all.1 i d (omega arith)
+
+-- what starts so early is over
+early_over : (longest from : ℕ) (b : Booking) (by : Bool) → b.interval.end ≤ b.interval.start + longest → (not (ltb b.interval.start (from - longest)) && by) ≡ false → (ltb from b.interval.end && by) ≡ false
+early_over longest from b true short outside = grind (arith, nat_tests)
+early_over longest from b false short outside = and_false (ltb from b.interval.end)
+
+pub others_pass : (bs : List Booking) (longest from : ℕ) (until : Option ℕ) (test : Booking → Bool) → IsLane bs longest → PassesOutside (spans from until) test → PassesOthers bs (starts_between (from - longest) until) test
+others_pass bs longest from until test lane outside = λ i d within over. outside (get_or bs i d) (early_over longest from (get_or bs i d) (starts_by until (get_or bs i d).interval.start) (short_at longest bs lane.short i d within) over)

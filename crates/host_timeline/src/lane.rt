@@ -1,0 +1,185 @@
+//! The bookings of one class, ascending by start and then by key.
+ghost use Rattle.std.specs.Prelude.{◌≡◌, ◌+◌, ◌<◌, ◌≤◌, [], Bool, IfOk, IfErr, None, OnOk, false, length, nat_lt, true};
+ghost use Rattle.std.specs.List.Sorted.{IsPartitionPoint};
+ghost use Rattle.std.specs.List.{list_all, AllWithin};
+ghost use Rattle.host_timeline.specs.declared.booking.Booking.{Booking as SeenBooking};
+ghost use Rattle.host_timeline.specs.Lane.{find_place, place_cmp, place_of, places_of, spans, starts_between, starts_by, with_place, without_place, with_started_place, IsAscendingPlaces, IsFoundAt, IsLane, IsOpenAt, PassesOthers, PassesOutside};
+
+use crate::booking::Booking;
+use ps_time::key::RunKey;
+use ps_time::memory::Memory;
+use ps_time::moment::{Length, Moment};
+use std::alloc::Global;
+use std::cmp::Ordering;
+use std::marker::Model;
+
+/// Where a booking stands among those of its class.
+#[derive(Clone, Copy, PartialEq, Eq, PartialOrd, Ord)]
+pub struct Place {
+    pub start: Moment,
+    pub key: RunKey,
+}
+
+impl Place {
+    /// The order of places, as contracts cite it.
+    pub fn order(&self, other: &Place) -> Ordering
+        ensures { result ≡ place_cmp self.now other.now }
+    {
+        self.cmp(other)
+    }
+}
+
+/// The place of a booking.
+pub(crate) fn place_of(booking: &Booking) -> Place
+    ensures { result ≡ place_of booking.now }
+{
+    Place {
+        start: booking.interval.start,
+        key: booking.key,
+    }
+}
+
+/// Bookings, ascending by start and then by key, and places that are reserved for more.
+#[derive(Drop)]
+pub(crate) struct Lane {
+    bookings: Vec<Booking>,
+    // no booking is longer
+    longest: Length,
+}
+
+impl Model for Lane {
+    ghost use Rattle.std.specs.Prelude.{◌-◌, vec_len, vec_capacity};
+    ghost use Rattle.host_timeline.specs.Lane.{Lane as Seen, IsLane};
+
+    ghost Value = { Seen };
+
+    ghost view = { λ l. record { list = l.bookings.items; room = vec_capacity l.bookings - vec_len l.bookings } };
+
+    ghost invariant = { λ l. IsLane l.bookings.items l.longest };
+}
+
+impl Lane {
+    pub(crate) fn new(alloc: Global) -> Lane
+        ensures { result.list ≡ [] }
+    {
+        Lane {
+            bookings: Vec::new(alloc),
+            longest: 0,
+        }
+    }
+
+    /// Reserves places, so that `insert` can be called `count` times.
+    pub(crate) fn reserve(&mut self, count: usize) -> Result<(), Memory>
+        ensures same { self.new.list ≡ self.old.list }
+        ensures never_less { self.old.room ≤ self.new.room }
+        ensures ok { OnOk result (count ≤ self.new.room) }
+    {
+        self.bookings.reserve(count)?;
+        Ok(())
+    }
+
+    /// All of them.
+    pub(crate) fn bookings(&self) -> &[Booking]
+        ensures list { result.now ≡ self.now.list }
+        ensures ascending { IsAscendingPlaces self.now.list }
+    {
+        self.bookings.as_slice()
+    }
+
+    /// Takes a booking in.
+    pub(crate) fn insert(&mut self, booking: &Booking)
+        requires room { 0 < self.old.room }
+        requires new_place { find_place self.old.list (place_of booking.now) ≡ None }
+        ensures list { self.new.list ≡ with_place self.old.list booking.now }
+        ensures places { places_of self.new ≡ places_of self.old }
+    {
+        let interval = booking.interval;
+        match self.search(place_of(booking)) {
+            Ok(_) => unreachable!(),
+            Err(at) => {
+                self.longest = self.longest.max(interval.end - interval.start);
+                self.bookings.insert(at, *booking).unwrap()
+            }
+        }
+    }
+
+    /// Takes the booking at a place out; its place stays reserved. Nothing changes where there is none.
+    pub(crate) fn remove(&mut self, place: Place)
+        ensures list { self.new.list ≡ without_place self.old.list place }
+        ensures places { places_of self.new ≡ places_of self.old }
+    {
+        match self.search(place) {
+            Ok(at) => {
+                self.bookings.remove(at);
+            }
+            Err(_) => {}
+        }
+    }
+
+    /// Says that the run of the booking at a place was started. Nothing changes where there is none.
+    pub(crate) fn mark_started(&mut self, place: Place)
+        ensures list { self.new.list ≡ with_started_place self.old.list place }
+        ensures places { places_of self.new ≡ places_of self.old }
+    {
+        match self.search(place) {
+            Ok(at) => self.bookings[at].firm_from = 0,
+            Err(_) => {}
+        }
+    }
+
+    /// Some of the bookings in a row: all that have a second from `from` on, before `until`, if there is such an end. None
+    /// of them starts from `until` on, or so long before `from` that even the longest would have ended.
+    pub(crate) fn near(&self, from: Moment, until: Option<Moment>) -> &[Booking]
+        ensures { (test : SeenBooking → Bool) → PassesOutside (spans from until) test → list_all test result.now ≡ list_all test self.now.list }
+    {
+        let earliest = from.saturating_sub(self.longest);
+        between(self.bookings.as_slice(), earliest, until)
+    }
+
+    /// None of them.
+    pub(crate) fn nothing(&self) -> &[Booking]
+        ensures { result.now ≡ [] }
+    {
+        &self.bookings[..0]
+    }
+
+    // Where the booking with the place is, or where it would go.
+    fn search(&self, place: Place) -> Result<usize, usize>
+        ensures found { IfOk result (IsFoundAt self.now.list place) }
+        ensures absent { IfErr result (IsOpenAt self.now.list place) }
+    {
+        self.bookings
+            .binary_search_by_key(&place, |booking| place_of(booking))
+    }
+}
+
+// Those that start from one moment on, before an end.
+fn between(bookings: &[Booking], from: Moment, until: Option<Moment>) -> &[Booking]
+    requires { IsAscendingPlaces bookings.now }
+    ensures { (test : SeenBooking → Bool) → PassesOthers bookings.now (starts_between from until) test → list_all test result.now ≡ list_all test bookings.now }
+{
+    let first = starts_before(bookings, from);
+    let end = start_by(bookings, until).max(first);
+    &bookings[first..end]
+}
+
+// How many of them start before an end.
+fn start_by(bookings: &[Booking], until: Option<Moment>) -> usize
+    requires { IsAscendingPlaces bookings.now }
+    ensures within { result ≤ length bookings.now }
+    ensures others { AllWithin (λ b. starts_by until b.interval.start ≡ false) bookings.now result (length bookings.now) }
+{
+    match until {
+        Some(until) => starts_before(bookings, until),
+        None => bookings.len(),
+    }
+}
+
+// How many of them start before the moment.
+fn starts_before(bookings: &[Booking], moment: Moment) -> usize
+    requires { IsAscendingPlaces bookings.now }
+    ensures within { result ≤ length bookings.now }
+    ensures parted { IsPartitionPoint (λ b. nat_lt b.interval.start moment ≡ true) (λ b. nat_lt b.interval.start moment ≡ false) bookings.now result }
+{
+    bookings.partition_point(|booking| booking.interval.start < moment)
+}
