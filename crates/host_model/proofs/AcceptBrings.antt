@@ -9,7 +9,7 @@ use Rattle.ps_time.specs.Numbers.{most_participants, most_rows}
 use Rattle.ps_time.specs.declared.key.RunKey.{RunKey}
 use Rattle.ps_time.proofs.PictureLemmas.{and_true}
 use Rattle.plugin_core.specs.Bounds.{IsTest}
-use Rattle.plugin_core.specs.Choice.{is_tool_for, tool_of_text}
+use Rattle.plugin_tool.specs.Choice.{is_tool_for, tool_of_text}
 use Rattle.plugin_core.specs.Kind.{test_kind}
 use Rattle.plugin_core.specs.Participants.{HasParticipants, is_named, participants}
 use Rattle.plugin_core.specs.TestSpec.{test_class}
@@ -47,10 +47,10 @@ list_and true e = refl
 list_and false e = cc
 
 pub has_participants : (test : TestSpec) (lead : List ℕ) → IsTest test → is_name lead ≡ true → HasParticipants (participants test lead)
-has_participants (Idle duration starting parting) lead is named = record { some = omega arith; few = omega arith; named = list_and (is_name lead) named }
-has_participants (Idleex duration starting parting) lead is named = record { some = omega arith; few = omega arith; named = list_and (is_name lead) named }
-has_participants (Idlebgm duration starting parting interval) lead is named = record { some = omega arith; few = omega arith; named = list_and (is_name lead) named }
-has_participants (Idlemany duration starting parting hosts) lead is named =
+has_participants (Idle sleep) lead is named = record { some = omega arith; few = omega arith; named = list_and (is_name lead) named }
+has_participants (Idleex sleep) lead is named = record { some = omega arith; few = omega arith; named = list_and (is_name lead) named }
+has_participants (Idlebgm sleep interval) lead is named = record { some = omega arith; few = omega arith; named = list_and (is_name lead) named }
+has_participants (Idlemany sleep hosts) lead is named =
     let low = and_true (nat_le 2 (length hosts)) _ is.1.differ in
     let high = and_true (nat_le (length hosts) most_participants) _ low.1 in
     record { some = grind (arith, nat_tests); few = grind (arith, nat_tests); named = is.1.names }
@@ -152,7 +152,7 @@ peer_named number (q ∷ qs) p all e = go (q.number == number) e (peer_named num
     go true e ih = let is : q ≡ p = cc in subst (λ x. is_name x.name ≡ true) is all.0.name
     go false e ih = ih e
 
-lead_named : (c : Config) (sender : ℕ) (k : RunKey) (lead : List ℕ) → IsConfig c → lead_name c sender k ≡ Some lead → is_name lead ≡ true
+pub lead_named : (c : Config) (sender : ℕ) (k : RunKey) (lead : List ℕ) → IsConfig c → lead_name c sender k ≡ Some lead → is_name lead ≡ true
 lead_named c sender k lead config named =
     let g = given_if (k.lead == sender) (option_map (λ p. p.name) (find_peer c.peers sender)) lead named in
     let p = mapped (λ p. p.name) (find_peer c.peers sender) lead g.1 in

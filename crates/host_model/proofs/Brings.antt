@@ -5,7 +5,7 @@ use Rattle.std.proofs.Common.{◌≡◌, ◌≤◌, ◌<◌, ℕ, true, List, []
 use Rattle.ps_time.specs.Key.{key_cmp}
 use Rattle.ps_time.specs.Numbers.{greatest_moment, most_rows, most_tasks}
 use Rattle.ps_time.specs.declared.key.RunKey.{RunKey}
-use Rattle.plugin_core.specs.Choice.{tool_of_text}
+use Rattle.plugin_tool.specs.Choice.{tool_of_text}
 use Rattle.archive_retry.specs.Bounds.{IsStateOf}
 use Rattle.archive_retry.specs.Merge.{IsResult, IsResultText, IsTreeText}
 use Rattle.limit_apply.specs.Read.{IsKept}

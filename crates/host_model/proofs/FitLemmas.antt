@@ -9,7 +9,7 @@ use Rattle.ps_time.specs.Numbers.{most_kept_bytes, most_rows}
 use Rattle.ps_time.specs.declared.asker.Verdict.{Verdict}
 use Rattle.ps_time.specs.declared.asker.Verdict.TheVariants.{Permitted, Stopped, Exhausted, AboveCeiling}
 use Rattle.ps_time.specs.declared.key.RunKey.{RunKey}
-use Rattle.plugin_core.specs.Choice.{is_tool_for}
+use Rattle.plugin_tool.specs.Choice.{is_tool_for}
 use Rattle.plugin_core.specs.Kind.{test_kind}
 use Rattle.plugin_core.specs.Participants.{is_named, participants}
 use Rattle.plugin_core.specs.TestSpec.{test_class}

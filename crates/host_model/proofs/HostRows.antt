@@ -3,7 +3,7 @@ use Rattle.std.specs.Prelude.{IfSome, IsNone, IsSome, IsTrue}
 use Rattle.std.proofs.Common.{◌≡◌, ◌≤◌, ℕ, zero, suc, Bool, true, false, cond, ◌&&◌, List, [], ◌∷◌, All, length, Option, Some, None, slice_get, refl, ap, sym, subst, ◌∙◌, arith}
 use Rattle.std.proofs.lemmas.List.Elements.{All-cons, All-nil}
 use Rattle.ps_time.specs.Numbers.{greatest_moment}
-use Rattle.plugin_core.specs.Choice.{tool_of_text}
+use Rattle.plugin_tool.specs.Choice.{tool_of_text}
 use Rattle.archive_retry.specs.Bounds.{IsStateOf}
 use Rattle.archive_retry.specs.Retry.{due_from}
 use Rattle.archive_retry.specs.Merge.{IsResult, IsResultText, IsTreeText}

@@ -10,6 +10,7 @@ use Rattle.ps_time.specs.declared.class.Class.TheVariants.{Exclusive}
 use Rattle.ps_time.specs.declared.key.RunKey.{RunKey}
 use Rattle.schedule_rule.specs.Rule.{Schedule, first_from}
 use Rattle.plugin_core.specs.declared.test_spec.TestSpec.{TestSpec}
+use Rattle.plugin_core.specs.TestSpec.{sleep_of}
 use Rattle.plugin_core.specs.declared.test_spec.TestSpec.TheVariants.{Idle, Idlemany}
 use Rattle.limit_apply.specs.Open.{open_config}
 use Rattle.run_states.specs.Life.{first}
@@ -54,7 +55,7 @@ abbrev pub key : RunKey
 key = record { lead = 1; task = 1; number = 0; attempt = 0 }
 
 abbrev pub many : TestSpec
-many = Idlemany 10 None None (codes "a" ∷ codes "b" ∷ [])
+many = Idlemany (sleep_of 10) (codes "a" ∷ codes "b" ∷ [])
 
 abbrev pub asker : Asker
 asker = record { requester = codes "10.0.0.9"; server = codes "a" }
@@ -126,7 +127,7 @@ abbrev pub rule : Schedule
 rule = record { anchor = 1000; slip = 300; repeat = None; until = None; max_runs = None }
 
 abbrev pub idle_task : Task
-idle_task = record { test = Idle 10 None None; tools = []; rule = rule; archives = []; reference = None; priority = pos 0 }
+idle_task = record { test = Idle (sleep_of 10); tools = []; rule = rule; archives = []; reference = None; priority = pos 0 }
 
 abbrev pub idle_key : RunKey
 idle_key = record { lead = 1; task = 1; number = 0; attempt = 0 }
@@ -148,7 +149,7 @@ posted_idle_book : step_book host_a empty_book 1000 (input.Post idle_task (codes
 posted_idle_book = refl
 
 abbrev idle_question : Question
-idle_question = record { key = idle_key; test = Idle 10 None None; priority = pos 0; window = window 1006 1300 }
+idle_question = record { key = idle_key; test = Idle (sleep_of 10); priority = pos 0; window = window 1006 1300 }
 
 abbrev idle_asked : RunRow
 idle_asked = asked_row 1001 idle_question (codes "a" ∷ []) asker

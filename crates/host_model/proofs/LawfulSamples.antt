@@ -2,6 +2,7 @@
 use Rattle.std.specs.Prelude.{◌≡◌, ◌∷◌, [], codes, pos}
 use Rattle.std.proofs.Common.{refl, arith}
 use Rattle.std.proofs.lemmas.List.Elements.{recursion_from_All}
+use Rattle.std.proofs.lemmas.Str.{IsUtf8-nil}
 use Rattle.ps_time.specs.declared.class.Class.TheVariants.{Normal}
 use Rattle.plugin_core.specs.Participants.{participants}
 use Rattle.run_states.specs.declared.proposal.Proposal.{Proposal}
@@ -36,7 +37,7 @@ booking_step = refl
 accepts_lawful : Brings 1 10 (settled 10 empty_book) accepts
 accepts_lawful = (
   record {
-    proposal = record { test = record { dest = refl; material = omega arith; lasts = omega arith; short = omega arith }; start = omega arith };
+    proposal = record { test = record { dest = refl; utf8 = IsUtf8-nil; material = omega arith; lasts = omega arith; short = omega arith }; start = omega arith };
     tool = refl;
     participants = record { some = omega arith; few = omega arith; named = refl };
     lead = λ own. (refl, refl);

@@ -2,7 +2,9 @@ pub mod AcceptBrings
 pub mod AcceptedKeys
 pub mod AllowedLemmas
 pub mod AnswerLemmas
+pub mod ArchiveBrings
 pub mod AskedRuns
+pub mod BookBrings
 pub mod BookingSamples
 pub mod Brings
 pub mod ChangesGrow
@@ -31,7 +33,9 @@ pub mod Pairs
 pub mod Placed
 pub mod PlanLemmas
 pub mod PlannedRuns
+pub mod RecordBound
 pub mod RequestSamples
+pub mod ResultTexts
 pub mod RowFacts
 pub mod RowLemmas
 pub mod RowTests
@@ -46,9 +50,13 @@ pub mod StepFollows
 pub mod StepGrants
 pub mod StepGrown
 pub mod TasksAround
+pub mod TextsRead
 pub mod TierLemmas
+pub mod TreesRead
+pub mod TurnBrings
 pub mod TurnCan
 pub mod TurnGrants
 pub mod TurnLemmas
 pub mod WalkLemmas
 pub mod Wishes
+pub mod WrittenTrees

@@ -5,7 +5,7 @@ use Rattle.std.proofs.lemmas.List.{length-map}
 use Rattle.std.proofs.lemmas.List.Elements.{All-cons, All-nil}
 use Rattle.ps_time.specs.declared.asker.Asker.{Asker}
 use Rattle.plugin_core.specs.Bounds.{IsTest}
-use Rattle.plugin_core.specs.Choice.{tool_of_text}
+use Rattle.plugin_tool.specs.Choice.{tool_of_text}
 use Rattle.run_states.specs.LawfulRow.{HasParticipants, IsDueInTime, IsOther, IsProposal, IsWindow}
 use Rattle.run_states.specs.declared.proposal.Proposal.{Proposal}
 use Rattle.run_states.specs.declared.proposal.Question.{Question}

@@ -6,8 +6,8 @@ use Rattle.ps_time.specs.Numbers.{plan_lead}
 use Rattle.ps_time.specs.Span.{Range}
 use Rattle.ps_time.specs.Starts.{least_start}
 use Rattle.ps_time.specs.declared.tiers.Tiers.{Tiers}
-use Rattle.plugin_core.specs.Choice.{chosen}
-use Rattle.plugin_core.specs.declared.tool.Tool.{Tool}
+use Rattle.plugin_tool.specs.Choice.{chosen}
+use Rattle.plugin_tool.specs.declared.tool.Tool.{Tool}
 use Rattle.run_states.specs.declared.answer.FreeAnswer.{FreeAnswer}
 use Rattle.run_states.specs.declared.row.RunRow.{RunRow}
 use Rattle.slot_search.specs.CommonStart.{choice_of, earliest, in_all_first, in_all_second}

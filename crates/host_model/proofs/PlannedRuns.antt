@@ -4,7 +4,7 @@ use Rattle.std.proofs.Common.{◌≡◌, ◌≤◌, ℕ, true, List, Option, Som
 use Rattle.ps_time.specs.Numbers.{greatest_moment}
 use Rattle.ps_time.specs.Span.{Span}
 use Rattle.ps_time.proofs.PictureLemmas.{and_true}
-use Rattle.plugin_core.specs.Choice.{is_tool_for}
+use Rattle.plugin_tool.specs.Choice.{is_tool_for}
 use Rattle.plugin_core.specs.Kind.{test_kind}
 use Rattle.plugin_core.specs.Participants.{is_named}
 use Rattle.plugin_core.specs.TestSpec.{test_class}

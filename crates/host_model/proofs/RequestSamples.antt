@@ -6,6 +6,7 @@ use Rattle.json.specs.Print.{escape_byte}
 use Rattle.ps_time.specs.Span.{span_of}
 use Rattle.ps_time.specs.declared.class.Class.TheVariants.{Background, Exclusive}
 use Rattle.plugin_core.specs.declared.test_spec.TestSpec.{TestSpec}
+use Rattle.plugin_core.specs.TestSpec.{sleep_of}
 use Rattle.plugin_core.specs.declared.test_spec.TestSpec.TheVariants.{Idlemany, Simplestream}
 use Rattle.run_states.specs.declared.row.RunRow.{RunRow}
 use Rattle.run_states.specs.declared.why.Why.TheVariants.{Canceled}
@@ -24,7 +25,7 @@ use Rattle.host_model.specs.declared.view.Page.TheVariants as page
 use Rattle.host_model.specs.declared.view.View.TheVariants as view
 
 -- ---- posting
-unknown_host : step host_a empty_book 1000 (input.Post (record idle_task { test = Idlemany 10 None None (codes "a" ∷ codes "c" ∷ []) }) (codes "10.0.0.9")) ≡ answered (reply.UnknownHost (codes "c"))
+unknown_host : step host_a empty_book 1000 (input.Post (record idle_task { test = Idlemany (sleep_of 10) (codes "a" ∷ codes "c" ∷ []) }) (codes "10.0.0.9")) ≡ answered (reply.UnknownHost (codes "c"))
 unknown_host = refl
 
 -- ---- canceling: by its poster alone; a started run goes on

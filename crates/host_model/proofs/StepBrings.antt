@@ -61,7 +61,7 @@ module _ (self m : ℕ) (b : Book) (k : RunKey) (place : ℕ) where
   meant body said is = tt
 
 -- a reason for closing is within the bounds of the denial
-closes_why : (t : Bool) (why is : Why) → close_if t is ≡ close_move why → is ≡ why
+pub closes_why : (t : Bool) (why is : Why) → close_if t is ≡ close_move why → is ≡ why
 closes_why true why is e = cc
 closes_why false why is e = cc
 

@@ -105,7 +105,7 @@ turn_grows c m b now = kept_along (λ a. a.moment ≡ m) GrowsBy m (turn_changes
     b)
 
 -- ---- an attempt at an archive
-task_of_all : (P : TaskRow → Type 0) (serial : ℕ) (t : TaskRow) (tasks : List TaskRow) → AllByRecursion P tasks → find_task tasks serial ≡ Some t → P t
+pub task_of_all : (P : TaskRow → Type 0) (serial : ℕ) (t : TaskRow) (tasks : List TaskRow) → AllByRecursion P tasks → find_task tasks serial ≡ Some t → P t
 task_of_all P serial t [] all found = cc
 task_of_all P serial t (x ∷ xs) all found = go (x.serial == serial) found (task_of_all P serial t xs all.1)
   where
@@ -132,7 +132,7 @@ state_evolves policy s m retry true open_state few = record { tried = omega (ari
 state_evolves policy s m retry false open_state few = record { tried = omega (arith, few); done = λ e. cc }
 
 -- the policy of a task's archive
-task_policy : (m : ℕ) (tasks : List TaskRow) (k : RunKey) (index : ℕ) (a : Archive) → All (IsLawfulTask m) tasks → slice_get (archives_of tasks k) index ≡ Some a → IsPolicy a.policy
+pub task_policy : (m : ℕ) (tasks : List TaskRow) (k : RunKey) (index : ℕ) (a : Archive) → All (IsLawfulTask m) tasks → slice_get (archives_of tasks k) index ≡ Some a → IsPolicy a.policy
 task_policy m tasks k index a all at = go (find_task tasks k.task) refl at
   where
     inside : (xs : List Archive) (i : ℕ) → AllByRecursion IsArchive xs → slice_get xs i ≡ Some a → IsPolicy a.policy

@@ -1,6 +1,6 @@
 -- Each run that a turn plans is granted by the limits of the epoch that it names, at the book with the earlier changes applied.
 use Rattle.std.proofs.Common.{◌≡◌, ℕ, Bool, true, false, is_some, cond, List, [], ◌∷◌, Option, Some, None, option_map, subst}
-use Rattle.plugin_core.specs.Run.{outcome_at}
+use Rattle.plugin_tool.specs.Run.{outcome_at}
 use Rattle.run_states.specs.Life.{is_active}
 use Rattle.run_states.specs.ResultBytes.{result_bytes}
 use Rattle.run_states.specs.Rows.{IsAscendingRows, find_row}

@@ -2,9 +2,9 @@
 use Rattle.std.specs.Prelude.{◌&&◌, ◌==◌}
 use Rattle.std.proofs.Common.{◌≡◌, ℕ, Bool, true, false, cond, not, Option, Some, None, is_some, option_map, unwrap_or, refl}
 use Rattle.ps_time.proofs.PictureLemmas.{and_true}
-use Rattle.plugin_core.specs.Run.{outcome_at}
-use Rattle.plugin_core.specs.declared.run.Outcome.{Outcome as ToolOutcome}
-use Rattle.plugin_core.specs.declared.run.Outcome.TheVariants.{Restarted}
+use Rattle.plugin_tool.specs.Run.{outcome_at}
+use Rattle.plugin_tool.specs.declared.run.Outcome.{Outcome as ToolOutcome}
+use Rattle.plugin_tool.specs.declared.run.Outcome.TheVariants.{Restarted}
 use Rattle.run_states.specs.Life.{is_active, is_booked}
 use Rattle.run_states.specs.Purging.{is_purgeable}
 use Rattle.run_states.specs.ResultBytes.{result_bytes}

@@ -4,11 +4,12 @@ use Rattle.ps_time.specs.declared.class.Class.{Class}
 use Rattle.ps_time.specs.declared.class.Class.TheVariants.{BackgroundMulti, Background, Normal, Exclusive}
 use Rattle.ps_time.specs.declared.key.RunKey.{RunKey}
 use Rattle.plugin_core.specs.Participants.{participants}
-use Rattle.plugin_core.specs.Tool.{tool_text}
+use Rattle.plugin_tool.specs.Tool.{tool_text}
+use Rattle.plugin_core.specs.TestSpec.{sleep_of}
 use Rattle.plugin_core.specs.declared.test_spec.TestSpec.{TestSpec}
 use Rattle.plugin_core.specs.declared.test_spec.TestSpec.TheVariants.{Idle, Idleex, Idlebgm, Simplestream}
-use Rattle.plugin_core.specs.declared.tool.Tool.{Tool}
-use Rattle.plugin_core.specs.declared.tool.Tool.TheVariants.{Sleep, Sleepbgm, Simplestreamer}
+use Rattle.plugin_tool.specs.declared.tool.Tool.{Tool}
+use Rattle.plugin_tool.specs.declared.tool.Tool.TheVariants.{Sleep, Sleepbgm, Simplestreamer}
 use Rattle.run_states.specs.declared.proposal.Proposal.{Proposal}
 use Rattle.run_states.specs.declared.why.Denial.{Denial}
 use Rattle.run_states.specs.declared.why.Denial.TheVariants.{Full}
@@ -32,10 +33,10 @@ booking_key self number = record { lead = self; task = 0; number = number; attem
 
 -- the test by which a host of this name books a class for itself
 abbrev pub booking_test : List ℕ → Class → ℕ → TestSpec
-booking_test name BackgroundMulti len = Idlebgm len None None len
-booking_test name Background len = Idle len None None
+booking_test name BackgroundMulti len = Idlebgm (sleep_of len) len
+booking_test name Background len = Idle (sleep_of len)
 booking_test name Normal len = Simplestream name [] 0 len
-booking_test name Exclusive len = Idleex len None None
+booking_test name Exclusive len = Idleex (sleep_of len)
 
 -- the tool by which it runs
 abbrev pub booking_tool : Class → Tool

@@ -3,12 +3,11 @@ use Rattle.std.specs.List.{list_any}
 use Rattle.std.specs.Prelude.{◌||◌, Bool, List, None, Option, Some, false, if◌then◌else◌, is_some, option_map, true, unwrap_or, ℕ}
 use Rattle.serde_json.specs.Written.{compact_text}
 use Rattle.ps_time.specs.Span.{Span}
-use Rattle.plugin_core.specs.Participants.{role_in}
-use Rattle.plugin_core.specs.ResultText.{result_data}
-use Rattle.plugin_core.specs.Run.{outcome_at}
-use Rattle.plugin_core.specs.declared.run.Outcome.{Outcome as ToolOutcome}
-use Rattle.plugin_core.specs.declared.run.Outcome.TheVariants.{Good, Restarted}
-use Rattle.plugin_core.specs.declared.run.ToolView.{ToolView}
+use Rattle.plugin_tool.specs.ResultText.{result_data}
+use Rattle.plugin_tool.specs.Run.{role_in, outcome_at}
+use Rattle.plugin_tool.specs.declared.run.Outcome.{Outcome as ToolOutcome}
+use Rattle.plugin_tool.specs.declared.run.Outcome.TheVariants.{Good, Restarted}
+use Rattle.plugin_tool.specs.declared.run.ToolView.{ToolView}
 use Rattle.run_states.specs.Life.{is_active}
 use Rattle.run_states.specs.declared.row.RunRow.{RunRow}
 use Rattle.host_model.specs.Book.{Book}

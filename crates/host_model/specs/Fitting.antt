@@ -4,7 +4,7 @@ use Rattle.std.specs.Prelude.{◌<◌, ◌≡◌, ◌≢◌, ◌≤◌, ◌⊎�
 use Rattle.ps_time.specs.Numbers.{most_kept_bytes, most_rows}
 use Rattle.ps_time.specs.Span.{Span}
 use Rattle.ps_time.specs.declared.key.RunKey.{RunKey}
-use Rattle.plugin_core.specs.Choice.{is_tool_for}
+use Rattle.plugin_tool.specs.Choice.{is_tool_for}
 use Rattle.plugin_core.specs.Kind.{test_kind}
 use Rattle.plugin_core.specs.Participants.{participants}
 use Rattle.plugin_core.specs.TestSpec.{test_class}

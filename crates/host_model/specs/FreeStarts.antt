@@ -5,7 +5,7 @@ use Rattle.ps_time.specs.Span.{Range, span_of}
 use Rattle.ps_time.specs.declared.class.Class.{Class}
 use Rattle.ps_time.specs.declared.tiers.Tiers.{Tiers}
 use Rattle.ps_time.specs.Starts.{tier_of}
-use Rattle.plugin_core.specs.Choice.{is_tool_for}
+use Rattle.plugin_tool.specs.Choice.{is_tool_for}
 use Rattle.plugin_core.specs.Kind.{test_kind}
 use Rattle.plugin_core.specs.Participants.{is_named, participants}
 use Rattle.plugin_core.specs.TestSpec.{test_class, test_length}

@@ -18,6 +18,7 @@ pub mod FreeTier
 pub mod Granting
 pub mod Grown
 pub mod Heard
+pub mod InputLength
 pub mod Lawful
 pub mod LawfulRow
 pub mod MayFollow

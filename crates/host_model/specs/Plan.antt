@@ -3,9 +3,9 @@ use Rattle.std.specs.List.{list_all}
 use Rattle.std.specs.Prelude.{◌&&◌, ◌+◌, ◌∷◌, Bool, List, None, Option, Some, [], filter_map, if◌then◌else◌, is_some, map, max, not, ℕ}
 use Rattle.ps_time.specs.Span.{Range}
 use Rattle.ps_time.specs.Numbers.{plan_lead}
-use Rattle.plugin_core.specs.Choice.{chosen}
-use Rattle.plugin_core.specs.Tool.{tool_text}
-use Rattle.plugin_core.specs.declared.tool.Tool.{Tool}
+use Rattle.plugin_tool.specs.Choice.{chosen}
+use Rattle.plugin_tool.specs.Tool.{tool_text}
+use Rattle.plugin_tool.specs.declared.tool.Tool.{Tool}
 use Rattle.run_states.specs.declared.answer.FreeAnswer.{FreeAnswer}
 use Rattle.run_states.specs.declared.proposal.Proposal.{Proposal}
 use Rattle.run_states.specs.declared.row.RunRow.{RunRow}
