@@ -1,0 +1,159 @@
+-- The key of a task's next attempt, or of a booking, comes after all of its task that stand.
+use Rattle.std.specs.List.{AllByRecursion, last_or}
+use Rattle.std.specs.Prelude.{◌==◌, IsNone, filter, nat_lt, option_and_then}
+use Rattle.std.specs.declared.cmp.Ordering.TheVariants.{Less}
+use Rattle.std.proofs.Common.{◌≡◌, ◌≤◌, ◌<◌, ◌+◌, ◌⊎◌, inl, inr, ℕ, Bool, true, false, cond, nat_le, List, [], ◌∷◌, Option, Some, None, is_some, refl, sym, subst, ap, ◌∙◌, arith}
+use Rattle.std.proofs.lemmas.Bool.Decides.{nat_tests}
+use Rattle.ps_time.specs.Key.{key_cmp}
+use Rattle.ps_time.specs.Span.{Range}
+use Rattle.ps_time.specs.Numbers.{horizon, plan_lead, retry_wait}
+use Rattle.ps_time.specs.declared.key.RunKey.{RunKey}
+use Rattle.ps_time.proofs.KeyLemmas.{key_cmp_total}
+use Rattle.ps_time.proofs.PictureLemmas.{and_true}
+use Rattle.ps_time.proofs.SortedLemmas.{ascending-filter}
+use Rattle.schedule_rule.specs.Rule.{Schedule, next_of, numbers_of, reaches_from, window_of}
+use Rattle.run_states.specs.Rows.{IsAscendingRows, find_row}
+use Rattle.run_states.specs.TaskRows.{greatest_number, is_of_task, newest_row, rows_of_task}
+use Rattle.run_states.specs.declared.row.RunRow.{RunRow}
+use Rattle.run_states.specs.declared.why.Closing.{Closing}
+use Rattle.host_model.specs.NextAttempt.{asked_window, attempt_after, attempt_at, attempt_by, attempt_key, fresh_attempt, is_repeatable, next_attempt, repeated}
+use Rattle.host_model.specs.declared.lead.Attempt.{Attempt}
+use Rattle.host_model.specs.declared.task_row.TaskRow.{TaskRow}
+use Rattle.host_model.proofs.Placed.{find_row-key}
+use Rattle.host_model.proofs.Wishes.{given_else, given_if}
+use Rattle.host_model.specs.Booking.{booking_key}
+use Rattle.host_model.proofs.NewNumbers.{above_new}
+use Rattle.host_model.proofs.NextKeys.{first_holds, found_kept}
+use Rattle.psched_world.proofs.Allowed.{Fresh}
+
+-- ---- the number of an attempt
+at_window : (m number attempt : ℕ) (o : Option Range) (a : Attempt) → attempt_at m number attempt o ≡ Some a → (a.number ≡ number) × (a.attempt ≡ attempt)
+at_window m number attempt None a e = cc
+at_window m number attempt (Some w) a e =
+    let g = given_if (nat_le w.first (m + horizon)) (Some (record { number = number; attempt = attempt; window = asked_window m w })) a e in
+    let is : record { number = number; attempt = attempt; window = asked_window m w } ≡ a = cc in
+    (ap (λ x. x.number) (sym is), ap (λ x. x.attempt) (sym is))
+
+fresh_from : (m : ℕ) (rule : Schedule) (from : ℕ) (a : Attempt) → fresh_attempt m rule from ≡ Some a → from ≤ a.number
+fresh_from m rule from a e = go (next_of rule from (m + plan_lead)) refl e
+  where
+    go : (o : Option ℕ) → next_of rule from (m + plan_lead) ≡ o → option_and_then (λ number. attempt_at m number 0 (window_of rule number)) o ≡ Some a → from ≤ a.number
+    go None is e = cc
+    go (Some number) is e =
+        let holds : reaches_from rule from (m + plan_lead) number ≡ true = first_holds (reaches_from rule from (m + plan_lead)) 0 (numbers_of rule) number is in
+        let both = and_true (nat_le from number) _ holds in
+        let low : from ≤ number = grind (arith, nat_tests) in
+        let same = at_window m number 0 (window_of rule number) a e in
+        omega (arith, low, same.0)
+
+-- after a row, an attempt has a greater number, or is the next of the same one
+after_row : (m : ℕ) (rule : Schedule) (k : RunKey) (a : Attempt) (confirmed : Option ℕ) (closed : Option Closing) → attempt_after m rule k confirmed closed ≡ Some a → (k.number < a.number) ⊎ ((a.number ≡ k.number) × (a.attempt ≡ k.attempt + 1))
+after_row m rule k a (Some s) closed e = let low = fresh_from m rule (k.number + 1) a e in inl (omega (arith, low))
+after_row m rule k a None None e = cc
+after_row m rule k a None (Some c) e = go (is_repeatable m rule k) e
+  where
+    go : (t : Bool) → cond t (repeated m rule k c) (fresh_attempt m rule (k.number + 1)) ≡ Some a → (k.number < a.number) ⊎ ((a.number ≡ k.number) × (a.attempt ≡ k.attempt + 1))
+    go true e = inr (at_window m k.number (k.attempt + 1) (window_of rule k.number) a (given_if (nat_le (c.moment + retry_wait) m) (attempt_at m k.number (k.attempt + 1) (window_of rule k.number)) a e).1)
+    go false e = let low = fresh_from m rule (k.number + 1) a e in inl (omega (arith, low))
+
+-- ---- the newest row of a task
+last_has : (P : RunRow → Type 0) (y z : RunRow) (zs : List RunRow) → last_or (Some z) (zs) ≡ Some y → P z → AllByRecursion P zs → P y
+last_has P y z [] e here all = let is : z ≡ y = cc in subst P is here
+last_has P y z (w ∷ ws) e here all = last_has P y w ws e all.0 all.1
+
+-- it is not below
+abbrev Low : RunRow → RunRow → Type 0
+Low y x = (key_cmp x.key y.key ≡ Less) ⊎ (x ≡ y)
+
+low_last : (y x : RunRow) (xs : List RunRow) → AllByRecursion (λ z. key_cmp x.key z.key ≡ Less) xs → IsAscendingRows xs → last_or (Some x) xs ≡ Some y → Low y x × AllByRecursion (Low y) xs
+low_last y x [] below up e = (inr cc, tt)
+low_last y x (z ∷ zs) below up e = (inl (last_has (λ w. key_cmp x.key w.key ≡ Less) y z zs e below.0 below.1), low_last y z zs up.0 up.1 e)
+
+all_low : (y : RunRow) (xs : List RunRow) → IsAscendingRows xs → last_or None xs ≡ Some y → AllByRecursion (Low y) xs
+all_low y [] up e = tt
+all_low y (x ∷ xs) up e = low_last y x xs up.0 up.1 e
+
+all_none : (P : RunRow → Type 0) (xs : List RunRow) → last_or None xs ≡ None → AllByRecursion P xs
+all_none P [] e = tt
+all_none P (x ∷ xs) e = absurd (some x xs e)
+  where
+    some : (x : RunRow) (xs : List RunRow) → last_or (Some x) xs ≡ None → ⊥
+    some x [] e = cc
+    some x (z ∷ zs) e = some z zs e
+
+filter_has : (t : RunRow → Bool) (xs : List RunRow) → AllByRecursion (λ r. t r ≡ true) (filter t xs)
+filter_has t [] = tt
+filter_has t (x ∷ xs) = go (t x) refl (filter_has t xs)
+  where
+    go : (b : Bool) → t x ≡ b → AllByRecursion (λ r. t r ≡ true) (filter t xs) → AllByRecursion (λ r. t r ≡ true) (cond b (x ∷ filter t xs) (filter t xs))
+    go true is rest = (is, rest)
+    go false is rest = rest
+
+newest_has : (P : RunRow → Type 0) (y : RunRow) (xs : List RunRow) → last_or None xs ≡ Some y → AllByRecursion P xs → P y
+newest_has P y [] e all = cc
+newest_has P y (x ∷ xs) e all = last_has P y x xs e all.0 all.1
+
+-- ---- bookings
+below_number : (j k : RunKey) → j.lead ≡ k.lead → j.task ≡ k.task → j.number < k.number → key_cmp j k ≡ Less
+below_number j k lead task low = grind (arith, nat_tests)
+
+pub booking_fresh : (self : ℕ) (rows : List RunRow) → Fresh rows (booking_key self (greatest_number self 0 rows + 1))
+booking_fresh self rows j q e lead task =
+    let number : j.number < greatest_number self 0 rows + 1 = low (nat_lt (greatest_number self 0 rows) j.number) refl in below_number j (booking_key self (greatest_number self 0 rows + 1)) lead task number
+  where
+    never : (o : Option RunRow) → IsNone o → is_some o ≡ true → ⊥
+    never None n s = cc
+    never (Some r) n s = cc
+
+    low : (b : Bool) → nat_lt (greatest_number self 0 rows) j.number ≡ b → j.number < greatest_number self 0 rows + 1
+    low false f = let no : nat_lt (greatest_number self 0 rows) j.number ≡ false = f in grind (arith, nat_tests)
+    low true f =
+        let above : greatest_number self 0 rows < j.number = grind (arith, nat_tests, f) in
+        let mine : greatest_number j.lead j.task rows < j.number = subst (λ l. greatest_number l j.task rows < j.number) (sym lead) (subst (λ n. greatest_number self n rows < j.number) (sym task) above) in
+        let none : IsNone (find_row rows j) = above_new rows j mine in
+        let some : is_some (find_row rows j) ≡ true = ap is_some e in
+        absurd (never (find_row rows j) none some)
+
+-- ---- attempts
+below_attempt : (j k : RunKey) → j.lead ≡ k.lead → j.task ≡ k.task → j.number ≡ k.number → j.attempt < k.attempt → key_cmp j k ≡ Less
+below_attempt j k lead task number low = grind (arith, nat_tests)
+
+pub attempt_fresh : (self : ℕ) (t : TaskRow) (rows : List RunRow) (m : ℕ) (a : Attempt) → IsAscendingRows rows → next_attempt self t rows m ≡ Some a → Fresh rows (attempt_key self t.serial a)
+attempt_fresh self t rows m a up next j q e lead task = by_newest (newest_row self t.serial rows) refl (given_else (is_some t.closed) (attempt_by m t.task.rule (newest_row self t.serial rows)) a next).1
+  where
+    k : RunKey
+    k = attempt_key self t.serial a
+
+    own : is_of_task self t.serial q ≡ true
+    own =
+        let is : q.key ≡ j = find_row-key rows j q e in
+        let own_lead : q.key.lead ≡ self = ap (λ x. x.lead) is ∙ lead in
+        let own_task : q.key.task ≡ t.serial = ap (λ x. x.task) is ∙ task in
+        grind (arith, nat_tests)
+
+    of_task : List RunRow
+    of_task = rows_of_task self t.serial rows
+
+    of_task_up : IsAscendingRows of_task
+    of_task_up = ascending-filter key_cmp_total (λ r. r.key) (is_of_task self t.serial) rows up
+
+    by_newest : (o : Option RunRow) → newest_row self t.serial rows ≡ o → attempt_by m t.task.rule o ≡ Some a → key_cmp j k ≡ Less
+    by_newest None newest f = absurd (found_kept (λ r. ⊥) (is_of_task self t.serial) j q rows (all_none (λ r. ⊥) of_task newest) e own)
+    by_newest (Some y) newest f =
+        let low : Low y q = found_kept (Low y) (is_of_task self t.serial) j q rows (all_low y of_task of_task_up newest) e own in
+        let mine : is_of_task self t.serial y ≡ true = newest_own y newest in
+        let y_lead : (y.key.lead == self) ≡ true = (and_true (y.key.lead == self) _ mine).0 in
+        let y_task : (y.key.task == t.serial) ≡ true = (and_true (y.key.lead == self) _ mine).1 in
+        let after : key_cmp y.key k ≡ Less = above y.key (after_row m t.task.rule y.key a y.confirmed y.closed f) (grind (arith, nat_tests)) (grind (arith, nat_tests)) in
+        let is : q.key ≡ j = find_row-key rows j q e in
+        elim low [
+          | inl below ↦ key_cmp_total.trans j y.key k (subst (λ x. key_cmp x y.key ≡ Less) is below) after
+          | inr same ↦ subst (λ x. key_cmp x k ≡ Less) (ap (λ r. r.key) (sym same) ∙ is) after
+        ]
+      where
+        above : (x : RunKey) → (x.number < a.number) ⊎ ((a.number ≡ x.number) × (a.attempt ≡ x.attempt + 1)) → x.lead ≡ self → x.task ≡ t.serial → key_cmp x k ≡ Less
+        above x (inl low) own_lead own_task = below_number x k own_lead own_task low
+        above x (inr next) own_lead own_task = let attempt = next.1 in below_attempt x k own_lead own_task (sym next.0) (omega (arith, attempt))
+
+        newest_own : (y : RunRow) → newest_row self t.serial rows ≡ Some y → is_of_task self t.serial y ≡ true
+        newest_own y is = newest_has (λ r. is_of_task self t.serial r ≡ true) y of_task is (filter_has (is_of_task self t.serial) rows)

@@ -1,0 +1,26 @@
+pub mod Agreeing
+pub mod Allowed
+pub mod BookSteps
+pub mod Carries
+pub mod ChangeKinds
+pub mod Changed
+pub mod FitAnswers
+pub mod FreshKeys
+pub mod Guards
+pub mod Invariant
+pub mod Keeping
+pub mod KeptAnswers
+pub mod Lawfulness
+pub mod Letters
+pub mod Moves
+pub mod NewRows
+pub mod Owned
+pub mod Pushed
+pub mod RowChanges
+mod Sample
+pub mod Shown
+pub mod Stages
+pub mod Steps
+pub mod Told
+pub mod Walked
+pub mod Worlds
