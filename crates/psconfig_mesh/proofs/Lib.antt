@@ -1,0 +1,5 @@
+pub mod BodyLemmas
+pub mod EntryLemmas
+pub mod FillLemmas
+pub mod PairLemmas
+pub mod WantedLemmas
