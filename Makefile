@@ -41,3 +41,5 @@ bench: build
 	python3 bench/limits.py build/psched
 	-cd crates/host_journal_bench && rt run
 	python3 bench/journal.py crates/host_journal_bench/out/host_journal_bench
+	-cd crates/host_timeline_bench && rt run -- mixed 100 10
+	python3 bench/timeline.py crates/host_timeline_bench/out/host_timeline_bench

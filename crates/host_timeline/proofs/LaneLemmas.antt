@@ -13,9 +13,9 @@ use Rattle.ps_time.proofs.KeyLemmas.{key_cmp_total}
 use Rattle.ps_time.proofs.SortedLemmas.{ascending_at, searchable, find_in_gap, insert_in_gap, find_at, without_at, without_in_gap, ascending-without, ascending-insert, set_changes, ascending-change, change_in_gap}
 use Rattle.host_timeline.specs.declared.booking.Booking.{Booking}
 use Rattle.host_timeline.specs.declared.lane.Place.{Place}
-use Rattle.host_timeline.specs.Lane.{place_cmp, place_of, find_place, with_place, without_place, with_started_place, IsAscendingPlaces, IsLane, IsFoundAt, IsOpenAt, PassesOthers, PassesOutside, spans, starts_between, starts_by}
+use Rattle.host_timeline.specs.Lane.{place_cmp, place_of, find_place, with_place, without_place, with_started_place, IsAscendingPlaces, IsLane, IsFoundAt, IsOpenAt, FailsOthers, FailsOutside, how_many, reaches, spans, starts_between, starts_by}
 use Rattle.host_timeline.specs.Timeline.{started_booking}
-use Rattle.host_timeline.proofs.Tests.{and_false}
+use Rattle.host_timeline.proofs.Tests.{and_false, both_true}
 
 pub place_cmp_total : IsTotalOrder place_cmp
 place_cmp_total = then_total (on_total (λ p. p.start) nat_cmp_total) (on_total (λ p. p.key) key_cmp_total)
@@ -123,27 +123,31 @@ pub parts_at : (moment : ℕ) (bs : List Booking) → IsAscendingPlaces bs → I
 parts_at moment bs up = IsPartitionedBy-ltb (λ b. b.interval.start) bs moment (starts_rise bs up)
 
 module _ (test : Booking → Bool) where
-  -- what passes in front is left out
-  all_behind : (bs : List Booking) (i : ℕ) → ((j : ℕ) (d : Booking) → j < i → j < length bs → test (get_or bs j d) ≡ true) → list_all test (drop i bs) ≡ list_all test bs
-  all_behind [] zero passes = refl
-  all_behind [] (suc i) passes = refl
-  all_behind (b ∷ bs) zero passes = refl
-  all_behind (b ∷ bs) (suc i) passes = rw (passes 0 b (omega arith) (omega arith)) (all_behind bs i (λ j d low within. passes (suc j) d (omega arith) (omega arith)))
+  -- what fails in front is left out
+  all_behind : (bs : List Booking) (i : ℕ) → ((j : ℕ) (d : Booking) → j < i → j < length bs → test (get_or bs j d) ≡ false) → how_many test (drop i bs) ≡ how_many test bs
+  all_behind [] zero fails = refl
+  all_behind [] (suc i) fails = refl
+  all_behind (b ∷ bs) zero fails = refl
+  all_behind (b ∷ bs) (suc i) fails =
+      let here : how_many test bs ≡ how_many test (b ∷ bs) = rw (fails 0 b (omega arith) (omega arith)) (omega arith) in
+      all_behind bs i (λ j d low within. fails (suc j) d (omega arith) (omega arith)) ∙ here
 
-  -- what passes at the end is left out
-  all_before : (bs : List Booking) (i : ℕ) → ((j : ℕ) (d : Booking) → i ≤ j → j < length bs → test (get_or bs j d) ≡ true) → list_all test (take i bs) ≡ list_all test bs
-  all_before [] zero passes = refl
-  all_before [] (suc i) passes = refl
-  all_before (b ∷ bs) zero passes = rw (passes 0 b (omega arith) (omega arith)) (all_before bs zero (λ j d low within. passes (suc j) d (omega arith) (omega arith)))
-  all_before (b ∷ bs) (suc i) passes = ap (λ x. test b && x) (all_before bs i (λ j d low within. passes (suc j) d (omega arith) (omega arith)))
+  -- what fails at the end is left out
+  all_before : (bs : List Booking) (i : ℕ) → ((j : ℕ) (d : Booking) → i ≤ j → j < length bs → test (get_or bs j d) ≡ false) → how_many test (take i bs) ≡ how_many test bs
+  all_before [] zero fails = refl
+  all_before [] (suc i) fails = refl
+  all_before (b ∷ bs) zero fails =
+      let here : how_many test bs ≡ how_many test (b ∷ bs) = rw (fails 0 b (omega arith) (omega arith)) (omega arith) in
+      all_before bs zero (λ j d low within. fails (suc j) d (omega arith) (omega arith)) ∙ here
+  all_before (b ∷ bs) (suc i) fails = ap (λ n. (cond (test b) 1 0) + n) (all_before bs i (λ j d low within. fails (suc j) d (omega arith) (omega arith)))
 
-module _ (bs : List Booking) (from : ℕ) (until : Option ℕ) (first last : ℕ) (test : Booking → Bool) (outside : PassesOthers bs (starts_between from until) test) where
-  pub between_all : IsPartitionPoint (λ b. ltb b.interval.start from ≡ true) (λ b. ltb b.interval.start from ≡ false) bs first → AllWithin (λ b. starts_by until b.interval.start ≡ false) bs last (length bs) → list_all test (take (max last first - first) (drop first bs)) ≡ list_all test bs
+module _ (bs : List Booking) (from : ℕ) (until : Option ℕ) (first last : ℕ) (test : Booking → Bool) (outside : FailsOthers bs (starts_between from until) test) where
+  pub between_all : IsPartitionPoint (λ b. ltb b.interval.start from ≡ true) (λ b. ltb b.interval.start from ≡ false) bs first → AllWithin (λ b. starts_by until b.interval.start ≡ false) bs last (length bs) → how_many test (take (max last first - first) (drop first bs)) ≡ how_many test bs
   between_all low high =
-      let early : (j : ℕ) (d : Booking) → j < first → j < length bs → test (get_or bs j d) ≡ true = λ j d lt within.
+      let early : (j : ℕ) (d : Booking) → j < first → j < length bs → test (get_or bs j d) ≡ false = λ j d lt within.
       let is : ltb (get_or bs j d).interval.start from ≡ true = low.0 j d (omega arith) lt in
       outside j d within (rw is refl) in
-      let late : (j : ℕ) (d : Booking) → max last first - first ≤ j → j < length (drop first bs) → test (get_or (drop first bs) j d) ≡ true = λ j d le within.
+      let late : (j : ℕ) (d : Booking) → max last first - first ≤ j → j < length (drop first bs) → test (get_or (drop first bs) j d) ≡ false = λ j d le within.
       let inside : first + j < length bs = omega (arith, length-drop first bs) in
       let starts : starts_by until (get_or bs (first + j) d).interval.start ≡ false = high (first + j) d (omega arith) inside in
       let over : starts_between from until (get_or bs (first + j) d) ≡ false = rw starts (and_false (not (ltb (get_or bs (first + j) d).interval.start from))) in
@@ -156,9 +160,14 @@ short_at longest (b ∷ bs) all zero d within = all.0
 short_at longest (b ∷ bs) all (suc i) d within = short_at longest bs all.1 i d (omega arith)
 
 -- what starts so early is over
-early_over : (longest from : ℕ) (b : Booking) (by : Bool) → b.interval.end ≤ b.interval.start + longest → (not (ltb b.interval.start (from - longest)) && by) ≡ false → (ltb from b.interval.end && by) ≡ false
-early_over longest from b true short outside = grind (arith, nat_tests)
-early_over longest from b false short outside = and_false (ltb from b.interval.end)
+early_over : (longest earliest from : ℕ) (b : Booking) (by : Bool) → b.interval.end ≤ b.interval.start + longest → reaches earliest from b ≡ true → (not (ltb b.interval.start (max (from - longest) earliest)) && by) ≡ false → (ltb from b.interval.end && by) ≡ false
+early_over longest earliest from b true short reach outside = grind (arith, nat_tests)
+early_over longest earliest from b false short reach outside = and_false (ltb from b.interval.end)
 
-pub others_pass : (bs : List Booking) (longest from : ℕ) (until : Option ℕ) (test : Booking → Bool) → IsLane bs longest → PassesOutside (spans from until) test → PassesOthers bs (starts_between (from - longest) until) test
-others_pass bs longest from until test lane outside = λ i d within over. outside (get_or bs i d) (early_over longest from (get_or bs i d) (starts_by until (get_or bs i d).interval.start) (short_at longest bs lane.short i d within) over)
+reach_at : (earliest from : ℕ) (bs : List Booking) → list_all (reaches earliest from) bs ≡ true → (i : ℕ) (d : Booking) → i < length bs → reaches earliest from (get_or bs i d) ≡ true
+reach_at earliest from [] all i d within = absurd (omega arith)
+reach_at earliest from (b ∷ bs) all zero d within = (both_true (reaches earliest from b) (list_all (reaches earliest from) bs) all).0
+reach_at earliest from (b ∷ bs) all (suc i) d within = reach_at earliest from bs (both_true (reaches earliest from b) (list_all (reaches earliest from) bs) all).1 i d (omega arith)
+
+pub others_pass : (bs : List Booking) (longest earliest from : ℕ) (until : Option ℕ) (test : Booking → Bool) → IsLane bs longest → list_all (reaches earliest from) bs ≡ true → FailsOutside (spans from until) test → FailsOthers bs (starts_between (max (from - longest) earliest) until) test
+others_pass bs longest earliest from until test lane reach outside = λ i d within over. outside (get_or bs i d) (early_over longest earliest from (get_or bs i d) (starts_by until (get_or bs i d).interval.start) (short_at longest bs lane.short i d within) (reach_at earliest from bs reach i d within) over)

@@ -102,7 +102,7 @@ below_far a b c first second = rw (key_cmp_total.trans a b c (is_less a b first)
 pub below_itself : (a : RunKey) → below a a ≡ false
 below_itself a = rw (key_cmp_same a) refl
 
-neither_below : (j k : RunKey) → below j k ≡ false → below k j ≡ false → j ≡ k
+pub neither_below : (j k : RunKey) → below j k ≡ false → below k j ≡ false → j ≡ k
 neither_below j k first second =
     let cases = elim (key_cmp j k) as (λ c. key_cmp j k ≡ c → is_lt c ≡ false → is_lt (ordering_reverse c) ≡ false → j ≡ k) [
       | Less ↦ λ is a b. cc

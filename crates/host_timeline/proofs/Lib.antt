@@ -1,13 +1,17 @@
 mod BesideLemmas
+mod BusyLemmas
 mod CountLemmas
 pub mod Free
 mod GatherLemmas
 mod HoldLemmas
 mod IndexedLemmas
+mod KeysLemmas
 mod LaneLemmas
 pub mod Least
 mod NearLemmas
 mod Place
+pub mod PutLemmas
+mod RangeLemmas
 mod SweepLemmas
 mod Tests
 mod WalkLemmas

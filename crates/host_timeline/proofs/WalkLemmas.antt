@@ -1,6 +1,7 @@
 -- A walk over the bookings in conflict with a run, from key to key, and what is left where they go.
 use Rattle.std.proofs.Common.{◌≡◌, ◌∙◌, ◌<◌, ◌≤◌, List, [], ◌∷◌, length, Bool, true, false, cond, not, ◌&&◌, ◌||◌, Option, Some, None, refl, sym, ap, subst, arith}
 use Rattle.std.specs.List.{filter, list_all, AllByRecursion}
+use Rattle.std.specs.Option.{IfNone}
 use Rattle.std.specs.Ordering.{is_eq, ordering_reverse}
 use Rattle.std.specs.declared.cmp.Ordering.TheVariants.{Less, Equal, Greater}
 use Rattle.ps_time.specs.Key.{key_cmp}
@@ -10,6 +11,7 @@ use Rattle.ps_time.specs.declared.key.RunKey.{RunKey}
 use Rattle.ps_time.proofs.KeyLemmas.{key_cmp_same, key_cmp_total, same_key}
 use Rattle.host_timeline.specs.declared.booking.Booking.{Booking}
 use Rattle.host_timeline.specs.Booking.{conflicting, conflicting_after, conflicts_with, is_after, key_and, keys_of, least_key, without_conflicts}
+use Rattle.host_timeline.specs.Lane.{Decide}
 use Rattle.host_timeline.specs.Timeline.{find_booking, without_booking, IsAscendingBookings}
 use Rattle.host_timeline.proofs.HoldLemmas.{IsOnly}
 use Rattle.host_timeline.proofs.Least.{all_implies, below_far, least_of, least_passing, least_says, not_this, Says}
@@ -146,6 +148,23 @@ module _ (class : Class) (s : Span) where
         | false ↦ λ e. ap (λ l. b ∷ l) (all_stay bs e)
       ] in
       cases none
+
+all_apart : (class : Class) (s : Span) (bs : List Booking) → list_all (λ b. not (conflicts_with class s b)) bs ≡ true → conflicting class s bs ≡ []
+all_apart class s [] all = refl
+all_apart class s (b ∷ bs) all =
+    let parts = both_true (not (conflicts_with class s b)) (list_all (λ b. not (conflicts_with class s b)) bs) all in
+    let cases = elim (conflicts_with class s b) as (λ x. not x ≡ true → cond x (b ∷ conflicting class s bs) (conflicting class s bs) ≡ []) [
+      | true ↦ λ e. cc
+      | false ↦ λ e. all_apart class s bs parts.1
+    ] in
+    cases parts.0
+
+-- where neither list has one in conflict, the bookings have none
+pub none_in_conflict : (class : Class) (s : Span) (bs xs ys : List Booking) (r : Option RunKey) → Decide class s.start (Some s.end) bs xs ys → list_all (λ b. not (conflicts_with class s b)) xs ≡ true → IfNone r (list_all (λ b. not (conflicts_with class s b)) ys ≡ true) → IfNone r (conflicting class s bs ≡ [])
+none_in_conflict class s bs xs ys (Some k) decide one other = tt
+none_in_conflict class s bs xs ys None decide one other =
+    let all : (list_all (λ b. not (conflicts_with class s b)) xs && list_all (λ b. not (conflicts_with class s b)) ys) ≡ true = rw (one, other) refl in
+    all_apart class s bs (sym (decide (λ b. not (conflicts_with class s b)) (λ b off. let no : conflicts_with class s b ≡ false = off in rw no refl)) ∙ all)
 
 filter_short : (p : Booking → Bool) (bs : List Booking) → length (filter p bs) ≤ length bs
 filter_short p [] = omega arith

@@ -1,6 +1,6 @@
 -- When bookings conflict with a run, and which of them it may preempt.
-use Rattle.std.specs.Prelude.{ℕ, ℤ, Bool, true, not, ◌&&◌, ◌-◌, nat_lt, List, [], ◌∷◌, Option, Some, None, map, filter, if◌then◌else◌}
-use Rattle.std.specs.Ordering.{is_lt, int_cmp}
+use Rattle.std.specs.Prelude.{ℕ, ℤ, Bool, true, not, ◌&&◌, ◌||◌, ◌-◌, nat_lt, List, [], ◌∷◌, Option, Some, None, map, filter, if◌then◌else◌}
+use Rattle.std.specs.Ordering.{is_eq, is_lt, int_cmp}
 use Rattle.ps_time.specs.declared.class.Class.{Class}
 use Rattle.ps_time.specs.declared.key.RunKey.{RunKey}
 use Rattle.ps_time.specs.Class.{clash}
@@ -59,6 +59,10 @@ is_after (Some low) k = is_lt (key_cmp low k)
 -- the bookings in conflict with the run whose keys are above another
 abbrev pub conflicting_after : Class → Span → Option RunKey → List Booking → List Booking
 conflicting_after class interval after bookings = filter (λ b. is_after after b.key && conflicts_with class interval b) bookings
+
+-- the booking is in no conflict with the run, or has another key
+abbrev pub is_other : Class → Span → RunKey → Booking → Bool
+is_other class interval key b = not (conflicts_with class interval b) || not (is_eq (key_cmp b.key key))
 
 -- a key and those after it, if there is one
 abbrev pub key_and : Option RunKey → (RunKey → List RunKey) → List RunKey

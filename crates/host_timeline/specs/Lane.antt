@@ -1,7 +1,7 @@
 -- The bookings of one class, ascending by start, and those of all classes.
 use Rattle.std.specs.List.{AllByRecursion, list_all}
 use Rattle.std.specs.Ordering.{nat_cmp, on, then_cmp}
-use Rattle.std.specs.Prelude.{◌≡◌, ◌+◌, ◌<◌, ◌≤◌, ◌&&◌, ℕ, Bool, true, false, List, [], ◌∷◌, Option, None, Some, if◌then◌else◌, length, nat_lt, not, slice_index_or}
+use Rattle.std.specs.Prelude.{◌≡◌, ◌+◌, ◌<◌, ◌≤◌, ◌&&◌, ◌||◌, ℕ, Bool, true, false, List, [], ◌∷◌, Option, None, Some, if◌then◌else◌, length, nat_le, nat_lt, not, slice_index_or}
 use Rattle.std.specs.List.Sorted.{IsPartitionPoint}
 use Rattle.std.specs.declared.cmp.Ordering.{Ordering}
 use Rattle.std.specs.declared.cmp.Ordering.TheVariants.{Less, Equal, Greater}
@@ -75,6 +75,10 @@ starts_by (Some until) start = nat_lt start until
 abbrev pub spans : ℕ → Option ℕ → Booking → Bool
 spans from until b = nat_lt from b.interval.end && starts_by until b.interval.start
 
+-- it starts no earlier than one moment, or ends by another
+abbrev pub reaches : ℕ → ℕ → Booking → Bool
+reaches earliest from b = not (nat_lt from b.interval.end) || nat_le earliest b.interval.start
+
 -- it starts from one moment on, before an end
 abbrev pub starts_between : ℕ → Option ℕ → Booking → Bool
 starts_between from until b = not (nat_lt b.interval.start from) && starts_by until b.interval.start
@@ -83,9 +87,13 @@ starts_between from until b = not (nat_lt b.interval.start from) && starts_by un
 abbrev pub PassesOutside : (Booking → Bool) → (Booking → Bool) → Type 0
 PassesOutside inside test = (b : Booking) → inside b ≡ false → test b ≡ true
 
--- a test that lets all of the bookings through that lie outside
-abbrev pub PassesOthers : List Booking → (Booking → Bool) → (Booking → Bool) → Type 0
-PassesOthers bookings inside test = (i : ℕ) (d : Booking) → i < length bookings → inside (slice_index_or bookings i d) ≡ false → test (slice_index_or bookings i d) ≡ true
+-- a test that lets none through that lies outside
+abbrev pub FailsOutside : (Booking → Bool) → (Booking → Bool) → Type 0
+FailsOutside inside test = (b : Booking) → inside b ≡ false → test b ≡ false
+
+-- a test that lets none of the bookings through that lie outside
+abbrev pub FailsOthers : List Booking → (Booking → Bool) → (Booking → Bool) → Type 0
+FailsOthers bookings inside test = (i : ℕ) (d : Booking) → i < length bookings → inside (slice_index_or bookings i d) ≡ false → test (slice_index_or bookings i d) ≡ false
 
 -- ---- all classes
 -- the bookings of each class
@@ -126,6 +134,10 @@ pub record IsEdited (edit : List Booking → List Booking) (class : Class) (old 
   pub list : (c : Class) → (lane_of c new).list ≡ (if same_class c class then edit (lane_of c old).list else (lane_of c old).list)
   pub places : (c : Class) → places_of (lane_of c new) ≡ places_of (lane_of c old)
 
+-- those whose class conflicts start no earlier than one moment, or end by another
+abbrev pub Reach : Class → ℕ → ℕ → Lanes → Type 0
+Reach class earliest from lanes = (k : Class) → conflicting_classes class k ≡ true → list_all (reaches earliest from) (lane_of k lanes).list ≡ true
+
 -- some second from one moment on, before an end, lies in the booking, and its class conflicts
 abbrev pub is_beside : Class → ℕ → Option ℕ → Booking → Bool
 is_beside class from until b = conflicting_classes class b.class && spans from until b
@@ -133,3 +145,7 @@ is_beside class from until b = conflicting_classes class b.class && spans from u
 -- two lists decide each test that lets all through that isn't beside
 abbrev pub Decide : Class → ℕ → Option ℕ → List Booking → List Booking → List Booking → Type 0
 Decide class from until bookings some others = (test : Booking → Bool) → PassesOutside (is_beside class from until) test → (list_all test some && list_all test others) ≡ list_all test bookings
+
+-- as many of two lists pass each test that lets none through that isn't beside
+abbrev pub Have : Class → ℕ → Option ℕ → List Booking → List Booking → List Booking → Type 0
+Have class from until bookings some others = (test : Booking → Bool) → FailsOutside (is_beside class from until) test → how_many test some + how_many test others ≡ how_many test bookings

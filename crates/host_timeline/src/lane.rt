@@ -3,7 +3,7 @@ ghost use Rattle.std.specs.Prelude.{◌≡◌, ◌+◌, ◌<◌, ◌≤◌, [], 
 ghost use Rattle.std.specs.List.Sorted.{IsPartitionPoint};
 ghost use Rattle.std.specs.List.{list_all, AllWithin};
 ghost use Rattle.host_timeline.specs.declared.booking.Booking.{Booking as SeenBooking};
-ghost use Rattle.host_timeline.specs.Lane.{find_place, place_cmp, place_of, places_of, spans, starts_between, starts_by, with_place, without_place, with_started_place, IsAscendingPlaces, IsFoundAt, IsLane, IsOpenAt, PassesOthers, PassesOutside};
+ghost use Rattle.host_timeline.specs.Lane.{find_place, how_many, place_cmp, place_of, places_of, reaches, spans, starts_between, starts_by, with_place, without_place, with_started_place, IsAscendingPlaces, IsFoundAt, IsLane, IsOpenAt, FailsOthers, FailsOutside};
 
 use crate::booking::Booking;
 use ps_time::key::RunKey;
@@ -128,12 +128,13 @@ impl Lane {
     }
 
     /// Some of the bookings in a row: all that have a second from `from` on, before `until`, if there is such an end. None
-    /// of them starts from `until` on, or so long before `from` that even the longest would have ended.
-    pub(crate) fn near(&self, from: Moment, until: Option<Moment>) -> &[Booking]
-        ensures { (test : SeenBooking → Bool) → PassesOutside (spans from until) test → list_all test result.now ≡ list_all test self.now.list }
+    /// of them starts from `until` on, or so long before `from` that even the longest would have ended, or before `earliest`.
+    pub(crate) fn near(&self, earliest: Moment, from: Moment, until: Option<Moment>) -> &[Booking]
+        requires { list_all (reaches earliest from) self.now.list ≡ true }
+        ensures { (test : SeenBooking → Bool) → FailsOutside (spans from until) test → how_many test result.now ≡ how_many test self.now.list }
     {
-        let earliest = from.saturating_sub(self.longest);
-        between(self.bookings.as_slice(), earliest, until)
+        let first = from.saturating_sub(self.longest).max(earliest);
+        between(self.bookings.as_slice(), first, until)
     }
 
     /// None of them.
@@ -156,7 +157,7 @@ impl Lane {
 // Those that start from one moment on, before an end.
 fn between(bookings: &[Booking], from: Moment, until: Option<Moment>) -> &[Booking]
     requires { IsAscendingPlaces bookings.now }
-    ensures { (test : SeenBooking → Bool) → PassesOthers bookings.now (starts_between from until) test → list_all test result.now ≡ list_all test bookings.now }
+    ensures { (test : SeenBooking → Bool) → FailsOthers bookings.now (starts_between from until) test → how_many test result.now ≡ how_many test bookings.now }
 {
     let first = starts_before(bookings, from);
     let end = start_by(bookings, until).max(first);

@@ -2,7 +2,7 @@
 ghost use Rattle.std.specs.Prelude.{◌≡◌, ◌<◌, ◌≤◌, [], List, None, OnOk};
 ghost use Rattle.ps_time.specs.declared.class.Class.{Class as SeenClass};
 ghost use Rattle.host_timeline.specs.declared.booking.Booking.{Booking as SeenBooking};
-ghost use Rattle.host_timeline.specs.Lane.{find_place, lane_of, place_of, places_of, with_place, without_place, with_started_place, Decide, HavePlaces, HoldLanes, IsAscendingPlaces, IsEdited};
+ghost use Rattle.host_timeline.specs.Lane.{find_place, lane_of, place_of, places_of, with_place, without_place, with_started_place, Decide, Have, HavePlaces, HoldLanes, IsAscendingPlaces, IsEdited, Reach};
 
 use crate::booking::Booking;
 use crate::lane::{Lane, place_of};
@@ -107,21 +107,28 @@ impl Lanes {
     }
 
     /// The exclusive and the normal bookings that a run of the class has to look at: all that conflict with it from one
-    /// moment on, before an end, and few besides. For a class that conflicts with none there are none.
+    /// moment on, before an end, and few besides, none before the earliest. For a class that conflicts with none there are
+    /// none.
     pub(crate) fn beside(
         &self,
         class: Class,
+        earliest: Moment,
         from: Moment,
         until: Option<Moment>,
     ) -> (&[Booking], &[Booking])
-        ensures { (bookings : List SeenBooking) → HoldLanes bookings self.now → Decide class from until bookings result.0.now result.1.now }
+        requires { Reach class earliest from self.now }
+        ensures have { (bookings : List SeenBooking) → HoldLanes bookings self.now → Have class from until bookings result.0.now result.1.now }
+        ensures decide { (bookings : List SeenBooking) → HoldLanes bookings self.now → Decide class from until bookings result.0.now result.1.now }
     {
         match class {
             Class::Exclusive => (
-                self.exclusive.near(from, until),
-                self.normal.near(from, until),
+                self.exclusive.near(earliest, from, until),
+                self.normal.near(earliest, from, until),
             ),
-            Class::Normal => (self.exclusive.near(from, until), self.normal.nothing()),
+            Class::Normal => (
+                self.exclusive.near(earliest, from, until),
+                self.normal.nothing(),
+            ),
             _ => (self.exclusive.nothing(), self.normal.nothing()),
         }
     }

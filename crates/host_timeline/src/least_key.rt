@@ -1,11 +1,13 @@
-//! The least key among bookings that pass a test.
-ghost use Rattle.std.specs.Prelude.{◌≡◌, ◌&&◌, Some, None, if◌then◌else◌};
-ghost use Rattle.host_timeline.specs.Booking.{conflicting_after, conflicts_with, firm, is_after, keys_of, least_key, lesser, lesser_of};
+//! The keys of bookings that pass a test: the least, the first, and all.
+ghost use Rattle.std.specs.Prelude.{◌≡◌, ◌&&◌, ◌++◌, OnOk, Some, None, IfNone, IfSome, false, not, true, if◌then◌else◌};
+ghost use Rattle.std.specs.List.{list_all};
+ghost use Rattle.host_timeline.specs.Booking.{conflicting, conflicting_after, conflicts_with, firm, is_after, is_other, keys_of, least_key, lesser, lesser_of};
 
 use crate::booking::Booking;
 use ps_time::class::Class;
 use ps_time::interval::Interval;
 use ps_time::key::RunKey;
+use ps_time::memory::Memory;
 use ps_time::moment::Moment;
 
 /// The least key of those that stand in the way of a run.
@@ -41,6 +43,40 @@ pub(crate) fn least_conflict(
         least = lesser_of(least, key_if(later, booking.key));
     }
     least
+}
+
+/// The key of the first of those that conflict with a run.
+pub(crate) fn first_conflict(
+    bookings: &[Booking],
+    class: Class,
+    interval: &Interval,
+) -> Option<RunKey>
+    ensures there { IfSome result (λ key. list_all (is_other class interval.now key) bookings.now ≡ false) }
+    ensures none { IfNone result (list_all (λ b. not (conflicts_with class interval.now b)) bookings.now ≡ true) }
+{
+    for booking in bookings {
+        if booking.conflicts_with(class, interval) {
+            return Some(booking.key);
+        }
+    }
+    None
+}
+
+/// Adds the keys of those that conflict with a run.
+pub(crate) fn add_conflicts(
+    keys: &mut Vec<RunKey>,
+    bookings: &[Booking],
+    class: Class,
+    interval: &Interval,
+) -> Result<(), Memory>
+    ensures { OnOk result (keys.new.items ≡ keys.old.items ++ keys_of (conflicting class interval.now bookings.now)) }
+{
+    for booking in bookings {
+        if booking.conflicts_with(class, interval) {
+            keys.push(booking.key)?;
+        }
+    }
+    Ok(())
 }
 
 fn conflicts_after(

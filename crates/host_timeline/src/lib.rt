@@ -2,8 +2,10 @@
 #![tactic(auto)]
 
 pub mod booking;
+mod busy;
 pub mod free_starts;
 pub mod lane;
 mod lanes;
 mod least_key;
+mod ranges;
 pub mod timeline;

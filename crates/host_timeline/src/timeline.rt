@@ -1,21 +1,23 @@
 //! The timeline: the bookings of a host, ascending by key, with reserved places.
-ghost use Rattle.std.specs.Prelude.{◌≡◌, ◌+◌, ◌<◌, ◌≤◌, ◌&&◌, [], Bool, None, Some, IfOk, IfErr, OnOk, is_some, if◌then◌else◌};
+ghost use Rattle.std.specs.Prelude.{◌≡◌, ◌+◌, ◌<◌, ◌≤◌, ◌&&◌, [], ℕ, Bool, false, None, Some, IfOk, IfErr, IfNone, IfSome, OnOk, is_some, if◌then◌else◌};
 ghost use Rattle.std.specs.List.{list_all};
 ghost use Rattle.std.specs.Option.{is_none};
 ghost use Rattle.ps_time.specs.Key.{key_cmp};
 ghost use Rattle.ps_time.specs.Span.{Span};
 ghost use Rattle.ps_time.specs.declared.class.Class.{Class};
 ghost use Rattle.ps_time.specs.Sorted.{IsAscending};
-ghost use Rattle.host_timeline.specs.Booking.{conflicting, conflicting_after, can_preempt, firm, key_and, keys_of, least_key, without_conflicts};
+ghost use Rattle.host_timeline.specs.Booking.{conflicting, conflicting_after, can_preempt, firm, is_other, key_and, keys_of, least_key, without_conflicts};
+ghost use Rattle.host_timeline.specs.Busy.{covers, is_busy, IsApart};
 ghost use Rattle.host_timeline.specs.Free.{free_tiers};
 ghost use Rattle.host_timeline.specs.Timeline.{find_booking, with_booking, without_booking, with_started, IsAscendingBookings, IsConflictFree, IsInOrder, IsPlaceOf, IsGapFor};
-ghost use Rattle.host_timeline.specs.Lane.{how_many, same_class, Decide, IsAscendingPlaces};
+ghost use Rattle.host_timeline.specs.Lane.{how_many, same_class, Decide, Have, IsAscendingPlaces};
 ghost use Rattle.host_timeline.specs.declared.booking.Booking.{Booking as SeenBooking};
 
 use crate::booking::Booking;
+use crate::busy::Busy;
 use crate::free_starts::{keep_firm, near_bookings, reach, windows_beside};
 use crate::lanes::Lanes;
-use crate::least_key::{least_conflict, least_firm, lesser_of};
+use crate::least_key::{add_conflicts, first_conflict, least_conflict, least_firm, lesser_of};
 use ps_time::class::Class;
 use ps_time::interval::{Interval, Window};
 use ps_time::items::Items;
@@ -32,6 +34,8 @@ pub struct Timeline {
     bookings: Vec<Booking>,
     // the same bookings, by class and start
     lanes: Lanes,
+    // what they take, by class
+    busy: Busy,
     // how many are reserved in each vector, taken or not
     places: usize,
 }
@@ -45,7 +49,7 @@ impl Model for Timeline {
 
     ghost view = { λ t. record { list = t.bookings.items; room = t.places - vec_len t.bookings } };
 
-    ghost invariant = { λ t. IsIndexed t.bookings.items (vec_capacity t.bookings) t.places t.lanes };
+    ghost invariant = { λ t. IsIndexed t.bookings.items (vec_capacity t.bookings) t.places t.lanes t.busy };
 }
 
 impl Timeline {
@@ -55,6 +59,7 @@ impl Timeline {
         Timeline {
             bookings: Vec::new(alloc),
             lanes: Lanes::new(alloc),
+            busy: Busy::new(alloc),
             places: 0,
         }
     }
@@ -68,6 +73,7 @@ impl Timeline {
         self.bookings.reserve(count)?;
         let places = self.places.max(self.bookings.len() + count);
         self.lanes.reserve(places)?;
+        self.busy.reserve(places)?;
         self.places = places;
         Ok(())
     }
@@ -87,6 +93,15 @@ impl Timeline {
         ensures ascending { IsAscendingPlaces result.now }
     {
         self.lanes.of(class)
+    }
+
+    /// The seconds that bookings take which conflict with a run of the class, as maximal intervals, ascending.
+    pub fn busy(&self, class: Class) -> &[Interval]
+        ensures same { (second : ℕ) → covers result.now second ≡ is_busy class self.now.list second }
+        ensures apart { IsApart result.now }
+    {
+        let _ = &self.bookings;
+        self.busy.of(class)
     }
 
     /// The least key among the conflicts with a run that it may not preempt at the moment.
@@ -117,12 +132,12 @@ impl Timeline {
         ensures keys { IfOk result (λ keys. keys ≡ keys_of (conflicting class interval.now self.now.list)) }
         ensures ascending { IfOk result (λ keys. IsAscending key_cmp (λ k. k) keys) }
     {
+        let _ = &self.bookings;
+        let (exclusive, normal) = self.beside(class, interval.start, Some(interval.end));
         let mut keys = Vec::new(alloc);
-        let mut after = None;
-        while let Some(key) = self.later_conflict(class, interval, after) {
-            keys.push(key)?;
-            after = Some(key);
-        }
+        add_conflicts(&mut keys, exclusive, class, interval)?;
+        add_conflicts(&mut keys, normal, class, interval)?;
+        keys.sort()?;
         Ok(Items::from_vec(keys))
     }
 
@@ -189,6 +204,7 @@ impl Timeline {
             Ok(_) => unreachable!(),
             Err(at) => {
                 self.lanes.insert(booking);
+                self.busy.cover(booking);
                 self.bookings.insert(at, *booking).unwrap()
             }
         }
@@ -204,6 +220,7 @@ impl Timeline {
             Ok(at) => {
                 let booking = self.bookings.remove(at);
                 self.lanes.remove(&booking);
+                self.busy.uncover(&booking, &self.lanes);
                 true
             }
             Err(_) => false,
@@ -215,7 +232,7 @@ impl Timeline {
         ensures list { self.new.list ≡ without_conflicts class interval.now self.old.list }
         ensures room { self.old.room ≤ self.new.room }
     {
-        while let Some(key) = self.later_conflict(class, interval, None) {
+        while let Some(key) = self.some_conflict(class, interval) {
             self.release(key);
         }
     }
@@ -235,25 +252,28 @@ impl Timeline {
         }
     }
 
-    // `next_conflict`, with the order of the bookings.
-    fn later_conflict(
-        &self,
-        class: Class,
-        interval: &Interval,
-        after: Option<RunKey>,
-    ) -> Option<RunKey>
-        ensures least { result ≡ least_key (keys_of (conflicting_after class interval.now after self.now.list)) }
+    // The key of some booking in conflict with a run, with the order of the bookings.
+    fn some_conflict(&self, class: Class, interval: &Interval) -> Option<RunKey>
+        ensures there { IfSome result (λ key. list_all (is_other class interval.now key) self.now.list ≡ false) }
+        ensures none { IfNone result (conflicting class interval.now self.now.list ≡ []) }
         ensures ordered { IsAscendingBookings self.now.list }
     {
         let _ = &self.bookings;
-        self.next_conflict(class, interval, after)
+        let (exclusive, normal) = self.beside(class, interval.start, Some(interval.end));
+        match first_conflict(exclusive, class, interval) {
+            Some(key) => Some(key),
+            None => first_conflict(normal, class, interval),
+        }
     }
 
     // The exclusive and the normal bookings that a run of the class has to look at.
     fn beside(&self, class: Class, from: Moment, until: Option<Moment>) -> (&[Booking], &[Booking])
-        ensures { Decide class from until self.now.list result.0.now result.1.now }
+        ensures have { Have class from until self.now.list result.0.now result.1.now }
+        ensures decide { Decide class from until self.now.list result.0.now result.1.now }
     {
-        self.lanes.beside(class, from, until)
+        let _ = &self.bookings;
+        let earliest = self.busy.reach_back(class, from);
+        self.lanes.beside(class, earliest, from, until)
     }
 
     // Where the key is, or where it would go.

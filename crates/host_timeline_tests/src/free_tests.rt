@@ -1,4 +1,6 @@
 //! Free starts: a case by hand, and made timelines against a plain program that tries each start.
+ghost use Rattle.std.specs.Prelude.{◌<◌};
+
 use host_timeline::booking::{Booking, firm_from};
 use host_timeline::timeline::Timeline;
 use ps_time::class::Class::{self, Background, BackgroundMulti, Exclusive, Normal};
@@ -240,5 +242,76 @@ fn the_conflicts_are_walked_in_order(rt: HostRuntime) -> Result<(), Fail> {
         after = next;
     }
     assert_eq!(rt; timeline.next_conflict(Exclusive, &whole, after), None);
+    Ok(())
+}
+
+/// The number of a booking, its class, its start and its end.
+type Line = (u32, Class, u64, u64);
+
+static APART: [Line; 3] = [
+    (1, Exclusive, 100, 150),
+    (2, Exclusive, 150, 200),
+    (3, Normal, 300, 310),
+];
+
+static OVERLAPPING: [Line; 2] = [(2, Normal, 100, 200), (3, Normal, 120, 130)];
+
+fn booked(alloc: Global, lines: &[Line]) -> Result<Timeline, Memory> {
+    let mut timeline = Timeline::new(alloc);
+    for (number, class, start, end) in lines {
+        if start < end {
+            put(&mut timeline, plain_booking(*number, *class, *start, *end))?;
+        }
+    }
+    Ok(timeline)
+}
+
+fn plain_booking(number: u32, class: Class, start: u64, end: u64) -> Booking
+    requires { start < end }
+{
+    Booking {
+        key: key(number),
+        class,
+        interval: Interval { start, end },
+        priority: 0,
+        firm_from: firm_from(start, false),
+    }
+}
+
+fn has_ranges(ranges: &[Interval], wanted: &[(u64, u64)]) -> bool {
+    ranges.len() == wanted.len()
+        && ranges.iter().zip(wanted.iter()).all(|(range, (start, end))| range.start == *start
+            && range.end == *end)
+}
+
+static TWO_RANGES: [(u64, u64); 2] = [(100, 200), (300, 310)];
+
+static ONE_RANGE: [(u64, u64); 1] = [(100, 200)];
+
+static FIRST_HALF: [(u64, u64); 1] = [(100, 150)];
+
+static INNER: [(u64, u64); 1] = [(120, 130)];
+
+// Whether these ranges are busy for the class, once a booking is released.
+fn is_left(
+    alloc: Global,
+    lines: &[Line],
+    released: u32,
+    class: Class,
+    ranges: &[(u64, u64)],
+) -> Result<bool, Memory> {
+    let mut timeline = booked(alloc, lines)?;
+    timeline.release(key(released));
+    Ok(has_ranges(timeline.busy(class), ranges))
+}
+
+#[test]
+fn what_is_taken_is_lent_as_ranges(rt: HostRuntime) -> Result<(), Fail> {
+    let alloc = rt.alloc();
+    assert!(rt; is_left(alloc, &APART, 9, Exclusive, &TWO_RANGES)?);
+    assert!(rt; is_left(alloc, &APART, 9, Normal, &ONE_RANGE)?);
+    assert!(rt; is_left(alloc, &APART, 9, Background, &[])?);
+    assert!(rt; is_left(alloc, &APART, 2, Normal, &FIRST_HALF)?);
+    assert!(rt; is_left(alloc, &OVERLAPPING, 2, Exclusive, &INNER)?);
     Ok(())
 }

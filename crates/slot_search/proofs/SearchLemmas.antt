@@ -1,13 +1,15 @@
 -- A pass goes on to no start past the least common one, and stays where it is there.
 use Rattle.std.specs.Option.{option_and_then}
-use Rattle.std.proofs.Common.{leb, subst, ◌≡◌, ◌∙◌, ℕ, zero, suc, ◌+◌, ◌-◌, ◌<◌, ◌≤◌, List, [], ◌∷◌, Bool, true, false, cond, ◌&&◌, ◌||◌, Option, Some, None, inl, inr, refl, sym, ap, arith, max, min}
+use Rattle.std.proofs.Common.{leb, ltb, get_or, drop, take, length, subst, ◌≡◌, ◌∙◌, ℕ, zero, suc, ◌+◌, ◌-◌, ◌<◌, ◌≤◌, List, [], ◌∷◌, Bool, true, false, cond, ◌&&◌, ◌||◌, Option, Some, None, inl, inr, refl, sym, ap, arith, max, min}
 use Rattle.std.specs.List.{find, range_with_len}
+use Rattle.std.specs.List.Sorted.{IsPartitionPoint}
+use Rattle.std.proofs.lemmas.List.{drop_all, get_or-drop, length-drop}
 use Rattle.std.proofs.lemmas.Bool.{cases_lt}
 use Rattle.std.proofs.lemmas.Bool.Decides.{nat_tests}
 use Rattle.ps_time.specs.Span.{Range}
 use Rattle.ps_time.specs.Starts.{is_within, lies_in}
 use Rattle.ps_time.specs.declared.tiers.Tiers.{Tiers}
-use Rattle.slot_search.specs.Search.{windows_of, in_all, lesser, start_in, next_in, next_in_all}
+use Rattle.slot_search.specs.Search.{windows_of, in_all, lesser, start_in, next_in, next_in_all, AreInOrder, IsInOrder}
 
 -- the least start from this one on that passes; None where none passes
 abbrev pub IsNext : (ℕ → Bool) → ℕ → Option ℕ → Type 0
@@ -52,6 +54,70 @@ module _ (p q : ℕ → Bool) (from : ℕ) where
 pub next_is : (ws : List Range) (from : ℕ) → IsNext (lies_in ws) from (next_in ws from)
 next_is [] from = λ s le. refl
 next_is (w ∷ ws) from = either_next (is_within w) (lies_in ws) from (start_in w from) (next_in ws from) (window_next w from) (next_is ws from)
+
+-- ---- windows in order
+-- those that end before the moment are passed over
+next_behind : (ws : List Range) (from i : ℕ) → ((k : ℕ) (d : Range) → k < i → k < length ws → ltb (get_or ws k d).last from ≡ true) → next_in ws from ≡ next_in (drop i ws) from
+next_behind [] from zero over = refl
+next_behind [] from (suc i) over = refl
+next_behind (w ∷ ws) from zero over = refl
+next_behind (w ∷ ws) from (suc i) over =
+    let here : ltb w.last from ≡ true = over 0 w (omega arith) (omega arith) in
+    let no : leb (max w.first from) w.last ≡ false = grind (arith, nat_tests) in
+    rw no (next_behind ws from i (λ k d lt within. over (suc k) d (omega arith) (omega arith)))
+
+-- those that begin later have no lesser start
+least_after : (ws : List Range) (low from : ℕ) → ((k : ℕ) (d : Range) → k < length ws → low ≤ (get_or ws k d).first) → lesser (Some (max low from)) (next_in ws from) ≡ Some (max low from)
+least_after [] low from above = refl
+least_after (w ∷ ws) low from above =
+    let first = above 0 w (omega arith) in
+    let rest = least_after ws low from (λ k d within. above (suc k) d (omega arith)) in
+    let here : lesser (Some (max low from)) (start_in w from) ≡ Some (max low from) = elim (leb (max w.first from) w.last) as (λ b. lesser (Some (max low from)) (cond b (Some (max w.first from)) None) ≡ Some (max low from)) [
+      | true ↦ let is : min (max low from) (max w.first from) ≡ max low from = omega (arith, first) in ap Some is
+      | false ↦ refl
+    ] in
+    sym (lesser_assoc (Some (max low from)) (start_in w from) (next_in ws from)) ∙ ap (λ o. lesser o (next_in ws from)) here ∙ rest
+
+drop_one : (ws : List Range) (i : ℕ) (d : Range) → i < length ws → drop i ws ≡ get_or ws i d ∷ drop (suc i) ws
+drop_one [] i d within = absurd (omega arith)
+drop_one (w ∷ ws) zero d within = refl
+drop_one (w ∷ ws) (suc i) d within = drop_one ws i d (omega arith)
+
+module _ (ws : List Range) (from i : ℕ) (up : IsInOrder ws) (parted : IsPartitionPoint (λ w. ltb w.last from ≡ true) (λ w. ltb w.last from ≡ false) ws i) where
+  pub next_at : (d : Range) → i < length ws → (get_or ws i d).first ≤ (get_or ws i d).last → next_in ws from ≡ Some (max (get_or ws i d).first from)
+  next_at d within some =
+      let w = get_or ws i d in
+      let here : ltb w.last from ≡ false = parted.1 i d (omega arith) within in
+      let yes : leb (max w.first from) w.last ≡ true = grind (arith, nat_tests) in
+      let start : start_in w from ≡ Some (max w.first from) = rw yes refl in
+      next_behind ws from i (λ k e lt inside. parted.0 k e (omega arith) lt)
+      ∙ ap (λ l. next_in l from) (drop_one ws i d within)
+      ∙ ap (λ o. lesser o (next_in (drop (suc i) ws) from)) start
+      ∙ least_after (drop (suc i) ws) w.first from (λ k e inside.
+      let bound : suc i + k < length ws = omega (arith, inside, length-drop (suc i) ws) in
+      let at : get_or (drop (suc i) ws) k e ≡ get_or ws (suc i + k) e = get_or-drop (suc i) ws k e in
+      let same : get_or ws i d ≡ get_or ws i e = any_default ws i d e within in
+      let later : (get_or ws i e).first ≤ (get_or ws (suc i + k) e).first = up.firsts i (suc i + k) e (omega arith) bound in
+      rw (at, same) later) where
+        any_default : (ws : List Range) (i : ℕ) (d e : Range) → i < length ws → get_or ws i d ≡ get_or ws i e
+        any_default [] i d e within = absurd (omega arith)
+        any_default (w ∷ ws) zero d e within = refl
+        any_default (w ∷ ws) (suc i) d e within = any_default ws i d e (omega arith)
+
+  pub next_nowhere : length ws ≤ i → next_in ws from ≡ None
+  next_nowhere over = next_behind ws from i (λ k d lt inside. parted.0 k d (omega arith) lt) ∙ ap (λ l. next_in l from) (drop_all i ws over)
+
+pub order_at : (second : Bool) (lists : List Tiers) (i : ℕ) (d : Tiers) → AreInOrder second lists → i < length lists → IsInOrder (windows_of second (get_or lists i d))
+order_at second [] i d all within = absurd (omega arith)
+order_at second (tiers ∷ lists) zero d all within = all.0
+order_at second (tiers ∷ lists) (suc i) d all within = order_at second lists i d all.1 (omega arith)
+
+pub order_more : (second : Bool) (lists : List Tiers) (i : ℕ) (tiers : Tiers) → i < length lists → tiers ≡ get_or lists i tiers → IsInOrder (windows_of second tiers) → AreInOrder second (take i lists) → AreInOrder second (take (i + 1) lists)
+order_more second [] i tiers within is here all = absurd (omega arith)
+order_more second (t ∷ lists) zero tiers within is here all = (subst (λ (x : Tiers). IsInOrder (windows_of second x)) is here, tt)
+order_more second (t ∷ lists) (suc i) tiers within is here all =
+    let next : suc (i + 1) ≡ suc i + 1 = omega arith in
+    subst (λ n. AreInOrder second (take n (t ∷ lists))) next (all.0, order_more second lists i tiers (omega arith) is here all.1)
 
 -- ---- several lists, one after another
 false_left : (x y : Bool) → x ≡ false → (x && y) ≡ false

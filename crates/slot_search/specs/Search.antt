@@ -1,5 +1,6 @@
 -- What the search for the common start computes, pass by pass.
-use Rattle.std.specs.List.{list_all}
+use Rattle.std.specs.List.{AllByRecursion, list_all}
+use Rattle.std.specs.List.Sorted.{IsNonDecreasingBy}
 use Rattle.std.specs.Prelude.{Bool, List, [], ◌∷◌, Option, Some, None, if◌then◌else◌, max, min, nat_le, option_and_then, ℕ}
 use Rattle.ps_time.specs.Span.{Range}
 use Rattle.ps_time.specs.Starts.{lies_in}
@@ -26,6 +27,15 @@ start_in w from = if nat_le (max w.first from) w.last then Some (max w.first fro
 abbrev pub next_in : List Range → ℕ → Option ℕ
 next_in [] from = None
 next_in (w ∷ ws) from = lesser (start_in w from) (next_in ws from)
+
+-- the windows begin one after another, and end so
+pub record IsInOrder (windows : List Range) : Type 0 where
+  pub firsts : IsNonDecreasingBy (λ w. w.first) windows
+  pub lasts : IsNonDecreasingBy (λ w. w.last) windows
+
+-- so do those of this tier of each list
+abbrev pub AreInOrder : Bool → List Tiers → Type 0
+AreInOrder second lists = AllByRecursion (λ tiers. IsInOrder (windows_of second tiers)) lists
 
 -- the start to which the lists send on a start, one after another
 abbrev pub next_in_all : Bool → List Tiers → ℕ → Option ℕ

@@ -1,8 +1,9 @@
 //! The least start that lies in each of several lists of windows.
-ghost use Rattle.std.specs.Prelude.{◌≡◌};
+ghost use Rattle.std.specs.Prelude.{◌≡◌, ◌≤◌, ◌&&◌, false, length, nat_le, nat_lt, true};
+ghost use Rattle.std.specs.List.Sorted.{IsPartitionPoint};
 ghost use Rattle.ps_time.specs.Starts.{least_start};
 ghost use Rattle.slot_search.specs.CommonStart.{earliest};
-ghost use Rattle.slot_search.specs.Search.{in_all, next_in, next_in_all, start_in, lesser};
+ghost use Rattle.slot_search.specs.Search.{in_all, lesser, next_in, next_in_all, start_in, windows_of, AreInOrder, IsInOrder};
 
 use ps_time::interval::Window;
 use ps_time::moment::Moment;
@@ -36,13 +37,15 @@ pub fn earliest(window: Window, lists: &[Tiers]) -> Option<Choice>
 }
 
 // The least start of the window that lies in this tier of each list. A pass over the lists goes on to the next start that
-// could be one, so it goes from window to window and never from second to second.
+// could be one, so it goes from window to window and never from second to second. Where the windows are in order, each list
+// is searched in; else it is passed over.
 fn common_start(window: &Window, lists: &[Tiers], second: bool) -> Option<Moment>
     ensures { result ≡ least_start (in_all second lists.now) window.now }
 {
+    let ordered = are_in_order(lists, second);
     let mut from = window.first;
     while from <= window.last {
-        let Some(next) = next_in_all(lists, second, from) else {
+        let Some(next) = next_in_all(lists, second, ordered, from) else {
             return None;
         };
         if next == from {
@@ -53,16 +56,94 @@ fn common_start(window: &Window, lists: &[Tiers], second: bool) -> Option<Moment
     None
 }
 
+// Whether the windows of this tier of each list begin one after another, and end so.
+fn are_in_order(lists: &[Tiers], second: bool) -> bool
+    ensures { result ≡ true → AreInOrder second lists.now }
+{
+    for tiers in lists {
+        if !is_in_order(windows_of(tiers, second)) {
+            return false;
+        }
+    }
+    true
+}
+
+// Whether the windows begin one after another, and end so.
+fn is_in_order(windows: &[Window]) -> bool
+    ensures { result ≡ true → IsInOrder windows.now }
+{
+    for at in 1..windows.len() {
+        if !comes_after(&windows[at], &windows[at - 1]) {
+            return false;
+        }
+    }
+    true
+}
+
+// Whether a window neither begins nor ends before another.
+fn comes_after(window: &Window, other: &Window) -> bool
+    ensures { result ≡ (nat_le other.now.first window.now.first && nat_le other.now.last window.now.last) }
+{
+    other.first <= window.first && other.last <= window.last
+}
+
+// The windows of the second tier, or of the first.
+fn windows_of(tiers: &Tiers, second: bool) -> &[Window]
+    ensures { result.now ≡ windows_of second tiers.now }
+{
+    if second {
+        tiers.second.as_slice()
+    } else {
+        tiers.first.as_slice()
+    }
+}
+
 // The start to which the lists send on a start, one after another. It is the same one exactly where it lies in all of them.
-fn next_in_all(lists: &[Tiers], second: bool, from: Moment) -> Option<Moment>
+fn next_in_all(lists: &[Tiers], second: bool, ordered: bool, from: Moment) -> Option<Moment>
+    requires { ordered ≡ true → AreInOrder second lists.now }
     ensures { result ≡ next_in_all second lists.now from }
 {
     let mut start = from;
     for tiers in lists {
-        let windows = if second { &tiers.second } else { &tiers.first };
-        start = next_in(windows.as_slice(), start)?;
+        start = next_start(windows_of(tiers, second), ordered, start)?;
     }
     Some(start)
+}
+
+// The least start from this one on that lies in one of the windows: by search where these are in order.
+fn next_start(windows: &[Window], ordered: bool, from: Moment) -> Option<Moment>
+    requires { ordered ≡ true → IsInOrder windows.now }
+    ensures { result ≡ next_in windows.now from }
+{
+    if ordered {
+        next_in_order(windows, from)
+    } else {
+        next_in(windows, from)
+    }
+}
+
+// The least start from this one on that lies in one of the windows, which are in order: it lies in the first that doesn't
+// end before it.
+fn next_in_order(windows: &[Window], from: Moment) -> Option<Moment>
+    requires { IsInOrder windows.now }
+    ensures { result ≡ next_in windows.now from }
+{
+    let at = ending_before(windows, from);
+    if at < windows.len() {
+        let window = windows[at];
+        Some(window.first.max(from))
+    } else {
+        None
+    }
+}
+
+// How many of the windows, which are in order, end before the moment.
+fn ending_before(windows: &[Window], moment: Moment) -> usize
+    requires { IsInOrder windows.now }
+    ensures within { result ≤ length windows.now }
+    ensures parted { IsPartitionPoint (λ w. nat_lt w.last moment ≡ true) (λ w. nat_lt w.last moment ≡ false) windows.now result }
+{
+    windows.partition_point(|window| window.last < moment)
 }
 
 // The least start from this one on that lies in one of the windows.

@@ -21,6 +21,8 @@ static NEVER: [(u64, u64); 0] = [];
 
 static OURS: [(u64, u64); 2] = [(0, 10), (40, 50)];
 
+static TURNED: [(u64, u64); 2] = [(40, 50), (0, 10)];
+
 static THEIRS: [(u64, u64); 2] = [(20, 30), (45, 60)];
 
 fn windows(alloc: Global, bounds: &[(u64, u64)]) -> Result<Items<Window>, Memory> {
@@ -57,6 +59,15 @@ fn check(rt: &impl Abort, found: Option<Choice>, start: u64, second: bool) {
 fn the_least_start_of_both_is_chosen(rt: HostRuntime) -> Result<(), Fail> {
     let alloc = rt.alloc();
     let ours = tiers(alloc, &OURS, &OURS)?;
+    let theirs = tiers(alloc, &THEIRS, &THEIRS)?;
+    check(&rt, common(ALL, ours, theirs), 45, false);
+    Ok(())
+}
+
+#[test]
+fn windows_may_stand_in_any_order(rt: HostRuntime) -> Result<(), Fail> {
+    let alloc = rt.alloc();
+    let ours = tiers(alloc, &TURNED, &TURNED)?;
     let theirs = tiers(alloc, &THEIRS, &THEIRS)?;
     check(&rt, common(ALL, ours, theirs), 45, false);
     Ok(())

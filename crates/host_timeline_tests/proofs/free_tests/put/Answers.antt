@@ -3,7 +3,7 @@ use Rattle.std.specs.Ordering.{is_eq}
 use Rattle.ps_time.specs.Key.{key_cmp}
 use Rattle.host_timeline.specs.Booking.{conflicts_with, conflicting, without_conflicts}
 use Rattle.host_timeline.specs.Timeline.{find_booking, without_booking}
-use Rattle.host_timeline_tests.proofs.PutLemmas.{find_fewer, find_without, filter_without}
+use Rattle.host_timeline.proofs.PutLemmas.{find_fewer, find_without, filter_without}
 use Rattle.host_timeline_tests.proofs.free_tests.put.Goals as goal
 
 pub book-requires-clause-new_key : goal.book-requires-clause-new_key

@@ -13,7 +13,7 @@ pub returns-clause-least : goal.returns-clause-least
 returns-clause-least c =
     let interval = c.args.interval.now in
     let passes : Booking → Bool = is_firm c.args.class interval c.args.priority c.args.moment in
-    let decide : Decide c.args.class interval.start (Some interval.end) c.args.self.now.list c.beside.result.0.now c.beside.result.1.now = subst (λ (s : Span). Decide c.args.class s.start (Some s.end) c.args.self.now.list c.beside.result.0.now c.beside.result.1.now) c.interval.view_is c.beside.ensures in
+    let decide : Decide c.args.class interval.start (Some interval.end) c.args.self.now.list c.beside.result.0.now c.beside.result.1.now = subst (λ (s : Span). Decide c.args.class s.start (Some s.end) c.args.self.now.list c.beside.result.0.now c.beside.result.1.now) c.interval.view_is c.beside.ensures.decide in
     let some = rw (to_z-of_z c.ranges.priority) at c.least_firm.ensures in
     let others = rw (to_z-of_z c.ranges.priority) at c.least_firm-2.ensures in
     c.lesser_of.ensures ∙ ap₂ lesser_of some others

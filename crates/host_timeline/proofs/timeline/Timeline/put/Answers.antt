@@ -1,6 +1,8 @@
 use Rattle.std.proofs.Common.{◌≡◌, ◌<◌, [], length, sym, ap, arith}
 use Rattle.host_timeline.specs.Booking.{conflicting}
 use Rattle.host_timeline.specs.Timeline.{Timeline, IsPlaceOf, IsGapFor}
+use Rattle.ps_time.specs.declared.class.Class.TheVariants.{Normal, Exclusive}
+use Rattle.host_timeline.proofs.BusyLemmas.{busy_room}
 use Rattle.host_timeline.proofs.HoldLemmas.{lane_new, lane_room}
 use Rattle.host_timeline.proofs.IndexedLemmas.{indexed_put}
 use Rattle.host_timeline.proofs.Place.{find_place, book_gap}
@@ -26,6 +28,21 @@ insert-requires-clause-new_place c =
     let seen : c.self.inside.bookings.items ≡ c.args.self.now.list = ap (λ (t : Timeline). t.list) c.self.view_is in
     lane_new c.self.inside.bookings.items c.self.inside.lanes c.self.invariant.hold c.args.booking.now (rw seen c.requires.new_key)
 
+-- and there is place for what it takes
+pub cover-requires-clause-normal : goal.cover-requires-clause-normal
+cover-requires-clause-normal c =
+    let room = ap (λ (t : Timeline). t.room) c.self.view_is in
+    let more : length c.self.inside.bookings.items < c.self.inside.places = omega (arith, room, c.requires.room, c.self.inside.bookings.ok.0) in
+    let some : 0 < c.self.inside.places = omega (arith, more) in
+    busy_room Normal c.self.inside.bookings.items c.self.inside.busy.normal c.self.invariant.are_busy.normal (omega (arith, more, c.self.invariant.are_busy.normal_places some))
+
+pub cover-requires-clause-exclusive : goal.cover-requires-clause-exclusive
+cover-requires-clause-exclusive c =
+    let room = ap (λ (t : Timeline). t.room) c.self.view_is in
+    let more : length c.self.inside.bookings.items < c.self.inside.places = omega (arith, room, c.requires.room, c.self.inside.bookings.ok.0) in
+    let some : 0 < c.self.inside.places = omega (arith, more) in
+    busy_room Exclusive c.self.inside.bookings.items c.self.inside.busy.exclusive c.self.invariant.are_busy.exclusive (omega (arith, more, c.self.invariant.are_busy.exclusive_places some))
+
 -- the booking goes into the gap
 pub invariant_of-self : goal.invariant_of-self
 invariant_of-self c =
@@ -34,7 +51,7 @@ invariant_of-self c =
     let free : conflicting c.args.booking.now.class c.args.booking.now.interval c.self.inside.bookings.items ≡ [] = rw seen c.requires.no_conflict in
     let room = ap (λ (t : Timeline). t.room) c.self.view_is in
     let more : length c.self.inside.bookings.items < c.self.inside.places = omega (arith, room, c.requires.room, c.self.inside.bookings.ok.0) in
-    rw (c.insert-in-Err.ensures.items, c.unwrap.ensures) (indexed_put _ _ _ _ _ c.self.invariant c.args.booking.now c.in-Err.at _ gap free more c.insert-in-Err.ensures.capacity c.insert.ensures)
+    rw (c.insert-in-Err.ensures.items, c.unwrap.ensures) (indexed_put c.self.inside.bookings.items _ c.self.inside.places c.self.inside.lanes _ c.self.inside.busy c.self.invariant c.args.booking.now c.in-Err.at _ c.cover.new.self gap free more c.insert-in-Err.ensures.capacity c.insert.ensures (c.cover.ensures c.self.inside.bookings.items c.self.inside.places c.self.invariant.are_busy))
 
 pub returns-clause-list : goal.returns-clause-list
 returns-clause-list c =
