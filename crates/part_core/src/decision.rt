@@ -15,7 +15,6 @@ use crate::fit::denial_of;
 use crate::reading::Reading;
 use host_model::config::Config;
 use host_model::part::Decision;
-use plugin_core::participants::participants_of;
 use ps_time::memory::Memory;
 use run_states::content::{has_content, proposal_of};
 use run_states::life::state_of_closed;
@@ -91,8 +90,7 @@ fn decide_known(
 ) -> Result<Decision, Memory>
     ensures { IfOk result (λ d. d ≡ decided_with row.now (participants proposal.now.test lead.now) proposal.now) }
 {
-    let participants = participants_of(alloc, &proposal.test, lead)?;
-    if has_content(row, proposal, &participants) {
+    if has_content(row, proposal, lead) {
         return Ok(decided_before(row));
     }
     let kept = proposal_of(alloc, row)?;

@@ -114,8 +114,8 @@ fn is_tool_for(proposal: &Proposal) -> bool
     }
 }
 
-// That there is no place for more rows, or that they keep as many bytes of results as a book takes.
-fn full<R: Reading>(rows: &R) -> Option<Denial>
+/// That there is no place for more rows, or that they keep as many bytes of results as a book takes.
+pub fn full<R: Reading>(rows: &R) -> Option<Denial>
     ensures { result ≡ full_denial (R.seen rows.now) (result_bytes (R.seen rows.now)) }
 {
     let count = rows.len();

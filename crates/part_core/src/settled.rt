@@ -1,9 +1,11 @@
 //! Rows and a timeline that are settled, as a host's own book gives them between two steps.
 ghost use Rattle.std.specs.Prelude.{◌≡◌, ◌≤◌, All};
+ghost use Rattle.std.specs.Option.{option_copied};
 ghost use Rattle.ps_time.specs.declared.moment.TheConstants.{MAX_MOMENT};
 ghost use Rattle.run_states.specs.Life.{HasMoments, settled_rows};
 ghost use Rattle.run_states.specs.Rows.{IsAscendingRows};
 ghost use Rattle.run_states.specs.ResultBytes.{result_bytes as result_bytes_of};
+ghost use Rattle.run_states.specs.TaskRows.{newest_row};
 ghost use Rattle.part_core.specs.Reservations.{bookings_of};
 
 use crate::reading::Reading;
@@ -21,6 +23,7 @@ use std::alloc::Global;
 use std::marker::Model;
 
 /// Rows that are settled at a moment, with what the booked ones reserve.
+#[derive(Drop)]
 pub struct Settled<'a> {
     moment: Moment,
     rows: &'a Rows,
@@ -67,6 +70,14 @@ impl<'a> Settled<'a> {
             epoch,
             result_bytes,
         }
+    }
+
+    /// The row of this lead's task with this serial that has the greatest number and attempt.
+    pub fn newest_of_task(&self, lead: u16, serial: u32) -> Option<&RunRow>
+        ensures row { option_copied result ≡ newest_row lead serial self.now.rows }
+        ensures ascending { IsAscendingRows self.now.rows }
+    {
+        self.rows.newest_of_task(lead, serial)
     }
 }
 

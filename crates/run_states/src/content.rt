@@ -1,9 +1,11 @@
 //! What of a row a proposal has.
-ghost use Rattle.std.specs.Prelude.{◌≡◌, ◌↔◌, [], IsTrue, IfOk, unwrap_or};
+ghost use Rattle.std.specs.Prelude.{◌≡◌, ◌↔◌, ◌∷◌, [], IsTrue, IfOk, unwrap_or};
+ghost use Rattle.plugin_core.specs.Participants.{participants};
 ghost use Rattle.run_states.specs.Content.{kept_proposal, same_content, start_of_span};
 
 use crate::proposal::Proposal;
 use crate::row::RunRow;
+use plugin_core::test_spec::TestSpec;
 use ps_time::items::Items;
 use ps_time::memory::Memory;
 use ps_time::moment::Moment;
@@ -28,18 +30,50 @@ pub fn proposal_of(alloc: Global, row: &RunRow) -> Result<Proposal, Memory>
     })
 }
 
-/// Whether the proposal, with these participants, has the content of the row.
-pub fn has_content(row: &RunRow, proposal: &Proposal, participants: &Items<Text>) -> bool
-    ensures same { result ≡ same_content row.now proposal.now participants.now }
-    ensures exact { IsTrue result ↔ ((kept_proposal row.now ≡ proposal.now) × (row.now.participants ≡ participants.now)) }
+/// Whether the proposal of this lead has the content of the row: what was accepted, with the same participants.
+/// Takes no memory.
+pub fn has_content(row: &RunRow, proposal: &Proposal, lead: &str) -> bool
+    ensures same { result ≡ same_content row.now proposal.now (participants proposal.now.test lead.now) }
+    ensures exact { IsTrue result ↔ ((kept_proposal row.now ≡ proposal.now) × (row.now.participants ≡ participants proposal.now.test lead.now)) }
 {
-    has_same(row, proposal, participants)
+    has_same(row, proposal, lead)
 }
 
-fn has_same(row: &RunRow, proposal: &Proposal, participants: &Items<Text>) -> bool
-    ensures { IsTrue result ↔ ((kept_proposal row.now ≡ proposal.now) × (row.now.participants ≡ participants.now)) }
+fn has_same(row: &RunRow, proposal: &Proposal, lead: &str) -> bool
+    ensures { IsTrue result ↔ ((kept_proposal row.now ≡ proposal.now) × (row.now.participants ≡ participants proposal.now.test lead.now)) }
 {
-    is_proposed(row, proposal) && row.participants.same(participants)
+    is_proposed(row, proposal) && has_participants(&row.participants, &proposal.test, lead)
+}
+
+// Whether these are the participants, the lead's name first.
+fn has_participants(names: &Items<Text>, test: &TestSpec, lead: &str) -> bool
+    ensures { IsTrue result ↔ (names.now ≡ participants test.now lead.now) }
+{
+    match test {
+        TestSpec::Idlemany { hosts, .. } => names.same(hosts),
+        TestSpec::Simplestream { dest, .. } if !dest.is(lead) => {
+            is_pair(names.as_slice(), lead, dest.as_str())
+        }
+        _ => is_alone(names.as_slice(), lead),
+    }
+}
+
+fn is_alone(names: &[Text], lead: &str) -> bool
+    ensures { IsTrue result ↔ (names.now ≡ lead.now ∷ []) }
+{
+    match names {
+        [first] => first.is(lead),
+        _ => false,
+    }
+}
+
+fn is_pair(names: &[Text], lead: &str, other: &str) -> bool
+    ensures { IsTrue result ↔ (names.now ≡ lead.now ∷ other.now ∷ []) }
+{
+    match names {
+        [first, second] => first.is(lead) && second.is(other),
+        _ => false,
+    }
 }
 
 // Whether the proposal is what was accepted.
