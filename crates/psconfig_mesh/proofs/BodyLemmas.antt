@@ -21,11 +21,11 @@ use Rattle.task_spec.specs.declared.read_task.Rest.{Rest}
 use Rattle.task_spec.specs.declared.task.Archive.{Archive}
 use Rattle.task_spec.specs.declared.task.Task.{Task}
 use Rattle.schedule_rule.specs.Rule.{Schedule}
-use Rattle.psconfig_mesh.specs.declared.group.Pair.{Pair}
+use Rattle.mesh_parts.specs.declared.group.Pair.{Pair}
 use Rattle.psconfig_mesh.specs.declared.mesh.Mesh.{Mesh}
 use Rattle.psconfig_mesh.specs.declared.mesh.MeshTask.{MeshTask}
 use Rattle.psconfig_mesh.specs.Body.{mark_data, body_data, fits}
-use Rattle.psconfig_mesh.specs.Fill.{filled}
+use Rattle.mesh_parts.specs.Fill.{filled}
 use Rattle.psconfig_mesh.specs.Mesh.{IsWanted, wanted}
 
 -- ---- the mark

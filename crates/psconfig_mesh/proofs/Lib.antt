@@ -1,5 +1,2 @@
 pub mod BodyLemmas
-pub mod EntryLemmas
-pub mod FillLemmas
-pub mod PairLemmas
 pub mod WantedLemmas

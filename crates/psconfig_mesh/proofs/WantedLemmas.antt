@@ -3,7 +3,7 @@ use Rattle.std.proofs.Common.{◌≡◌, ◌<◌, ◌≤◌, ℕ, ◌+◌, ◌&&
 use Rattle.std.proofs.lemmas.List.{append-nil, at_drop_more, at_drop_all, length-map}
 use Rattle.std.proofs.lemmas.List.Concat.{length-flat_map}
 use Rattle.std.specs.List.{list_all}
-use Rattle.psconfig_mesh.specs.declared.group.Pair.{Pair}
+use Rattle.mesh_parts.specs.declared.group.Pair.{Pair}
 use Rattle.psconfig_mesh.specs.declared.mesh.Mesh.{Mesh}
 use Rattle.psconfig_mesh.specs.declared.mesh.MeshTask.{MeshTask}
 use Rattle.psconfig_mesh.specs.declared.mesh.Wanted.{Wanted}

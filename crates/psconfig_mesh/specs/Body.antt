@@ -5,9 +5,9 @@ use Rattle.serde_json.specs.View.{items_of}
 use Rattle.serde_json.specs.Written.{has_float}
 use Rattle.task_spec.specs.ReadTask.{task_of}
 use Rattle.task_spec.specs.WriteTask.{members_in}
-use Rattle.psconfig_mesh.specs.declared.group.Pair.{Pair}
+use Rattle.mesh_parts.specs.declared.group.Pair.{Pair}
 use Rattle.psconfig_mesh.specs.declared.mesh.MeshTask.{MeshTask}
-use Rattle.psconfig_mesh.specs.Fill.{filled}
+use Rattle.mesh_parts.specs.Fill.{filled}
 
 -- the hosts of a pair, in their order
 abbrev pub hosts_of : List ℕ → Option (List ℕ) → List (List ℕ)

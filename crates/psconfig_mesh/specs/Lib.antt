@@ -1,12 +1,4 @@
-pub mod Address
 pub mod Body
-pub mod Entries
-pub mod Fault
-pub mod Fill
-pub mod Group
 pub mod Mesh
-pub mod Named
-pub mod Pairs
-pub mod ReadGroups
 pub mod ReadMesh
 pub mod ReadTasks

@@ -8,14 +8,14 @@ use Rattle.ps_json.specs.Tree.{tree_of}
 use Rattle.ps_time.specs.declared.moment.TheConstants.{MAX_MOMENT}
 use Rattle.task_spec.specs.ReadTask.{task_of}
 use Rattle.task_spec.specs.declared.task.Task.{Task}
-use Rattle.psconfig_mesh.specs.declared.group.Pair.{Pair}
+use Rattle.mesh_parts.specs.declared.group.Pair.{Pair}
 use Rattle.psconfig_mesh.specs.declared.mesh.Mesh.{Mesh}
 use Rattle.psconfig_mesh.specs.declared.mesh.MeshTask.{MeshTask}
 use Rattle.psconfig_mesh.specs.declared.mesh.Wanted.{Wanted}
-use Rattle.psconfig_mesh.specs.declared.named.Named.{Named}
+use Rattle.mesh_parts.specs.declared.named.Named.{Named}
 use Rattle.psconfig_mesh.specs.Body.{mark_data, body_data, fits}
-use Rattle.psconfig_mesh.specs.Group.{pairs_of}
-use Rattle.psconfig_mesh.specs.Named.{Ascend, names_of, find}
+use Rattle.mesh_parts.specs.Group.{pairs_of}
+use Rattle.mesh_parts.specs.Named.{Ascend, names_of, find}
 
 abbrev pub task_names : List MeshTask → List (List ℕ)
 task_names tasks = map (λ task. task.name) tasks

@@ -6,13 +6,13 @@ use Rattle.ps_json.specs.Fields.{without_member, end_of}
 use Rattle.ps_json.specs.Kinds.{members_of}
 use Rattle.ps_json.specs.Member.{required, optional, member_then}
 use Rattle.ps_json.specs.Tree.{tree_of}
-use Rattle.psconfig_mesh.specs.declared.fault.MeshFault.{MeshFault}
+use Rattle.mesh_parts.specs.declared.fault.MeshFault.{MeshFault}
 use Rattle.psconfig_mesh.specs.declared.mesh.Mesh.{Mesh}
 use Rattle.psconfig_mesh.specs.declared.read_tasks.Outline.{Outline}
-use Rattle.psconfig_mesh.specs.Entries.{objects_in}
-use Rattle.psconfig_mesh.specs.Fault.{in_json, wrapped}
-use Rattle.psconfig_mesh.specs.Fill.{filled}
-use Rattle.psconfig_mesh.specs.ReadGroups.{host_name_in, addresses_in, groups_in}
+use Rattle.mesh_parts.specs.Entries.{objects_in}
+use Rattle.mesh_parts.specs.Fault.{in_json, wrapped}
+use Rattle.mesh_parts.specs.Fill.{filled}
+use Rattle.mesh_parts.specs.ReadGroups.{host_name_in, addresses_in, groups_in}
 use Rattle.psconfig_mesh.specs.ReadTasks.{tasks_in}
 
 -- the members before the tasks, in the order in which they are read

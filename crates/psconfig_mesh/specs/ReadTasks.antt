@@ -7,20 +7,20 @@ use Rattle.ps_json.specs.Answer.{then_with}
 use Rattle.ps_json.specs.Fields.{end_of}
 use Rattle.ps_json.specs.Kinds.{text_of, members_of}
 use Rattle.ps_json.specs.Member.{required, optional, member_then}
-use Rattle.psconfig_mesh.specs.declared.fault.MeshFault.{MeshFault}
-use Rattle.psconfig_mesh.specs.declared.fault.MeshFault.TheVariants.{TooMany, UnknownName, BadTemplate, BadTask}
-use Rattle.psconfig_mesh.specs.declared.group.Group.{Group}
-use Rattle.psconfig_mesh.specs.declared.group.Pair.{Pair}
+use Rattle.mesh_parts.specs.declared.fault.MeshFault.{MeshFault}
+use Rattle.mesh_parts.specs.declared.fault.MeshFault.TheVariants.{TooMany, UnknownName, BadTemplate, BadTask}
+use Rattle.mesh_parts.specs.declared.group.Group.{Group}
+use Rattle.mesh_parts.specs.declared.group.Pair.{Pair}
 use Rattle.psconfig_mesh.specs.declared.mesh.MeshTask.{MeshTask}
-use Rattle.psconfig_mesh.specs.declared.named.Named.{Named}
+use Rattle.mesh_parts.specs.declared.named.Named.{Named}
 use Rattle.psconfig_mesh.specs.declared.read_tasks.Outline.{Outline}
 use Rattle.psconfig_mesh.specs.Body.{body_data, fits}
-use Rattle.psconfig_mesh.specs.Entries.{counted_in}
-use Rattle.psconfig_mesh.specs.Fault.{in_json, wrapped}
-use Rattle.psconfig_mesh.specs.Fill.{mentions}
-use Rattle.psconfig_mesh.specs.Group.{is_list}
+use Rattle.mesh_parts.specs.Entries.{counted_in}
+use Rattle.mesh_parts.specs.Fault.{in_json, wrapped}
+use Rattle.mesh_parts.specs.Fill.{mentions}
+use Rattle.mesh_parts.specs.Group.{is_list}
 use Rattle.psconfig_mesh.specs.Mesh.{pairs_in}
-use Rattle.psconfig_mesh.specs.Named.{find}
+use Rattle.mesh_parts.specs.Named.{find}
 
 -- the thing of a name, which has to be there
 abbrev pub known : {T : Type 0} → List ℕ → Option T → Result T MeshFault

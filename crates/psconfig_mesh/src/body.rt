@@ -6,10 +6,10 @@ ghost use Rattle.ps_time.specs.declared.moment.TheConstants.{MAX_MOMENT};
 ghost use Rattle.task_spec.specs.WriteTask.{members_in};
 ghost use Rattle.psconfig_mesh.specs.Body.{hosts_data, mark_data, body_data, fits};
 
-use crate::fill::fill;
-use crate::group::Pair;
 use crate::mesh::MeshTask;
-use crate::tree::Tree;
+use mesh_parts::fill::fill;
+use mesh_parts::group::Pair;
+use mesh_parts::tree::Tree;
 use ps_json::shape::{is_deeper, is_whole};
 use ps_json::tree::MAX_DEPTH;
 use ps_time::memory::Memory;

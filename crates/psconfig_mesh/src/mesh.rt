@@ -1,7 +1,7 @@
 //! Meshes, and the tasks that they want.
-use crate::group::Group;
-use crate::named::Named;
-use crate::tree::Tree;
+use mesh_parts::group::Group;
+use mesh_parts::named::Named;
+use mesh_parts::tree::Tree;
 use ps_time::items::Items;
 use ps_time::moment::Moment;
 use ps_time::text::Text;

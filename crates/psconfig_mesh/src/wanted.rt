@@ -3,12 +3,12 @@ ghost use Rattle.std.specs.Prelude.{◌≡◌, ◌≤◌, ◌++◌, [], All, len
 ghost use Rattle.std.specs.Option.{unwrap_or};
 ghost use Rattle.psconfig_mesh.specs.Body.{body_data, fits};
 ghost use Rattle.psconfig_mesh.specs.Mesh.{IsFit, IsMesh, IsWanted, wanted, wanted_by, wanted_of};
-ghost use Rattle.psconfig_mesh.specs.Named.{find};
+ghost use Rattle.mesh_parts.specs.Named.{find};
 
 use crate::body::{write_body, write_mark};
-use crate::group::Pair;
 use crate::mesh::{Mesh, MeshTask, Wanted};
-use crate::named::{Named, find};
+use mesh_parts::group::Pair;
+use mesh_parts::named::{Named, find};
 use ps_json::tree::write_text;
 use ps_time::memory::Memory;
 use ps_time::text::Text;

@@ -1,5 +1,5 @@
 //! Files with one fault each, and its text.
-use psconfig_mesh::fault::MeshFault;
+use mesh_parts::fault::MeshFault;
 use psconfig_mesh::mesh::Mesh;
 use psconfig_mesh::read_mesh::read_mesh;
 use std::alloc::{AllocError, Global};

@@ -1,6 +1,6 @@
 //! Meshes, what they want, and how much they may want.
+use mesh_parts::fault::MeshFault;
 use ps_time::memory::Memory;
-use psconfig_mesh::fault::MeshFault;
 use psconfig_mesh::mesh::{Mesh, Wanted};
 use psconfig_mesh::read_mesh::read_mesh;
 use psconfig_mesh::wanted::wanted_tasks;

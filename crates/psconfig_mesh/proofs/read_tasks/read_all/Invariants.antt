@@ -1,7 +1,7 @@
 use Rattle.std.proofs.Common.{◌≡◌, ◌≤◌, ◌++◌, [], All}
 use Rattle.std.specs.Vec.Iter.{into_iter_items}
 use Rattle.psconfig_mesh.specs.Mesh.{task_names, wanted_count, IsFit}
-use Rattle.psconfig_mesh.specs.Named.{names_of}
+use Rattle.mesh_parts.specs.Named.{names_of}
 use Rattle.psconfig_mesh.specs.ReadTasks.{tasks_from}
 use Rattle.psconfig_mesh.proofs.read_tasks.read_all.Given as goal
 

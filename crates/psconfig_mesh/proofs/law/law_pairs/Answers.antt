@@ -1,8 +1,0 @@
-use Rattle.psconfig_mesh.proofs.PairLemmas.{members, order}
-use Rattle.psconfig_mesh.proofs.law.law_pairs.Goals as goal
-
-pub returns-clause-members : goal.returns-clause-members
-returns-clause-members c = members
-
-pub returns-clause-order : goal.returns-clause-order
-returns-clause-order c = order
