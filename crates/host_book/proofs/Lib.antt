@@ -1,0 +1,10 @@
+pub mod AcceptLemmas
+pub mod BookLemmas
+pub mod BringLemmas
+pub mod ClosingLemmas
+pub mod IndexLemmas
+pub mod LapseLemmas
+pub mod LedgerLemmas
+pub mod MomentLemmas
+pub mod PairLemmas
+pub mod RowLemmas

@@ -1,0 +1,44 @@
+use Rattle.std.proofs.Common.{◌≡◌, ◌≤◌, ◌-◌, ◌+◌, All, IfSome, min, sym, subst, arith}
+use Rattle.run_states.specs.Life.{marked_row, HasMoments}
+use Rattle.run_states.specs.ResultBytes.{result_bytes}
+use Rattle.run_states.specs.Rows.{Rows, change_row, find_row}
+use Rattle.run_states.proofs.Place.{marked_key}
+use Rattle.host_book.specs.Ledger.{bytes_at, step_bytes, most_counted, IsCounted, StandsUntil}
+use Rattle.host_book.proofs.LedgerLemmas.{changed_counted, changed_less, changed_more, found_if, sooner_if}
+use Rattle.host_book.proofs.RowLemmas.{step_brings}
+use Rattle.host_book.proofs.ledger.Ledger.mark.Goals as goal
+
+pub overflow_sub-self : goal.overflow_sub-self
+overflow_sub-self c =
+    let rows = c.self.inside.rows.list in
+    let low : c.self.inside.bytes ≤ most_counted = omega (arith, c.self.ranges) in
+    let room : step_bytes c.args.step ≤ most_counted - result_bytes rows = subst (λ (t : Rows). step_bytes c.args.step ≤ most_counted - result_bytes t.list) (sym c.self.view_is) c.requires.bytes in
+    changed_less (marked_row c.args.step c.args.moment) (λ r. marked_key c.args.step c.args.moment r) rows c.self.inside.bytes c.self.inside.next_lapse c.args.key (step_bytes c.args.step) c.self.invariant c.bytes_at-before.ensures.ascending (λ r. step_brings c.args.step c.args.moment r) room low c.bytes_at-before.result c.bytes_at-before.ensures.value
+
+pub overflow_add-self : goal.overflow_add-self
+overflow_add-self c =
+    let rows = c.self.inside.rows.list in
+    let low : c.self.inside.bytes ≤ most_counted = omega (arith, c.self.ranges) in
+    let room : step_bytes c.args.step ≤ most_counted - result_bytes rows = subst (λ (t : Rows). step_bytes c.args.step ≤ most_counted - result_bytes t.list) (sym c.self.view_is) c.requires.bytes in
+    let most = changed_more (marked_row c.args.step c.args.moment) (λ r. marked_key c.args.step c.args.moment r) rows c.self.inside.bytes c.self.inside.next_lapse c.args.key (step_bytes c.args.step) c.self.invariant c.bytes_at-before.ensures.ascending (λ r. step_brings c.args.step c.args.moment r) room low c.bytes_at-before.result c.bytes_at-before.ensures.value c.bytes_at-after.result (subst (λ l. c.bytes_at-after.result ≡ min (bytes_at (find_row l c.args.key)) most_counted) c.mark.ensures.rows c.bytes_at-after.ensures.value) in
+    omega (arith, most)
+
+-- the changed row has its moments in bounds
+pub stands_at-requires : goal.stands_at-requires
+stands_at-requires c =
+    let moments : All HasMoments (change_row (marked_row c.args.step c.args.moment) c.self.inside.rows.list c.args.key) = subst (λ (t : Rows). All HasMoments (change_row (marked_row c.args.step c.args.moment) t.list c.args.key)) (sym c.self.view_is) c.requires.moments in
+    subst (λ l. IfSome (find_row l c.args.key) HasMoments) (sym c.mark.ensures.rows) (found_if HasMoments c.args.key (change_row (marked_row c.args.step c.args.moment) c.self.inside.rows.list c.args.key) moments)
+
+-- and all is counted
+pub invariant_of-self : goal.invariant_of-self
+invariant_of-self c =
+    let rows = c.self.inside.rows.list in
+    let low : c.self.inside.bytes ≤ most_counted = omega (arith, c.self.ranges) in
+    let room : step_bytes c.args.step ≤ most_counted - result_bytes rows = subst (λ (t : Rows). step_bytes c.args.step ≤ most_counted - result_bytes t.list) (sym c.self.view_is) c.requires.bytes in
+    let moments : All HasMoments (change_row (marked_row c.args.step c.args.moment) rows c.args.key) = subst (λ (t : Rows). All HasMoments (change_row (marked_row c.args.step c.args.moment) t.list c.args.key)) (sym c.self.view_is) c.requires.moments in
+    let at = c.min-self-inside.ensures in
+    let sooner : c.min-self-inside.result ≤ c.self.inside.next_lapse = omega (arith, at) in
+    let own : c.min-self-inside.result ≤ c.stands_at.result = omega (arith, at) in
+    let stands : IfSome (find_row (change_row (marked_row c.args.step c.args.moment) rows c.args.key) c.args.key) (StandsUntil c.stands_at.result) = subst (λ l. IfSome (find_row l c.args.key) (StandsUntil c.stands_at.result)) c.mark.ensures.rows c.stands_at.ensures in
+    subst (λ l. IsCounted l (c.self.inside.bytes - c.bytes_at-before.result + c.bytes_at-after.result) c.min-self-inside.result) (sym c.mark.ensures.rows)
+    (changed_counted (marked_row c.args.step c.args.moment) (λ r. marked_key c.args.step c.args.moment r) rows c.self.inside.bytes c.self.inside.next_lapse c.args.key (step_bytes c.args.step) c.self.invariant c.bytes_at-before.ensures.ascending (λ r. step_brings c.args.step c.args.moment r) room low c.bytes_at-before.result c.bytes_at-before.ensures.value c.bytes_at-after.result (subst (λ l. c.bytes_at-after.result ≡ min (bytes_at (find_row l c.args.key)) most_counted) c.mark.ensures.rows c.bytes_at-after.ensures.value) c.min-self-inside.result moments sooner (sooner_if c.min-self-inside.result c.stands_at.result own (find_row (change_row (marked_row c.args.step c.args.moment) rows c.args.key) c.args.key) stands))

@@ -1,0 +1,63 @@
+-- The reservations of rows as these settle and give way, one after another.
+use Rattle.std.specs.Prelude.{ℕ, Bool, false, List, [], ◌∷◌, map, is_some, if◌then◌else◌}
+use Rattle.ps_time.specs.Span.{Span, span_of}
+use Rattle.ps_time.specs.declared.class.Class.{Class}
+use Rattle.ps_time.specs.declared.key.RunKey.{RunKey}
+use Rattle.plugin_core.specs.TestSpec.{test_class, test_length}
+use Rattle.run_states.specs.declared.proposal.Proposal.{Proposal}
+use Rattle.run_states.specs.declared.row.RunRow.{RunRow}
+use Rattle.run_states.specs.declared.why.Why.TheVariants.{Preempted}
+use Rattle.run_states.specs.Conflict.{blocks}
+use Rattle.run_states.specs.Life.{close_row, lapse_of}
+use Rattle.run_states.specs.Preemption.{planned_span}
+use Rattle.run_states.specs.Rows.{change_row}
+use Rattle.host_timeline.specs.declared.booking.Booking.{Booking}
+use Rattle.host_timeline.specs.Booking.{conflicts_with, firm_from_of}
+use Rattle.host_timeline.specs.Timeline.{without_booking}
+
+-- what a proposal reserves once it is accepted
+abbrev pub reservation_of : Proposal → Booking
+reservation_of p = record {
+  key = p.key;
+  class = test_class p.test;
+  interval = span_of p.start (test_length p.test);
+  priority = p.priority;
+  firm_from = firm_from_of p.start false;
+}
+
+-- what the run of a row reserves once it is planned for this start
+abbrev pub planned_reservation : ℕ → RunRow → Booking
+planned_reservation start r = record {
+  key = r.key;
+  class = test_class r.test;
+  interval = planned_span start r;
+  priority = r.priority;
+  firm_from = firm_from_of start false;
+}
+
+-- the row lapses by m
+abbrev pub lapses : ℕ → RunRow → Bool
+lapses m r = is_some (lapse_of m r)
+
+-- the reservations without those of the rows that lapse by m
+abbrev pub released : ℕ → List RunRow → List Booking → List Booking
+released m [] bs = bs
+released m (r ∷ rs) bs = released m rs (if lapses m r then without_booking bs r.key else bs)
+
+-- the row, closed at m in favour of the run that has the key, where it clashes with it
+abbrev pub freed_row : ℕ → RunKey → Class → Span → RunRow → RunRow
+freed_row m key class interval r = if blocks class interval r then close_row (record { moment = m; why = Preempted key }) r else r
+
+abbrev pub freed_rows : ℕ → RunKey → Class → Span → List RunRow → List RunRow
+freed_rows m key class interval rows = map (freed_row m key class interval) rows
+
+-- the rows, those of the reservations in conflict with a run of this class and interval closed at m in favour of the run that has the key
+abbrev pub closed_each : ℕ → RunKey → Class → Span → List Booking → List RunRow → List RunRow
+closed_each m key class s [] rows = rows
+closed_each m key class s (b ∷ bs) rows =
+    closed_each m key class s bs (if conflicts_with class s b then change_row (close_row (record { moment = m; why = Preempted key })) rows b.key else rows)
+
+-- the rows, those of the keys closed at m in favour of the run that has the key
+abbrev pub closed_keys : ℕ → RunKey → List RunKey → List RunRow → List RunRow
+closed_keys m key [] rows = rows
+closed_keys m key (k ∷ ks) rows = closed_keys m key ks (change_row (close_row (record { moment = m; why = Preempted key })) rows k)
