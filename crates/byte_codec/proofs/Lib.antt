@@ -1,0 +1,4 @@
+mod Loop
+mod NoText
+mod Pushed
+mod WholeLemmas

@@ -1,0 +1,15 @@
+pub mod Changes
+pub mod Codec
+pub mod Gives
+pub mod Keys
+pub mod Laws
+pub mod ListLaws
+pub mod NumberLaws
+pub mod PairLaws
+pub mod Reading
+pub mod Reasons
+pub mod Rows
+pub mod States
+pub mod Tasks
+pub mod Tests
+pub mod TextLaws

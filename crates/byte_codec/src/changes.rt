@@ -1,0 +1,315 @@
+//! Changes and records as bytes.
+ghost use Rattle.std.specs.Prelude.{◌++◌, ◌∷◌, ◌≡◌, IfOk, OnOk};
+ghost use Rattle.byte_codec.specs.Changes.{FitsChange, WritableChange, accepted, accepted_of, asked, asked_of, change_cases, parts_accepted, parts_asked};
+ghost use Rattle.byte_codec.specs.Gives.{Gives};
+ghost use Rattle.byte_codec.specs.Reading.{made_at};
+ghost use Rattle.host_model.specs.declared.change.Change.{Change};
+
+use crate::coded::{
+    Coded, write_three, write_variant, write_variant_2, write_variant_3, write_variant_4,
+};
+use crate::fault::CodeFault;
+use archive_retry::state::ArchiveState;
+use host_model::change::{Change, Changes};
+use host_model::task_row::TaskRow;
+use limit_apply::limits::Limits;
+use plugin_core::test_spec::TestSpec;
+use ps_time::asker::Asker;
+use ps_time::interval::Window;
+use ps_time::items::Items;
+use ps_time::key::RunKey;
+use ps_time::memory::Memory;
+use ps_time::text::Text;
+use run_states::answer::{FreeAnswer, Told};
+use run_states::proposal::{Proposal, Question};
+use run_states::why::Why;
+use std::alloc::Global;
+
+type AcceptedParts = (
+    (RunKey, (TestSpec, Text)),
+    ((u64, (i16, Items<Text>)), (Asker, u32)),
+);
+
+type AskedParts = ((RunKey, (TestSpec, i16)), (Items<Text>, (Asker, Window)));
+
+fn write_accepted_parts(
+    alloc: Global,
+    proposal: &Proposal,
+    participants: &Items<Text>,
+    epoch: u32,
+    out: &mut Vec<u8>,
+) -> Result<(), Memory>
+    requires { WritableChange (Change.Accepted proposal.now participants.now epoch) }
+    ensures code { OnOk result (out.new.items ≡ out.old.items ++ accepted.code (parts_accepted proposal.now participants.now epoch)) }
+    ensures fits { OnOk result (FitsChange (Change.Accepted proposal.now participants.now epoch)) }
+{
+    write_three(alloc, &proposal.key, &proposal.test, &proposal.tool, out)?;
+    write_three(
+        alloc,
+        &proposal.start,
+        &proposal.priority,
+        participants,
+        out,
+    )?;
+    proposal.asker.write(alloc, out)?;
+    epoch.write(alloc, out)
+}
+
+fn write_accepted(
+    alloc: Global,
+    proposal: &Proposal,
+    participants: &Items<Text>,
+    epoch: u32,
+    out: &mut Vec<u8>,
+) -> Result<(), Memory>
+    requires { WritableChange (Change.Accepted proposal.now participants.now epoch) }
+    ensures code { OnOk result (out.new.items ≡ out.old.items ++ 3 ∷ accepted.code (parts_accepted proposal.now participants.now epoch)) }
+    ensures fits { OnOk result (FitsChange (Change.Accepted proposal.now participants.now epoch)) }
+{
+    out.push(3)?;
+    write_accepted_parts(alloc, proposal, participants, epoch, out)
+}
+
+fn read_accepted(alloc: Global, bytes: &[u8]) -> Result<(Change, &[u8]), CodeFault>
+    ensures value { Gives (λ x. (x.0, x.1.now)) result (made_at accepted_of accepted.read bytes.now) }
+    ensures fits { IfOk result (λ x. FitsChange x.0) }
+{
+    let (((key, (test, tool)), ((start, (priority, participants)), (asker, epoch))), rest) =
+        AcceptedParts::read(alloc, bytes)?;
+    let proposal = Proposal {
+        key,
+        test,
+        tool,
+        start,
+        priority,
+        asker,
+    };
+    Ok((
+        Change::Accepted {
+            proposal,
+            participants,
+            epoch,
+        },
+        rest,
+    ))
+}
+
+fn write_asked_parts(
+    alloc: Global,
+    question: &Question,
+    participants: &Items<Text>,
+    asker: &Asker,
+    out: &mut Vec<u8>,
+) -> Result<(), Memory>
+    requires { WritableChange (Change.Asked question.now participants.now asker.now) }
+    ensures code { OnOk result (out.new.items ≡ out.old.items ++ asked.code (parts_asked question.now participants.now asker.now)) }
+    ensures fits { OnOk result (FitsChange (Change.Asked question.now participants.now asker.now)) }
+{
+    write_three(
+        alloc,
+        &question.key,
+        &question.test,
+        &question.priority,
+        out,
+    )?;
+    write_three(alloc, participants, asker, &question.window, out)
+}
+
+fn write_asked(
+    alloc: Global,
+    question: &Question,
+    participants: &Items<Text>,
+    asker: &Asker,
+    out: &mut Vec<u8>,
+) -> Result<(), Memory>
+    requires { WritableChange (Change.Asked question.now participants.now asker.now) }
+    ensures code { OnOk result (out.new.items ≡ out.old.items ++ 4 ∷ asked.code (parts_asked question.now participants.now asker.now)) }
+    ensures fits { OnOk result (FitsChange (Change.Asked question.now participants.now asker.now)) }
+{
+    out.push(4)?;
+    write_asked_parts(alloc, question, participants, asker, out)
+}
+
+fn read_asked(alloc: Global, bytes: &[u8]) -> Result<(Change, &[u8]), CodeFault>
+    ensures value { Gives (λ x. (x.0, x.1.now)) result (made_at asked_of asked.read bytes.now) }
+    ensures fits { IfOk result (λ x. FitsChange x.0) }
+{
+    let (((key, (test, priority)), (participants, (asker, window))), rest) = AskedParts::read(
+        alloc, bytes,
+    )?;
+    let question = Question {
+        key,
+        test,
+        priority,
+        window,
+    };
+    Ok((
+        Change::Asked {
+            question,
+            participants,
+            asker,
+        },
+        rest,
+    ))
+}
+
+fn read_change(alloc: Global, number: u8, bytes: &[u8]) -> Result<(Change, &[u8]), CodeFault>
+    ensures value { Gives (λ x. (x.0, x.1.now)) result (change_cases number bytes.now) }
+    ensures fits { IfOk result (λ x. FitsChange x.0) }
+{
+    match number {
+        1 => {
+            let (row, rest) = TaskRow::read(alloc, bytes)?;
+            Ok((Change::Posted(row), rest))
+        }
+        2 => {
+            let (serial, rest) = u32::read(alloc, bytes)?;
+            Ok((Change::TaskClosed(serial), rest))
+        }
+        3 => read_accepted(alloc, bytes),
+        4 => read_asked(alloc, bytes),
+        5 => {
+            let ((key, (start, (tool, epoch))), rest) = <(RunKey, (u64, (Text, u32)))>::read(
+                alloc, bytes,
+            )?;
+            Ok((
+                Change::Planned {
+                    key,
+                    start,
+                    tool,
+                    epoch,
+                },
+                rest,
+            ))
+        }
+        6 => {
+            let (key, rest) = RunKey::read(alloc, bytes)?;
+            Ok((Change::Confirmed(key), rest))
+        }
+        7 => {
+            let ((key, why), rest) = <(RunKey, Why)>::read(alloc, bytes)?;
+            Ok((Change::Closed { key, why }, rest))
+        }
+        8 => {
+            let (key, rest) = RunKey::read(alloc, bytes)?;
+            Ok((Change::Started(key), rest))
+        }
+        9 => {
+            let ((key, (good, body)), rest) = <(RunKey, (bool, Text))>::read(alloc, bytes)?;
+            Ok((Change::Ended { key, good, body }, rest))
+        }
+        10 => {
+            let ((key, (place, answer)), rest) = <(RunKey, (u8, FreeAnswer))>::read(alloc, bytes)?;
+            Ok((Change::FreeHeard { key, place, answer }, rest))
+        }
+        11 => {
+            let ((key, place), rest) = <(RunKey, u8)>::read(alloc, bytes)?;
+            Ok((Change::AcceptHeard { key, place }, rest))
+        }
+        12 => {
+            let ((key, (place, told)), rest) = <(RunKey, (u8, Told))>::read(alloc, bytes)?;
+            Ok((Change::Told { key, place, told }, rest))
+        }
+        13 => {
+            let (key, rest) = RunKey::read(alloc, bytes)?;
+            Ok((Change::MaterialHeard(key), rest))
+        }
+        14 => {
+            let ((key, (place, result)), rest) = <(RunKey, (u8, Option<Text>))>::read(
+                alloc, bytes,
+            )?;
+            Ok((Change::ResultHeard { key, place, result }, rest))
+        }
+        15 => {
+            let ((key, body), rest) = <(RunKey, Text)>::read(alloc, bytes)?;
+            Ok((Change::Merged { key, body }, rest))
+        }
+        16 => {
+            let ((key, (index, state)), rest) = <(RunKey, (u8, ArchiveState))>::read(alloc, bytes)?;
+            Ok((Change::Tried { key, index, state }, rest))
+        }
+        17 => {
+            let (limits, rest) = <Limits as Coded>::read(alloc, bytes)?;
+            Ok((Change::LimitsSet(limits), rest))
+        }
+        18 => {
+            let (key, rest) = RunKey::read(alloc, bytes)?;
+            Ok((Change::Purged(key), rest))
+        }
+        _ => Err(CodeFault::NoValue),
+    }
+}
+
+impl Coded for Change {
+    ghost use Rattle.byte_codec.specs.Changes.{change, change_is};
+
+    ghost codec = { change };
+
+    fn write(&self, alloc: Global, out: &mut Vec<u8>) -> Result<(), Memory> {
+        match self {
+            Change::Posted(row) => write_variant(alloc, 1, row, out),
+            Change::TaskClosed(serial) => write_variant(alloc, 2, serial, out),
+            Change::Accepted {
+                proposal,
+                participants,
+                epoch,
+            } => write_accepted(alloc, proposal, participants, *epoch, out),
+            Change::Asked {
+                question,
+                participants,
+                asker,
+            } => write_asked(alloc, question, participants, asker, out),
+            Change::Planned {
+                key,
+                start,
+                tool,
+                epoch,
+            } => write_variant_4(alloc, 5, key, start, tool, epoch, out),
+            Change::Confirmed(key) => write_variant(alloc, 6, key, out),
+            Change::Closed { key, why } => write_variant_2(alloc, 7, key, why, out),
+            Change::Started(key) => write_variant(alloc, 8, key, out),
+            Change::Ended { key, good, body } => write_variant_3(alloc, 9, key, good, body, out),
+            Change::FreeHeard { key, place, answer } => write_variant_3(
+                alloc, 10, key, place, answer, out,
+            ),
+            Change::AcceptHeard { key, place } => write_variant_2(alloc, 11, key, place, out),
+            Change::Told { key, place, told } => write_variant_3(alloc, 12, key, place, told, out),
+            Change::MaterialHeard(key) => write_variant(alloc, 13, key, out),
+            Change::ResultHeard { key, place, result } => write_variant_3(
+                alloc, 14, key, place, result, out,
+            ),
+            Change::Merged { key, body } => write_variant_2(alloc, 15, key, body, out),
+            Change::Tried { key, index, state } => write_variant_3(
+                alloc, 16, key, index, state, out,
+            ),
+            Change::LimitsSet(limits) => write_variant(alloc, 17, limits, out),
+            Change::Purged(key) => write_variant(alloc, 18, key, out),
+        }
+    }
+
+    fn read(alloc: Global, bytes: &[u8]) -> Result<(Change, &[u8]), CodeFault> {
+        let (number, rest) = u8::read(alloc, bytes)?;
+        read_change(alloc, number, rest)
+    }
+
+    ghost laws = { change_is };
+}
+
+impl Coded for Changes {
+    ghost use Rattle.byte_codec.specs.Changes.{changes, changes_is};
+
+    ghost codec = { changes };
+
+    fn write(&self, alloc: Global, out: &mut Vec<u8>) -> Result<(), Memory> {
+        self.moment.write(alloc, out)?;
+        self.list.write(alloc, out)
+    }
+
+    fn read(alloc: Global, bytes: &[u8]) -> Result<(Changes, &[u8]), CodeFault> {
+        let ((moment, list), rest) = <(u64, Items<Change>)>::read(alloc, bytes)?;
+        let value = Changes { moment, list };
+        Ok((value, rest))
+    }
+
+    ghost laws = { changes_is };
+}

@@ -1,0 +1,231 @@
+//! Proposals, and why a run was denied or closed, as bytes.
+ghost use Rattle.std.specs.Prelude.{IfOk};
+ghost use Rattle.byte_codec.specs.Gives.{Gives};
+ghost use Rattle.byte_codec.specs.Reasons.{FitsCause, FitsDenial, FitsWhy, cause_cases, denial_cases, why_cases};
+
+use crate::coded::{Coded, write_three, write_variant, write_variant_2};
+use crate::fault::CodeFault;
+use plugin_core::test_spec::TestSpec;
+use ps_time::asker::{Asker, Verdict};
+use ps_time::key::RunKey;
+use ps_time::memory::Memory;
+use ps_time::text::Text;
+use run_states::proposal::Proposal;
+use run_states::state::State;
+use run_states::why::{Cause, Closing, Denial, What, Why};
+use std::alloc::Global;
+
+type ProposalParts = ((RunKey, (TestSpec, Text)), (u64, (i16, Asker)));
+
+impl Coded for Proposal {
+    ghost use Rattle.byte_codec.specs.Reasons.{proposal, proposal_is};
+
+    ghost codec = { proposal };
+
+    fn write(&self, alloc: Global, out: &mut Vec<u8>) -> Result<(), Memory> {
+        write_three(alloc, &self.key, &self.test, &self.tool, out)?;
+        write_three(alloc, &self.start, &self.priority, &self.asker, out)
+    }
+
+    fn read(alloc: Global, bytes: &[u8]) -> Result<(Proposal, &[u8]), CodeFault> {
+        let (((key, (test, tool)), (start, (priority, asker))), rest) = ProposalParts::read(
+            alloc, bytes,
+        )?;
+        let value = Proposal {
+            key,
+            test,
+            tool,
+            start,
+            priority,
+            asker,
+        };
+        Ok((value, rest))
+    }
+
+    ghost laws = { proposal_is };
+}
+
+fn read_denial(alloc: Global, number: u8, bytes: &[u8]) -> Result<(Denial, &[u8]), CodeFault>
+    ensures value { Gives (λ x. (x.0, x.1.now)) result (denial_cases number bytes.now) }
+    ensures fits { IfOk result (λ x. FitsDenial x.0) }
+{
+    match number {
+        1 => {
+            let (said, rest) = Verdict::read(alloc, bytes)?;
+            Ok((Denial::Limits(said), rest))
+        }
+        2 => {
+            let ((moment, start), rest) = <(u64, u64)>::read(alloc, bytes)?;
+            Ok((Denial::Past(moment, start), rest))
+        }
+        3 => {
+            let (run, rest) = RunKey::read(alloc, bytes)?;
+            Ok((Denial::Conflict(run), rest))
+        }
+        4 => {
+            let ((full, count), rest) = <(What, u64)>::read(alloc, bytes)?;
+            Ok((Denial::Full(full, count), rest))
+        }
+        5 => {
+            let ((kept, sent), rest) = <(Proposal, Proposal)>::read(alloc, bytes)?;
+            Ok((Denial::Differs(kept, sent), rest))
+        }
+        6 => {
+            let (name, rest) = State::read(alloc, bytes)?;
+            Ok((Denial::Closed(name), rest))
+        }
+        7 => Ok((Denial::NotParticipant, bytes)),
+        8 => {
+            let (tool, rest) = Text::read(alloc, bytes)?;
+            Ok((Denial::NoTool(tool), rest))
+        }
+        _ => Err(CodeFault::NoValue),
+    }
+}
+
+impl Coded for Denial {
+    ghost use Rattle.byte_codec.specs.Reasons.{denial, denial_is};
+
+    ghost codec = { denial };
+
+    fn write(&self, alloc: Global, out: &mut Vec<u8>) -> Result<(), Memory> {
+        match self {
+            Denial::Limits(said) => write_variant(alloc, 1, said, out),
+            Denial::Past(moment, start) => write_variant_2(alloc, 2, moment, start, out),
+            Denial::Conflict(run) => write_variant(alloc, 3, run, out),
+            Denial::Full(full, count) => write_variant_2(alloc, 4, full, count, out),
+            Denial::Differs(kept, sent) => write_variant_2(alloc, 5, kept, sent, out),
+            Denial::Closed(name) => write_variant(alloc, 6, name, out),
+            Denial::NotParticipant => {
+                out.push(7)?;
+                Ok(())
+            }
+            Denial::NoTool(tool) => write_variant(alloc, 8, tool, out),
+        }
+    }
+
+    fn read(alloc: Global, bytes: &[u8]) -> Result<(Denial, &[u8]), CodeFault> {
+        let (number, rest) = u8::read(alloc, bytes)?;
+        read_denial(alloc, number, rest)
+    }
+
+    ghost laws = { denial_is };
+}
+
+fn read_cause(alloc: Global, number: u8, bytes: &[u8]) -> Result<(Cause, &[u8]), CodeFault>
+    ensures value { Gives (λ x. (x.0, x.1.now)) result (cause_cases number bytes.now) }
+    ensures fits { IfOk result (λ x. FitsCause x.0) }
+{
+    match number {
+        0 => Ok((Cause::NoSlot, bytes)),
+        1 => Ok((Cause::NoTool, bytes)),
+        2 => {
+            let ((host, answer), rest) = <(Text, Denial)>::read(alloc, bytes)?;
+            Ok((Cause::Denied(host, answer), rest))
+        }
+        3 => Ok((Cause::Silent, bytes)),
+        4 => Ok((Cause::HoldEnded, bytes)),
+        _ => Err(CodeFault::NoValue),
+    }
+}
+
+impl Coded for Cause {
+    ghost use Rattle.byte_codec.specs.Reasons.{cause, cause_is};
+
+    ghost codec = { cause };
+
+    fn write(&self, alloc: Global, out: &mut Vec<u8>) -> Result<(), Memory> {
+        match self {
+            Cause::NoSlot => {
+                out.push(0)?;
+                Ok(())
+            }
+            Cause::NoTool => {
+                out.push(1)?;
+                Ok(())
+            }
+            Cause::Denied(host, answer) => write_variant_2(alloc, 2, host, answer, out),
+            Cause::Silent => {
+                out.push(3)?;
+                Ok(())
+            }
+            Cause::HoldEnded => {
+                out.push(4)?;
+                Ok(())
+            }
+        }
+    }
+
+    fn read(alloc: Global, bytes: &[u8]) -> Result<(Cause, &[u8]), CodeFault> {
+        let (number, rest) = u8::read(alloc, bytes)?;
+        read_cause(alloc, number, rest)
+    }
+
+    ghost laws = { cause_is };
+}
+
+fn read_why(alloc: Global, number: u8, bytes: &[u8]) -> Result<(Why, &[u8]), CodeFault>
+    ensures value { Gives (λ x. (x.0, x.1.now)) result (why_cases number bytes.now) }
+    ensures fits { IfOk result (λ x. FitsWhy x.0) }
+{
+    match number {
+        0 => Ok((Why::Missed, bytes)),
+        1 => {
+            let (run, rest) = RunKey::read(alloc, bytes)?;
+            Ok((Why::Preempted(run), rest))
+        }
+        2 => {
+            let (because, rest) = Cause::read(alloc, bytes)?;
+            Ok((Why::Nonstart(because), rest))
+        }
+        3 => Ok((Why::Canceled, bytes)),
+        _ => Err(CodeFault::NoValue),
+    }
+}
+
+impl Coded for Why {
+    ghost use Rattle.byte_codec.specs.Reasons.{why, why_is};
+
+    ghost codec = { why };
+
+    fn write(&self, alloc: Global, out: &mut Vec<u8>) -> Result<(), Memory> {
+        match self {
+            Why::Missed => {
+                out.push(0)?;
+                Ok(())
+            }
+            Why::Preempted(run) => write_variant(alloc, 1, run, out),
+            Why::Nonstart(because) => write_variant(alloc, 2, because, out),
+            Why::Canceled => {
+                out.push(3)?;
+                Ok(())
+            }
+        }
+    }
+
+    fn read(alloc: Global, bytes: &[u8]) -> Result<(Why, &[u8]), CodeFault> {
+        let (number, rest) = u8::read(alloc, bytes)?;
+        read_why(alloc, number, rest)
+    }
+
+    ghost laws = { why_is };
+}
+
+impl Coded for Closing {
+    ghost use Rattle.byte_codec.specs.Reasons.{closing, closing_is};
+
+    ghost codec = { closing };
+
+    fn write(&self, alloc: Global, out: &mut Vec<u8>) -> Result<(), Memory> {
+        self.moment.write(alloc, out)?;
+        self.why.write(alloc, out)
+    }
+
+    fn read(alloc: Global, bytes: &[u8]) -> Result<(Closing, &[u8]), CodeFault> {
+        let ((moment, why), rest) = <(u64, Why)>::read(alloc, bytes)?;
+        let value = Closing { moment, why };
+        Ok((value, rest))
+    }
+
+    ghost laws = { closing_is };
+}

@@ -1,0 +1,205 @@
+//! Rows of runs as bytes.
+ghost use Rattle.std.specs.Prelude.{◌++◌, ◌≡◌, OnOk};
+ghost use Rattle.byte_codec.specs.Rows.{ends, ends_of_row, lead, lead_of_row, row_of, steps, steps_of_row, work, work_of_row};
+
+use crate::coded::Coded;
+use crate::fault::CodeFault;
+use archive_retry::state::ArchiveState;
+use plugin_core::test_spec::TestSpec;
+use ps_time::asker::Asker;
+use ps_time::interval::{Interval, Window};
+use ps_time::items::Items;
+use ps_time::key::RunKey;
+use ps_time::memory::Memory;
+use ps_time::text::Text;
+use ps_time::tiers::Tiers;
+use run_states::answer::{FreeAnswer, Other};
+use run_states::row::{Ending, RunRow};
+use run_states::why::Closing;
+use std::alloc::Global;
+
+impl Coded for FreeAnswer {
+    ghost use Rattle.byte_codec.specs.Rows.{answer, answer_is};
+
+    ghost codec = { answer };
+
+    fn write(&self, alloc: Global, out: &mut Vec<u8>) -> Result<(), Memory> {
+        self.tools.write(alloc, out)?;
+        self.tiers.write(alloc, out)
+    }
+
+    fn read(alloc: Global, bytes: &[u8]) -> Result<(FreeAnswer, &[u8]), CodeFault> {
+        let ((tools, tiers), rest) = <(Items<Text>, Tiers)>::read(alloc, bytes)?;
+        let value = FreeAnswer { tools, tiers };
+        Ok((value, rest))
+    }
+
+    ghost laws = { answer_is };
+}
+
+impl Coded for Other {
+    ghost use Rattle.byte_codec.specs.Rows.{other, other_is};
+
+    ghost codec = { other };
+
+    fn write(&self, alloc: Global, out: &mut Vec<u8>) -> Result<(), Memory> {
+        self.free.write(alloc, out)?;
+        self.accepted.write(alloc, out)?;
+        self.confirm_told.write(alloc, out)?;
+        self.cancel_told.write(alloc, out)?;
+        self.material_told.write(alloc, out)?;
+        self.heard.write(alloc, out)
+    }
+
+    fn read(alloc: Global, bytes: &[u8]) -> Result<(Other, &[u8]), CodeFault> {
+        let ((free, (accepted, (confirm_told, (cancel_told, (material_told, heard))))), rest) = <(
+            Option<FreeAnswer>,
+            (bool, (bool, (bool, (bool, Option<Option<Text>>)))),
+        )>::read(alloc, bytes)?;
+        let value = Other {
+            free,
+            accepted,
+            confirm_told,
+            cancel_told,
+            material_told,
+            heard,
+        };
+        Ok((value, rest))
+    }
+
+    ghost laws = { other_is };
+}
+
+impl Coded for Ending {
+    ghost use Rattle.byte_codec.specs.Rows.{ending, ending_is};
+
+    ghost codec = { ending };
+
+    fn write(&self, alloc: Global, out: &mut Vec<u8>) -> Result<(), Memory> {
+        self.moment.write(alloc, out)?;
+        self.good.write(alloc, out)?;
+        self.body.write(alloc, out)
+    }
+
+    fn read(alloc: Global, bytes: &[u8]) -> Result<(Ending, &[u8]), CodeFault> {
+        let ((moment, (good, body)), rest) = <(u64, (bool, Text))>::read(alloc, bytes)?;
+        let value = Ending { moment, good, body };
+        Ok((value, rest))
+    }
+
+    ghost laws = { ending_is };
+}
+
+type Work = (RunKey, (TestSpec, (Option<Text>, (Option<Interval>, i16))));
+
+fn write_work(alloc: Global, row: &RunRow, out: &mut Vec<u8>) -> Result<(), Memory>
+    requires { work.Writable (work_of_row row.now) }
+    ensures code { OnOk result (out.new.items ≡ out.old.items ++ work.code (work_of_row row.now)) }
+    ensures fits { OnOk result (work.Fits (work_of_row row.now)) }
+{
+    row.key.write(alloc, out)?;
+    row.test.write(alloc, out)?;
+    row.tool.write(alloc, out)?;
+    row.interval.write(alloc, out)?;
+    row.priority.write(alloc, out)
+}
+
+type Steps = (
+    Items<Text>,
+    (Asker, (Option<u64>, (Option<u64>, Option<u64>))),
+);
+
+fn write_steps(alloc: Global, row: &RunRow, out: &mut Vec<u8>) -> Result<(), Memory>
+    requires { steps.Writable (steps_of_row row.now) }
+    ensures code { OnOk result (out.new.items ≡ out.old.items ++ steps.code (steps_of_row row.now)) }
+    ensures fits { OnOk result (steps.Fits (steps_of_row row.now)) }
+{
+    row.participants.write(alloc, out)?;
+    row.asker.write(alloc, out)?;
+    row.accepted.write(alloc, out)?;
+    row.confirmed.write(alloc, out)?;
+    row.started.write(alloc, out)
+}
+
+type Ends = (
+    Option<Ending>,
+    (
+        Option<u64>,
+        (Option<Closing>, (Option<Window>, Option<u64>)),
+    ),
+);
+
+fn write_ends(alloc: Global, row: &RunRow, out: &mut Vec<u8>) -> Result<(), Memory>
+    requires { ends.Writable (ends_of_row row.now) }
+    ensures code { OnOk result (out.new.items ≡ out.old.items ++ ends.code (ends_of_row row.now)) }
+    ensures fits { OnOk result (ends.Fits (ends_of_row row.now)) }
+{
+    row.ended.write(alloc, out)?;
+    row.material.write(alloc, out)?;
+    row.closed.write(alloc, out)?;
+    row.question.write(alloc, out)?;
+    row.asked.write(alloc, out)
+}
+
+type Lead = (Items<Other>, (Option<Text>, Items<ArchiveState>));
+
+fn write_lead(alloc: Global, row: &RunRow, out: &mut Vec<u8>) -> Result<(), Memory>
+    requires { lead.Writable (lead_of_row row.now) }
+    ensures code { OnOk result (out.new.items ≡ out.old.items ++ lead.code (lead_of_row row.now)) }
+    ensures fits { OnOk result (lead.Fits (lead_of_row row.now)) }
+{
+    row.others.write(alloc, out)?;
+    row.merged.write(alloc, out)?;
+    row.archives.write(alloc, out)
+}
+
+impl Coded for RunRow {
+    ghost use Rattle.byte_codec.specs.Rows.{row, row_is};
+
+    ghost codec = { row };
+
+    fn write(&self, alloc: Global, out: &mut Vec<u8>) -> Result<(), Memory> {
+        write_work(alloc, self, out)?;
+        write_steps(alloc, self, out)?;
+        write_ends(alloc, self, out)?;
+        write_lead(alloc, self, out)
+    }
+
+    fn read(alloc: Global, bytes: &[u8]) -> Result<(RunRow, &[u8]), CodeFault> {
+        let ((work, (steps, (ends, lead))), rest) = <(Work, (Steps, (Ends, Lead)))>::read(
+            alloc, bytes,
+        )?;
+        Ok((row_of(work, steps, ends, lead), rest))
+    }
+
+    ghost laws = { row_is };
+}
+
+fn row_of(work: Work, steps: Steps, ends: Ends, lead: Lead) -> RunRow
+    ensures { result ≡ row_of (work, (steps, (ends, lead))) }
+{
+    let (key, (test, (tool, (interval, priority)))) = work;
+    let (participants, (asker, (accepted, (confirmed, started)))) = steps;
+    let (ended, (material, (closed, (question, asked)))) = ends;
+    let (others, (merged, archives)) = lead;
+    RunRow {
+        key,
+        test,
+        tool,
+        interval,
+        priority,
+        participants,
+        asker,
+        accepted,
+        confirmed,
+        started,
+        ended,
+        material,
+        closed,
+        question,
+        asked,
+        others,
+        merged,
+        archives,
+    }
+}

@@ -1,0 +1,99 @@
+//! Trees of texts, and tests as bytes.
+ghost use Rattle.std.specs.Prelude.{◌≡◌, ◌≤◌, IfOk, Ok, length};
+ghost use Rattle.serde_json.specs.View.{view};
+ghost use Rattle.ps_json.specs.Tree.{tree_of};
+ghost use Rattle.plugin_core.specs.Bounds.{IsTest};
+ghost use Rattle.plugin_core.specs.ReadTest.{test_of};
+ghost use Rattle.plugin_core.specs.WriteTest.{most_test_bytes, test_data};
+ghost use Rattle.byte_codec.specs.Codec.{IsText};
+ghost use Rattle.byte_codec.specs.Gives.{Gives};
+ghost use Rattle.byte_codec.specs.Tests.{FitsTest, ok_of, own_test, test_in, test_text};
+
+use crate::coded::Coded;
+use crate::fault::CodeFault;
+use plugin_core::fault::SpecFault;
+use plugin_core::read_test::read_test;
+use plugin_core::test_spec::TestSpec;
+use plugin_core::write_test::{law_test_text, write_test};
+use ps_json::fault::JsonFault;
+use ps_json::tree::{read_tree, write_text};
+use ps_time::memory::Memory;
+use ps_time::text::Text;
+use serde_json::Value;
+use std::alloc::Global;
+
+/// The tree of a text.
+pub fn tree_in(alloc: Global, text: &Text) -> Result<Value, CodeFault>
+    ensures { Gives view result (ok_of (tree_of text.now)) }
+{
+    match read_tree(alloc, text.as_str().as_bytes()) {
+        Ok(value) => Ok(value),
+        Err(JsonFault::Memory) => Err(CodeFault::Memory),
+        Err(_) => Err(CodeFault::NoValue),
+    }
+}
+
+fn test_of(alloc: Global, value: Value) -> Result<TestSpec, CodeFault>
+    ensures value { Gives (λ test. test) result (ok_of (test_of (view value))) }
+    ensures bounds { IfOk result IsTest }
+{
+    match read_test(alloc, value) {
+        Ok(test) => Ok(test),
+        Err(SpecFault::Memory) => Err(CodeFault::Memory),
+        Err(_) => Err(CodeFault::NoValue),
+    }
+}
+
+fn test_text(alloc: Global, test: &TestSpec) -> Result<Text, Memory>
+    requires { IsTest test.now }
+    ensures text { IfOk result (λ text. text ≡ test_text test.now) }
+    ensures tree { IfOk result (λ text. tree_of text ≡ Ok (test_data test.now)) }
+    ensures short { IfOk result (λ text. length text ≤ most_test_bytes) }
+{
+    law_test_text();
+    let value = write_test(alloc, test)?;
+    write_text(alloc, &value)
+}
+
+/// The test, where the text is its own.
+fn own_test(alloc: Global, text: &Text, test: TestSpec) -> Result<TestSpec, CodeFault>
+    requires test { IsTest test }
+    requires text { IsText text.now }
+    ensures value { Gives (λ test. test) result (own_test text.now test) }
+    ensures fits { IfOk result FitsTest }
+{
+    let own = test_text(alloc, &test)?;
+    if own.as_str() == text.as_str() {
+        Ok(test)
+    } else {
+        Err(CodeFault::NoValue)
+    }
+}
+
+fn test_in(alloc: Global, text: &Text) -> Result<TestSpec, CodeFault>
+    requires { IsText text.now }
+    ensures value { Gives (λ test. test) result (test_in text.now) }
+    ensures fits { IfOk result FitsTest }
+{
+    let value = tree_in(alloc, text)?;
+    let test = test_of(alloc, value)?;
+    own_test(alloc, text, test)
+}
+
+impl Coded for TestSpec {
+    ghost use Rattle.byte_codec.specs.Tests.{test, test_is};
+
+    ghost codec = { test };
+
+    fn write(&self, alloc: Global, out: &mut Vec<u8>) -> Result<(), Memory> {
+        test_text(alloc, self)?.write(alloc, out)
+    }
+
+    fn read(alloc: Global, bytes: &[u8]) -> Result<(TestSpec, &[u8]), CodeFault> {
+        let (text, rest) = Text::read(alloc, bytes)?;
+        let test = test_in(alloc, &text)?;
+        Ok((test, rest))
+    }
+
+    ghost laws = { test_is };
+}

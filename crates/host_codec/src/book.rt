@@ -1,0 +1,161 @@
+//! Books as bytes: snapshots of the second format.
+ghost use Rattle.std.specs.Prelude.{◌++◌, ◌≡◌, IfOk, IfSome, OnOk, Some};
+ghost use Rattle.byte_codec.specs.Gives.{Gives};
+ghost use Rattle.byte_codec.specs.Reading.{whole_of};
+ghost use Rattle.host_model.specs.Book.{Book};
+ghost use Rattle.host_codec.specs.Books.{back, back_of, book, epochs, front, front_of, lent, second};
+
+use byte_codec::coded::Coded;
+use byte_codec::fault::CodeFault;
+use byte_codec::lists::write_list;
+use byte_codec::whole::read_whole;
+use host_model::task_row::TaskRow;
+use limit_apply::limits::Limits;
+use ps_time::items::Items;
+use ps_time::key::RunKey;
+use ps_time::memory::Memory;
+use ps_time::moment::Moment;
+use run_states::row::RunRow;
+use std::alloc::Global;
+use std::marker::Model;
+
+/// What a host keeps, seen by contracts as its book.
+#[derive(Drop)]
+pub struct KeptBook {
+    /// The latest moment, in seconds since 1970 UTC.
+    pub moment: Moment,
+    /// The limits that were set, numbered from 1.
+    pub epochs: Items<Limits>,
+    /// For each accepted run the number of its epoch, 0 where there was none.
+    pub pairs: Items<(RunKey, u32)>,
+    /// The tasks, in the order of their serials.
+    pub tasks: Items<TaskRow>,
+    /// The rows, ascending by key.
+    pub rows: Items<RunRow>,
+}
+
+impl Model for KeptBook {
+    ghost use Rattle.host_model.specs.Book.{Book};
+
+    ghost Value = { Book };
+
+    ghost view = { λ b. record { moment = b.moment; epochs = b.epochs; pairs = b.pairs; tasks = b.tasks; rows = b.rows } };
+}
+
+/// The parts of a book, lent to be written.
+#[derive(Clone, Copy)]
+pub struct BookParts<'a> {
+    /// The latest moment, in seconds since 1970 UTC.
+    pub moment: Moment,
+    /// The limits that were set, numbered from 1.
+    pub epochs: &'a [Limits],
+    /// For each accepted run the number of its epoch, 0 where there was none.
+    pub pairs: &'a [(RunKey, u32)],
+    /// The tasks, in the order of their serials.
+    pub tasks: &'a [TaskRow],
+    /// The rows, ascending by key.
+    pub rows: &'a [RunRow],
+}
+
+fn write_mark(alloc: Global, out: &mut Vec<u8>) -> Result<(), Memory>
+    ensures { OnOk result (out.new.items ≡ out.old.items ++ second.code tt) }
+{
+    u64::MAX.write(alloc, out)?;
+    2u32.write(alloc, out)
+}
+
+fn write_epochs(alloc: Global, parts: &BookParts<'_>, out: &mut Vec<u8>) -> Result<(), Memory>
+    requires { epochs.Writable (front_of (lent parts.now)).1 }
+    ensures code { OnOk result (out.new.items ≡ out.old.items ++ epochs.code (front_of (lent parts.now)).1) }
+    ensures fits { OnOk result (epochs.Fits (front_of (lent parts.now)).1) }
+{
+    write_list(alloc, parts.epochs, out)?;
+    write_list(alloc, parts.pairs, out)
+}
+
+fn write_front(alloc: Global, parts: &BookParts<'_>, out: &mut Vec<u8>) -> Result<(), Memory>
+    requires { front.Writable (front_of (lent parts.now)) }
+    ensures code { OnOk result (out.new.items ≡ out.old.items ++ front.code (front_of (lent parts.now))) }
+    ensures fits { OnOk result (front.Fits (front_of (lent parts.now))) }
+{
+    parts.moment.write(alloc, out)?;
+    write_epochs(alloc, parts, out)
+}
+
+fn write_back(alloc: Global, parts: &BookParts<'_>, out: &mut Vec<u8>) -> Result<(), Memory>
+    requires { back.Writable (back_of (lent parts.now)) }
+    ensures code { OnOk result (out.new.items ≡ out.old.items ++ back.code (back_of (lent parts.now))) }
+    ensures fits { OnOk result (back.Fits (back_of (lent parts.now))) }
+{
+    write_list(alloc, parts.tasks, out)?;
+    write_list(alloc, parts.rows, out)
+}
+
+/// Adds the snapshot of a book.
+pub fn write_book(alloc: Global, parts: &BookParts<'_>, out: &mut Vec<u8>) -> Result<(), Memory>
+    requires { book.Writable (lent parts.now) }
+    ensures code { OnOk result (out.new.items ≡ out.old.items ++ book.code (lent parts.now)) }
+    ensures fits { OnOk result (book.Fits (lent parts.now)) }
+{
+    write_mark(alloc, out)?;
+    write_front(alloc, parts, out)?;
+    write_back(alloc, parts, out)
+}
+
+fn read_mark(alloc: Global, bytes: &[u8]) -> Result<&[u8], CodeFault>
+    ensures { Gives (λ rest. (tt, rest.now)) result (second.read bytes.now) }
+{
+    let ((greatest, format), rest) = <(u64, u32)>::read(alloc, bytes)?;
+    if greatest == u64::MAX && format == 2 {
+        Ok(rest)
+    } else {
+        Err(CodeFault::NoValue)
+    }
+}
+
+type Front = (u64, (Items<Limits>, Items<(RunKey, u32)>));
+
+type Back = (Items<TaskRow>, Items<RunRow>);
+
+impl Coded for KeptBook {
+    ghost use Rattle.host_codec.specs.Books.{book, book_is};
+
+    ghost codec = { book };
+
+    fn write(&self, alloc: Global, out: &mut Vec<u8>) -> Result<(), Memory> {
+        let parts = BookParts {
+            moment: self.moment,
+            epochs: self.epochs.as_slice(),
+            pairs: self.pairs.as_slice(),
+            tasks: self.tasks.as_slice(),
+            rows: self.rows.as_slice(),
+        };
+        write_book(alloc, &parts, out)
+    }
+
+    fn read(alloc: Global, bytes: &[u8]) -> Result<(KeptBook, &[u8]), CodeFault> {
+        let rest = read_mark(alloc, bytes)?;
+        let (((moment, (epochs, pairs)), (tasks, rows)), rest) = <(Front, Back)>::read(
+            alloc, rest,
+        )?;
+        let kept = KeptBook {
+            moment,
+            epochs,
+            pairs,
+            tasks,
+            rows,
+        };
+        Ok((kept, rest))
+    }
+
+    ghost laws = { book_is };
+}
+
+/// The book whose snapshot of the second format these bytes are, followed by nothing; `None` where they are that of none.
+pub fn read_book(alloc: Global, bytes: &[u8]) -> Result<Option<KeptBook>, Memory>
+    ensures found { IfOk result (λ o. IfSome o (λ b. book.Fits b × (bytes.now ≡ book.code b))) }
+    ensures only { IfOk result (λ o. (b : Book) → book.Fits b → bytes.now ≡ book.code b → o ≡ Some b) }
+    ensures exact { IfOk result (λ o. o ≡ whole_of (book.read bytes.now)) }
+{
+    read_whole::<KeptBook>(alloc, bytes)
+}

@@ -1,0 +1,5 @@
+//! Records and snapshots of a host as bytes.
+#![tactic(auto)]
+
+pub mod book;
+pub mod record;
