@@ -1,0 +1,3 @@
+pub mod Keeper
+pub mod Row
+pub mod Statement

@@ -1,0 +1,6 @@
+//! A keeper of results over SQL, in memory and in a file.
+#![tactic(auto)]
+
+mod row;
+pub mod sqlite_keeper;
+pub mod statement;

@@ -1,0 +1,187 @@
+//! A keeper over SQL.
+ghost use Rattle.std.specs.Prelude.{◌≡◌, ◌≤◌, ℕ, List, [], ◌∷◌, Option, IfOk, OnOk, OnErr, IfErr, IfSome, length, All, Ok, Err};
+ghost use Rattle.sqlite.specs.State.{HasCleanDisk, Executes, Shown};
+ghost use Rattle.sqlite.specs.Order.{Row as Values};
+ghost use Rattle.sqlite.specs.declared.error.Error.{Error as SqlError};
+ghost use Rattle.ps_ports.specs.Causes.{Rose, counted, raised};
+ghost use Rattle.ps_time.specs.Numbers.{greatest_moment};
+ghost use Rattle.result_keeper.specs.Keeper.{store_of, faults_with, put_params, get_params, list_params};
+ghost use Rattle.result_keeper.specs.Row.{IsFound, AreRowsOf};
+ghost use Rattle.result_keeper.specs.Statement.{put_text, get_text, list_text};
+ghost use Rattle.result_table.specs.Record.{put_record, find_record, first_above, IsTable, HasMoments, IsAbove};
+ghost use Rattle.result_table.specs.declared.record.Record.{Record as Kept};
+
+use crate::row::{read_found, read_list, text_after};
+use crate::statement::{create_table, get_rows, list_rows, put_row};
+use ps_ports::faults::Faults;
+use ps_time::id::{Id, id_text};
+use ps_time::key::RunKey;
+use ps_time::moment::Moment;
+use result_table::keeper::{Keeper, KeeperFault};
+use result_table::record::{Record, is_good};
+use sqlite::{Alter, Connection, Error, ErrorCode, File, FileStore, MemStore};
+use std::alloc::Global;
+
+/// A keeper whose records are the rows of a table `result`: the identifier of the run, both moments in seconds, 1 or 0 for
+/// `good`, and the body.
+#[derive(Drop)]
+pub struct SqliteKeeper<S: Alter> {
+    conn: Connection<S>,
+    faults: Faults,
+}
+
+/// What a refusal of the database means for a keeper.
+fn fault_of(error: &Error) -> KeeperFault {
+    match error {
+        Error::SqliteFailure(ErrorCode::OutOfMemory) => KeeperFault::Memory,
+        _ => KeeperFault::Failed,
+    }
+}
+
+impl SqliteKeeper<MemStore> {
+    /// A keeper in memory, with no records.
+    pub fn in_memory(alloc: Global) -> Result<SqliteKeeper<MemStore>, KeeperFault> {
+        SqliteKeeper::over(Connection::open_in_memory(alloc)?)
+    }
+}
+
+impl SqliteKeeper<FileStore<File>> {
+    /// A keeper over a database in a file, which is made where it isn't there. `Failed` where the file can't be opened, as
+    /// one that another program holds, or is no database.
+    pub fn open(
+        rt: &HostRuntime,
+        path: &str,
+    ) -> Result<SqliteKeeper<FileStore<File>>, KeeperFault> {
+        match Connection::open(rt, path) {
+            Ok(conn) => SqliteKeeper::over(conn),
+            Err(error) => Err(fault_of(&error)),
+        }
+    }
+}
+
+impl<S: Alter + Drop> SqliteKeeper<S> {
+    /// Makes the table, where it isn't there.
+    fn over(mut conn: Connection<S>) -> Result<SqliteKeeper<S>, KeeperFault> {
+        match create_table(&mut conn) {
+            Ok(_) => Ok(SqliteKeeper {
+                conn,
+                faults: Faults::none(),
+            }),
+            Err(error) => Err(fault_of(&error)),
+        }
+    }
+}
+
+/// Counts that the database refused a statement, unless memory was wanting.
+fn count_refusal(faults: &mut Faults, error: &Error) -> KeeperFault
+    ensures { faults.new ≡ faults_with faults.old result }
+{
+    let fault = fault_of(error);
+    if fault == KeeperFault::Failed {
+        faults.raise();
+    }
+    fault
+}
+
+/// Counts that rows are no records.
+fn count_unread(faults: &mut Faults) -> KeeperFault
+    ensures fault { result ≡ KeeperFault.Failed }
+    ensures count { faults.new ≡ raised faults.old }
+{
+    faults.raise();
+    KeeperFault::Failed
+}
+
+impl<S: Alter> Keeper for SqliteKeeper<S> {
+    ghost use Rattle.sqlite.specs.State.{HasCleanDisk};
+    ghost use Rattle.ps_ports.specs.Causes.{counted, counted_fits};
+    ghost use Rattle.result_keeper.specs.Keeper.{store_of};
+
+    ghost keeper_faults = { λ k. counted k.faults };
+
+    ghost has_table = { λ _ _. ⊥ };
+
+    ghost is_sound = { λ k. HasCleanDisk (store_of S.Store k) };
+
+    fn put(
+        &mut self,
+        alloc: Global,
+        key: RunKey,
+        moment: Moment,
+        body: &str,
+    ) -> Result<(), KeeperFault>
+        requires { moment ≤ greatest_moment }
+        ensures later { counted self.old.faults ≤ counted self.new.faults }
+        ensures failed { result ≡ Err KeeperFault.Failed → Rose (counted self.old.faults) (counted self.new.faults) }
+        ensures sound { HasCleanDisk (store_of S.Store self.new) → HasCleanDisk (store_of S.Store self.old) }
+        ensures ok { (table : List Kept) → ⊥ → HasCleanDisk (store_of S.Store self.new) → OnOk result ⊥ }
+        ensures err { (table : List Kept) → ⊥ → HasCleanDisk (store_of S.Store self.new) → OnErr result ⊥ }
+        ensures runs { HasCleanDisk (store_of S.Store self.new)
+            → OnOk result ((count : ℕ) × Executes put_text (put_params key moment body.now) (store_of S.Store self.old) (store_of S.Store self.new) (Ok count)) }
+        ensures refused { HasCleanDisk (store_of S.Store self.new) → result ≡ Err KeeperFault.Failed
+            → (error : SqlError) × Executes put_text (put_params key moment body.now) (store_of S.Store self.old) (store_of S.Store self.new) (Err error) }
+    {
+        let id = id_text(alloc, Id::Run(key))?;
+        let good = is_good(alloc, body)?;
+        match put_row(&mut self.conn, id.as_str(), moment, good, body) {
+            Ok(_changed) => Ok(()),
+            Err(error) => Err(count_refusal(&mut self.faults, &error)),
+        }
+    }
+
+    fn get(&mut self, alloc: Global, key: RunKey) -> Result<Option<Record>, KeeperFault>
+        ensures later { counted self.old.faults ≤ counted self.new.faults }
+        ensures failed { result ≡ Err KeeperFault.Failed → Rose (counted self.old.faults) (counted self.new.faults) }
+        ensures sound { HasCleanDisk (store_of S.Store self.new) → HasCleanDisk (store_of S.Store self.old) }
+        ensures found { (table : List Kept) → ⊥ → HasCleanDisk (store_of S.Store self.new)
+            → IfOk result (λ found. found ≡ find_record table key) }
+        ensures stays { (table : List Kept) → ⊥ → HasCleanDisk (store_of S.Store self.new) → ⊥ }
+        ensures bound { IfOk result (λ found. IfSome found (λ r. (r.key ≡ key) × HasMoments r)) }
+        ensures shown { HasCleanDisk (store_of S.Store self.new) → IfOk result (λ found. (rows : List Values)
+            × Shown get_text (get_params key) (store_of S.Store self.old) (store_of S.Store self.new) rows × IsFound rows found) }
+    {
+        let id = id_text(alloc, Id::Run(key))?;
+        let rows = match get_rows(&mut self.conn, id.as_str()) {
+            Ok(rows) => rows,
+            Err(error) => return Err(count_refusal(&mut self.faults, &error)),
+        };
+        match read_found(alloc, rows.as_slice(), key)? {
+            Some(found) => Ok(found),
+            None => Err(count_unread(&mut self.faults)),
+        }
+    }
+
+    fn list(
+        &mut self,
+        alloc: Global,
+        after: Option<RunKey>,
+        count: u32,
+    ) -> Result<Vec<Record>, KeeperFault>
+        ensures later { counted self.old.faults ≤ counted self.new.faults }
+        ensures failed { result ≡ Err KeeperFault.Failed → Rose (counted self.old.faults) (counted self.new.faults) }
+        ensures sound { HasCleanDisk (store_of S.Store self.new) → HasCleanDisk (store_of S.Store self.old) }
+        ensures records { (table : List Kept) → ⊥ → HasCleanDisk (store_of S.Store self.new)
+            → IfOk result (λ records. records.items ≡ first_above table after count) }
+        ensures stays { (table : List Kept) → ⊥ → HasCleanDisk (store_of S.Store self.new) → ⊥ }
+        ensures count { IfOk result (λ records. length records.items ≤ count) }
+        ensures ascending { IfOk result (λ records. IsTable records.items) }
+        ensures above { IfOk result (λ records. All (IsAbove after) records.items) }
+        ensures moments { IfOk result (λ records. All HasMoments records.items) }
+        ensures shown { HasCleanDisk (store_of S.Store self.new) → IfOk result (λ records. (rows : List Values)
+            × Shown list_text (list_params after count) (store_of S.Store self.old) (store_of S.Store self.new) rows × AreRowsOf rows records.items) }
+    {
+        let id = text_after(alloc, after)?;
+        let rows = match list_rows(&mut self.conn, id.as_str(), i64::from(count)) {
+            Ok(rows) => rows,
+            Err(error) => return Err(count_refusal(&mut self.faults, &error)),
+        };
+        match read_list(alloc, rows.as_slice(), after, count)? {
+            Some(records) => Ok(records),
+            None => Err(count_unread(&mut self.faults)),
+        }
+    }
+
+    ghost is_table = { λ keeper table has. absurd has };
+
+    ghost keeper_faults_fit = { λ k. counted_fits k.faults };
+}

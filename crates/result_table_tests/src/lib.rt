@@ -1,0 +1,5 @@
+//! The tests of result_table, over its public items.
+#![tactic(auto)]
+
+#[cfg(test)]
+mod tests;
