@@ -1,0 +1,245 @@
+//! Requests as inputs.
+ghost use Rattle.std.specs.Prelude.{◌≡◌, ◌≤◌, Ok};
+ghost use Rattle.std.specs.Option.{option_copied};
+ghost use Rattle.ps_json.specs.Answer.{GivesUnless};
+ghost use Rattle.ps_time.specs.declared.moment.TheConstants.{MAX_MOMENT};
+ghost use Rattle.host_model.specs.Propose.{find_peer};
+ghost use Rattle.api_input.specs.Query.{window_of};
+ghost use Rattle.api_input.specs.Understood.{sender_of, schedule_input, posted_input, task_input, open_input, public_input, asked_by, from_peer, input_at, understood};
+
+use crate::bodies::{read_body, read_material, read_proposal, read_question};
+use crate::parts::Parts;
+use crate::place::{PeerPlace, Place, PublicPlace, find_target};
+use crate::query::read_window;
+use crate::refusal::Refusal;
+use host_model::config::{Config, Peer};
+use host_model::input::Input;
+use host_model::view::Page;
+use ps_http::message::{PeerMark, Request};
+use ps_time::moment::Moment;
+use ps_time::text::Text;
+use std::alloc::Global;
+use task_spec::task::Task;
+
+/// The most bytes of the texts of a proposal: no body has more, and the name of a peer has at most 63.
+const MOST_TEXTS: usize = 1_114_112;
+
+fn find_peer<'c>(peers: &'c [Peer], number: u16) -> Option<&'c Peer>
+    ensures { option_copied result ≡ find_peer peers.entry.now number }
+{
+    for peer in peers {
+        if peer.number == number {
+            return Some(peer);
+        }
+    }
+    None
+}
+
+/// The peer that sends a request with this mark, if it shows that peer's key.
+fn find_sender<'c>(peers: &'c [Peer], mark: &Option<PeerMark>) -> Option<&'c Peer>
+    ensures { option_copied result ≡ sender_of peers.entry.now mark.now }
+{
+    let mark = mark.as_ref()?;
+    let peer = find_peer(peers, mark.number)?;
+    if !peer.key.is(mark.key.as_str()) {
+        return None;
+    }
+    Some(peer)
+}
+
+fn view(page: Page) -> Result<Input, Refusal>
+    ensures { result ≡ Ok (Input.View page) }
+{
+    Ok(Input::View(page))
+}
+
+fn read_schedule(alloc: Global, moment: Moment, query: &Option<Text>) -> Result<Input, Refusal>
+    requires { moment ≤ MAX_MOMENT }
+    ensures value { GivesUnless Refusal.Memory result (schedule_input (window_of moment query.now)) }
+{
+    match read_window(alloc, moment, query)? {
+        None => Err(Refusal::Query),
+        Some(window) => view(Page::Schedule {
+            start: window.start,
+            end: window.end,
+        }),
+    }
+}
+
+fn read_post(
+    alloc: Global,
+    lead: &str,
+    body: &[u8],
+    address: &str,
+    moment: Moment,
+) -> Result<Input, Refusal>
+    requires { moment ≤ MAX_MOMENT }
+    ensures value { GivesUnless Refusal.Memory result (posted_input lead.now body.now address.now moment) }
+{
+    let requester = Text::new(alloc, address)?;
+    let value = read_body(alloc, body)?;
+    let task = Task::read(alloc, value, moment, lead)?;
+    Ok(Input::Post { task, requester })
+}
+
+fn read_tasks(
+    alloc: Global,
+    config: &Config,
+    request: &Request,
+    address: &str,
+    moment: Moment,
+) -> Result<Input, Refusal>
+    requires { moment ≤ MAX_MOMENT }
+    ensures value { GivesUnless Refusal.Memory result (open_input config.now PublicPlace.Tasks request.now address.now moment) }
+{
+    if request.method.is("POST") {
+        return read_post(
+            alloc,
+            config.name.as_str(),
+            request.body.as_slice(),
+            address,
+            moment,
+        );
+    }
+    view(Page::Tasks)
+}
+
+fn read_task(alloc: Global, request: &Request, address: &str, serial: u32) -> Result<Input, Refusal>
+    ensures value { GivesUnless Refusal.Memory result (task_input serial request.now.method address.now) }
+{
+    if request.method.is("DELETE") {
+        let requester = Text::new(alloc, address)?;
+        return Ok(Input::Cancel {
+            task: serial,
+            requester,
+        });
+    }
+    view(Page::Task(serial))
+}
+
+fn read_open(
+    alloc: Global,
+    config: &Config,
+    place: PublicPlace,
+    request: &Request,
+    address: &str,
+    moment: Moment,
+) -> Result<Input, Refusal>
+    requires { moment ≤ MAX_MOMENT }
+    ensures value { GivesUnless Refusal.Memory result (open_input config.now place request.now address.now moment) }
+{
+    match place {
+        PublicPlace::Home => view(Page::Home),
+        PublicPlace::Clock => view(Page::Clock),
+        PublicPlace::Tests => view(Page::Tests),
+        PublicPlace::Tools => view(Page::Tools),
+        PublicPlace::Archivers => view(Page::Archivers),
+        PublicPlace::Test => {
+            let parts = Parts::of_path(alloc, request.path.as_str())?;
+            view(Page::Test(Text::new(alloc, parts.at(3))?))
+        }
+        PublicPlace::Tasks => read_tasks(alloc, config, request, address, moment),
+        PublicPlace::Task(serial) => read_task(alloc, request, address, serial),
+        PublicPlace::Runs(serial) => view(Page::Runs(serial)),
+        PublicPlace::Run(key) => view(Page::Run(key)),
+        PublicPlace::Schedule => read_schedule(alloc, moment, &request.query),
+    }
+}
+
+fn read_public(
+    alloc: Global,
+    config: &Config,
+    place: PublicPlace,
+    request: &Request,
+    address: &str,
+    moment: Moment,
+) -> Result<Input, Refusal>
+    requires { moment ≤ MAX_MOMENT }
+    ensures value { GivesUnless Refusal.Memory result (public_input config.now place request.now address.now moment) }
+{
+    if request.query.is_some() && place != PublicPlace::Schedule {
+        return Err(Refusal::Query);
+    }
+    read_open(alloc, config, place, request, address, moment)
+}
+
+fn read_asked(alloc: Global, place: PeerPlace, body: &[u8], peer: &Peer) -> Result<Input, Refusal>
+    ensures value { GivesUnless Refusal.Memory result (asked_by place body.now peer.now) }
+{
+    let sender = peer.number;
+    match place {
+        PeerPlace::Free => {
+            let question = read_question(alloc, read_body(alloc, body)?)?;
+            Ok(Input::Free { sender, question })
+        }
+        PeerPlace::Propose => {
+            let value = read_body(alloc, body)?;
+            let proposal = read_proposal(alloc, value, peer.name.as_str(), MOST_TEXTS)?;
+            Ok(Input::Propose { sender, proposal })
+        }
+        PeerPlace::Drop(key) => Ok(Input::Drop { sender, key }),
+        PeerPlace::Confirm(key) => Ok(Input::Confirm { sender, key }),
+        PeerPlace::Material(key) => {
+            let text = read_material(alloc, read_body(alloc, body)?)?;
+            Ok(Input::Material { sender, key, text })
+        }
+        PeerPlace::Result(key) => Ok(Input::Collect { sender, key }),
+    }
+}
+
+fn read_from_peer(
+    alloc: Global,
+    config: &Config,
+    place: PeerPlace,
+    request: &Request,
+) -> Result<Input, Refusal>
+    ensures value { GivesUnless Refusal.Memory result (from_peer place request.now (sender_of config.now.peers request.now.peer)) }
+{
+    let Some(peer) = find_sender(config.peers.as_slice(), &request.peer) else {
+        return Err(Refusal::NoPeerKey);
+    };
+    if request.query.is_some() {
+        return Err(Refusal::Query);
+    }
+    read_asked(alloc, place, request.body.as_slice(), peer)
+}
+
+fn read_at(
+    alloc: Global,
+    config: &Config,
+    place: Place,
+    request: &Request,
+    address: &str,
+    moment: Moment,
+) -> Result<Input, Refusal>
+    requires { moment ≤ MAX_MOMENT }
+    ensures value { GivesUnless Refusal.Memory result (input_at config.now place request.now address.now moment) }
+{
+    match place {
+        Place::Public(place) => read_public(alloc, config, place, request, address, moment),
+        Place::Peer(place) => read_from_peer(alloc, config, place, request),
+    }
+}
+
+/// What a request from this address asks of the host with this configuration at this moment, in seconds since 1970
+/// UTC; or why it is refused, by the first of the tests of path, method, peer key, query and body that it fails.
+pub fn read_input(
+    alloc: Global,
+    config: &Config,
+    request: &Request,
+    address: &str,
+    moment: Moment,
+) -> Result<Input, Refusal>
+    requires { moment ≤ MAX_MOMENT }
+    ensures value { GivesUnless Refusal.Memory result (understood config.now request.now address.now moment) }
+{
+    let path = request.path.as_str();
+    let parts = Parts::of_path(alloc, path)?;
+    let Some(target) = find_target(config.number, path, &parts) else {
+        return Err(Refusal::NotFound);
+    };
+    if !target.methods.allows(request.method.as_str()) {
+        return Err(Refusal::Method(target.methods));
+    }
+    read_at(alloc, config, target.place, request, address, moment)
+}
