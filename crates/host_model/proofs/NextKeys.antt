@@ -63,7 +63,7 @@ fresh_from m rule from a e = go (next_of rule from (m + plan_lead)) refl e
         omega (arith, low, same.0)
 
 -- after a row, an attempt has a greater number, or is the next of the same one
-after_row : (m : ℕ) (rule : Schedule) (k : RunKey) (a : Attempt) (confirmed : Option ℕ) (closed : Option Closing) → attempt_after m rule k confirmed closed ≡ Some a → (k.number < a.number) ⊎ ((a.number ≡ k.number) × (a.attempt ≡ k.attempt + 1))
+pub after_row : (m : ℕ) (rule : Schedule) (k : RunKey) (a : Attempt) (confirmed : Option ℕ) (closed : Option Closing) → attempt_after m rule k confirmed closed ≡ Some a → (k.number < a.number) ⊎ ((a.number ≡ k.number) × (a.attempt ≡ k.attempt + 1))
 after_row m rule k a (Some s) closed e = let low = fresh_from m rule (k.number + 1) a e in inl (omega (arith, low))
 after_row m rule k a None None e = cc
 after_row m rule k a None (Some c) e = go (is_repeatable m rule k) e
@@ -78,18 +78,18 @@ last_has P y z [] e here all = let is : z ≡ y = cc in subst P is here
 last_has P y z (w ∷ ws) e here all = last_has P y w ws e all.0 all.1
 
 -- it is not below
-abbrev Low : RunRow → RunRow → Type 0
+abbrev pub Low : RunRow → RunRow → Type 0
 Low y x = (key_cmp x.key y.key ≡ Less) ⊎ (x ≡ y)
 
 low_last : (y x : RunRow) (xs : List RunRow) → AllByRecursion (λ z. key_cmp x.key z.key ≡ Less) xs → IsAscendingRows xs → last_or (Some x) xs ≡ Some y → Low y x × AllByRecursion (Low y) xs
 low_last y x [] below up e = (inr cc, tt)
 low_last y x (z ∷ zs) below up e = (inl (last_has (λ w. key_cmp x.key w.key ≡ Less) y z zs e below.0 below.1), low_last y z zs up.0 up.1 e)
 
-all_low : (y : RunRow) (xs : List RunRow) → IsAscendingRows xs → last_or None xs ≡ Some y → AllByRecursion (Low y) xs
+pub all_low : (y : RunRow) (xs : List RunRow) → IsAscendingRows xs → last_or None xs ≡ Some y → AllByRecursion (Low y) xs
 all_low y [] up e = tt
 all_low y (x ∷ xs) up e = low_last y x xs up.0 up.1 e
 
-all_none : (P : RunRow → Type 0) (xs : List RunRow) → last_or None xs ≡ None → AllByRecursion P xs
+pub all_none : (P : RunRow → Type 0) (xs : List RunRow) → last_or None xs ≡ None → AllByRecursion P xs
 all_none P [] e = tt
 all_none P (x ∷ xs) e = absurd (some x xs e)
   where
@@ -97,7 +97,7 @@ all_none P (x ∷ xs) e = absurd (some x xs e)
     some x [] e = cc
     some x (z ∷ zs) e = some z zs e
 
-filter_has : (t : RunRow → Bool) (xs : List RunRow) → AllByRecursion (λ r. t r ≡ true) (filter t xs)
+pub filter_has : (t : RunRow → Bool) (xs : List RunRow) → AllByRecursion (λ r. t r ≡ true) (filter t xs)
 filter_has t [] = tt
 filter_has t (x ∷ xs) = go (t x) refl (filter_has t xs)
   where
@@ -105,7 +105,7 @@ filter_has t (x ∷ xs) = go (t x) refl (filter_has t xs)
     go true is rest = (is, rest)
     go false is rest = rest
 
-newest_has : (P : RunRow → Type 0) (y : RunRow) (xs : List RunRow) → last_or None xs ≡ Some y → AllByRecursion P xs → P y
+pub newest_has : (P : RunRow → Type 0) (y : RunRow) (xs : List RunRow) → last_or None xs ≡ Some y → AllByRecursion P xs → P y
 newest_has P y [] e all = cc
 newest_has P y (x ∷ xs) e all = last_has P y x xs e all.0 all.1
 

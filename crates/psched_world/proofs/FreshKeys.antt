@@ -23,75 +23,8 @@ use Rattle.host_model.proofs.Placed.{find_row-key}
 use Rattle.host_model.proofs.Wishes.{given_else, given_if}
 use Rattle.host_model.specs.Booking.{booking_key}
 use Rattle.host_model.proofs.NewNumbers.{above_new}
-use Rattle.host_model.proofs.NextKeys.{first_holds, found_kept}
+use Rattle.host_model.proofs.NextKeys.{Low, after_row, all_low, all_none, filter_has, found_kept, newest_has}
 use Rattle.psched_world.proofs.Allowed.{Fresh}
-
--- ---- the number of an attempt
-at_window : (m number attempt : ℕ) (o : Option Range) (a : Attempt) → attempt_at m number attempt o ≡ Some a → (a.number ≡ number) × (a.attempt ≡ attempt)
-at_window m number attempt None a e = cc
-at_window m number attempt (Some w) a e =
-    let g = given_if (nat_le w.first (m + horizon)) (Some (record { number = number; attempt = attempt; window = asked_window m w })) a e in
-    let is : record { number = number; attempt = attempt; window = asked_window m w } ≡ a = cc in
-    (ap (λ x. x.number) (sym is), ap (λ x. x.attempt) (sym is))
-
-fresh_from : (m : ℕ) (rule : Schedule) (from : ℕ) (a : Attempt) → fresh_attempt m rule from ≡ Some a → from ≤ a.number
-fresh_from m rule from a e = go (next_of rule from (m + plan_lead)) refl e
-  where
-    go : (o : Option ℕ) → next_of rule from (m + plan_lead) ≡ o → option_and_then (λ number. attempt_at m number 0 (window_of rule number)) o ≡ Some a → from ≤ a.number
-    go None is e = cc
-    go (Some number) is e =
-        let holds : reaches_from rule from (m + plan_lead) number ≡ true = first_holds (reaches_from rule from (m + plan_lead)) 0 (numbers_of rule) number is in
-        let both = and_true (nat_le from number) _ holds in
-        let low : from ≤ number = grind (arith, nat_tests) in
-        let same = at_window m number 0 (window_of rule number) a e in
-        omega (arith, low, same.0)
-
--- after a row, an attempt has a greater number, or is the next of the same one
-after_row : (m : ℕ) (rule : Schedule) (k : RunKey) (a : Attempt) (confirmed : Option ℕ) (closed : Option Closing) → attempt_after m rule k confirmed closed ≡ Some a → (k.number < a.number) ⊎ ((a.number ≡ k.number) × (a.attempt ≡ k.attempt + 1))
-after_row m rule k a (Some s) closed e = let low = fresh_from m rule (k.number + 1) a e in inl (omega (arith, low))
-after_row m rule k a None None e = cc
-after_row m rule k a None (Some c) e = go (is_repeatable m rule k) e
-  where
-    go : (t : Bool) → cond t (repeated m rule k c) (fresh_attempt m rule (k.number + 1)) ≡ Some a → (k.number < a.number) ⊎ ((a.number ≡ k.number) × (a.attempt ≡ k.attempt + 1))
-    go true e = inr (at_window m k.number (k.attempt + 1) (window_of rule k.number) a (given_if (nat_le (c.moment + retry_wait) m) (attempt_at m k.number (k.attempt + 1) (window_of rule k.number)) a e).1)
-    go false e = let low = fresh_from m rule (k.number + 1) a e in inl (omega (arith, low))
-
--- ---- the newest row of a task
-last_has : (P : RunRow → Type 0) (y z : RunRow) (zs : List RunRow) → last_or (Some z) (zs) ≡ Some y → P z → AllByRecursion P zs → P y
-last_has P y z [] e here all = let is : z ≡ y = cc in subst P is here
-last_has P y z (w ∷ ws) e here all = last_has P y w ws e all.0 all.1
-
--- it is not below
-abbrev Low : RunRow → RunRow → Type 0
-Low y x = (key_cmp x.key y.key ≡ Less) ⊎ (x ≡ y)
-
-low_last : (y x : RunRow) (xs : List RunRow) → AllByRecursion (λ z. key_cmp x.key z.key ≡ Less) xs → IsAscendingRows xs → last_or (Some x) xs ≡ Some y → Low y x × AllByRecursion (Low y) xs
-low_last y x [] below up e = (inr cc, tt)
-low_last y x (z ∷ zs) below up e = (inl (last_has (λ w. key_cmp x.key w.key ≡ Less) y z zs e below.0 below.1), low_last y z zs up.0 up.1 e)
-
-all_low : (y : RunRow) (xs : List RunRow) → IsAscendingRows xs → last_or None xs ≡ Some y → AllByRecursion (Low y) xs
-all_low y [] up e = tt
-all_low y (x ∷ xs) up e = low_last y x xs up.0 up.1 e
-
-all_none : (P : RunRow → Type 0) (xs : List RunRow) → last_or None xs ≡ None → AllByRecursion P xs
-all_none P [] e = tt
-all_none P (x ∷ xs) e = absurd (some x xs e)
-  where
-    some : (x : RunRow) (xs : List RunRow) → last_or (Some x) xs ≡ None → ⊥
-    some x [] e = cc
-    some x (z ∷ zs) e = some z zs e
-
-filter_has : (t : RunRow → Bool) (xs : List RunRow) → AllByRecursion (λ r. t r ≡ true) (filter t xs)
-filter_has t [] = tt
-filter_has t (x ∷ xs) = go (t x) refl (filter_has t xs)
-  where
-    go : (b : Bool) → t x ≡ b → AllByRecursion (λ r. t r ≡ true) (filter t xs) → AllByRecursion (λ r. t r ≡ true) (cond b (x ∷ filter t xs) (filter t xs))
-    go true is rest = (is, rest)
-    go false is rest = rest
-
-newest_has : (P : RunRow → Type 0) (y : RunRow) (xs : List RunRow) → last_or None xs ≡ Some y → AllByRecursion P xs → P y
-newest_has P y [] e all = cc
-newest_has P y (x ∷ xs) e all = last_has P y x xs e all.0 all.1
 
 -- ---- bookings
 below_number : (j k : RunKey) → j.lead ≡ k.lead → j.task ≡ k.task → j.number < k.number → key_cmp j k ≡ Less
