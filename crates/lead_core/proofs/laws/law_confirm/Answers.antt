@@ -1,5 +1,0 @@
-use Rattle.lead_core.proofs.DueLemmas.{confirmed_by_last}
-use Rattle.lead_core.proofs.laws.law_confirm.Goals as goal
-
-pub returns : goal.returns
-returns c = confirmed_by_last

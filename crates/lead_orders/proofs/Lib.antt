@@ -1,0 +1,4 @@
+pub mod DueLemmas
+pub mod FirstLemmas
+pub mod ListingLemmas
+pub mod OtherLemmas

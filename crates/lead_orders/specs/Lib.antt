@@ -1,0 +1,4 @@
+pub mod Due
+pub mod Listed
+pub mod Listing
+pub mod Others
