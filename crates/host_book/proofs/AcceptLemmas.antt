@@ -42,10 +42,12 @@ use Rattle.host_model.proofs.RowLemmas.{found_of_all}
 use Rattle.host_model.proofs.Standing.{find_row-map}
 use Rattle.host_book.specs.Host.{IsSound}
 use Rattle.host_book.specs.Pairs.{with_pair}
-use Rattle.host_book.specs.Reservations.{closed_each, planned_reservation, reservation_of}
+use Rattle.row_ledger.specs.Closing.{closed_each}
+use Rattle.row_ledger.proofs.RowLemmas.{change_found}
+use Rattle.host_book.specs.Reservations.{planned_reservation, reservation_of}
 use Rattle.host_book.proofs.BookLemmas.{same_rows, left_rows}
 use Rattle.host_book.proofs.BringLemmas.{found_changed, none_of}
-use Rattle.host_book.proofs.IndexLemmas.{change_found, closed_preempted, bookings_idle, bookings_planned, bookings_preempted, bookings_put, conflicts_gone, find_booking_none}
+use Rattle.host_book.proofs.IndexLemmas.{closed_preempted, bookings_idle, bookings_planned, bookings_preempted, bookings_put, conflicts_gone, find_booking_none}
 use Rattle.host_book.proofs.MomentLemmas.{book_moments, lawful_moments, test_lasts, test_short}
 
 -- a run that isn't accepted has no pair

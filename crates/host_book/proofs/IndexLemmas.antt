@@ -24,8 +24,9 @@ use Rattle.host_timeline.specs.Booking.{conflicts_with, conflicting, firm_from_o
 use Rattle.host_timeline.specs.Timeline.{find_booking, started_booking, with_booking, with_started, without_booking}
 use Rattle.part_core.specs.Reservations.{reserved, booking_of, with_some, bookings_of}
 use Rattle.part_core.specs.Seen.{IsUnbooked}
-use Rattle.host_book.specs.Reservations.{closed_each, freed_row, freed_rows, lapses, released}
-use Rattle.host_book.proofs.RowLemmas.{above_other, change_none}
+use Rattle.row_ledger.specs.Closing.{closed_each}
+use Rattle.host_book.specs.Reservations.{freed_row, freed_rows, lapses, released}
+use Rattle.row_ledger.proofs.RowLemmas.{above_other, change_found, change_none}
 
 -- ---- one row and its reservation ----
 abbrev HasKey : RunKey → Option Booking → Type 0
@@ -265,19 +266,6 @@ without_apart k (r ∷ rs) apart = without_one k r.key (booking_of r) (bookings_
         → cond (not b) (with_some (booking_of r) (without_booking (bookings_of rs) k)) (without_booking (bookings_of rs) k) ≡ with_some (booking_of r) (bookings_of rs)
     go true none later = later ∙ sym (ap (λ o. with_some o (bookings_of rs)) (unbooked_is_gone r (none refl)))
     go false none later = ap (with_some (booking_of r)) later
-
--- a change is that of its row
-pub change_found : (f : RunRow → RunRow) (k : RunKey) (r : RunRow) (rows : List RunRow) → IsAscendingRows rows → find_row rows k ≡ Some r → change_row f rows k ≡ change_row (λ before. f r) rows k
-change_found f k r [] up at = refl
-change_found f k r (x ∷ xs) up at = go (is_eq (key_cmp x.key k)) refl at (change_found f k r xs up.1)
-  where
-    go : (b : Bool) → is_eq (key_cmp x.key k) ≡ b → cond b (Some x) (find_row xs k) ≡ Some r → (find_row xs k ≡ Some r → change_row f xs k ≡ change_row (λ before. f r) xs k)
-        → cond b (f x) x ∷ change_row f xs k ≡ cond b (f r) x ∷ change_row (λ before. f r) xs k
-    go true is here later =
-        let own : x ≡ r = cc in
-        let others : AllByRecursion (λ y. is_eq (key_cmp y.key k) ≡ false) xs = subst (λ j. AllByRecursion (λ y. is_eq (key_cmp y.key j) ≡ false) xs) (key_is x.key k is) (above_other x.key xs up.0) in
-        ap₂ (λ y l. f y ∷ l) own (change_none f k xs others ∙ sym (change_none (λ before. f r) k xs others))
-    go false is here later = ap (λ l. x ∷ l) (later here)
 
 -- the row of the key, that wasn't booked, is
 pub bookings_planned : (f : RunRow → RunRow) (k : RunKey) (r : RunRow) (b : Booking) (rows : List RunRow) → IsAscendingRows rows → find_row rows k ≡ Some r → is_booked r ≡ false → (f r).key ≡ k

@@ -1,10 +1,7 @@
 pub mod AcceptLemmas
 pub mod BookLemmas
 pub mod BringLemmas
-pub mod ClosingLemmas
 pub mod IndexLemmas
-pub mod LapseLemmas
-pub mod LedgerLemmas
 pub mod MomentLemmas
 pub mod PairLemmas
-pub mod RowLemmas
+pub mod RestoreLemmas

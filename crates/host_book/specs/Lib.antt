@@ -1,5 +1,5 @@
 pub mod Host
-pub mod Ledger
 pub mod Pairs
 pub mod Ready
 pub mod Reservations
+pub mod Restore

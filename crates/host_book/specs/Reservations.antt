@@ -10,9 +10,8 @@ use Rattle.run_states.specs.declared.why.Why.TheVariants.{Preempted}
 use Rattle.run_states.specs.Conflict.{blocks}
 use Rattle.run_states.specs.Life.{close_row, lapse_of}
 use Rattle.run_states.specs.Preemption.{planned_span}
-use Rattle.run_states.specs.Rows.{change_row}
 use Rattle.host_timeline.specs.declared.booking.Booking.{Booking}
-use Rattle.host_timeline.specs.Booking.{conflicts_with, firm_from_of}
+use Rattle.host_timeline.specs.Booking.{firm_from_of}
 use Rattle.host_timeline.specs.Timeline.{without_booking}
 
 -- what a proposal reserves once it is accepted
@@ -50,14 +49,3 @@ freed_row m key class interval r = if blocks class interval r then close_row (re
 
 abbrev pub freed_rows : ℕ → RunKey → Class → Span → List RunRow → List RunRow
 freed_rows m key class interval rows = map (freed_row m key class interval) rows
-
--- the rows, those of the reservations in conflict with a run of this class and interval closed at m in favour of the run that has the key
-abbrev pub closed_each : ℕ → RunKey → Class → Span → List Booking → List RunRow → List RunRow
-closed_each m key class s [] rows = rows
-closed_each m key class s (b ∷ bs) rows =
-    closed_each m key class s bs (if conflicts_with class s b then change_row (close_row (record { moment = m; why = Preempted key })) rows b.key else rows)
-
--- the rows, those of the keys closed at m in favour of the run that has the key
-abbrev pub closed_keys : ℕ → RunKey → List RunKey → List RunRow → List RunRow
-closed_keys m key [] rows = rows
-closed_keys m key (k ∷ ks) rows = closed_keys m key ks (change_row (close_row (record { moment = m; why = Preempted key })) rows k)

@@ -13,16 +13,18 @@ ghost use Rattle.host_model.specs.Lawful.{Lawful};
 ghost use Rattle.host_model.specs.MayFollow.{CanApply};
 ghost use Rattle.host_model.specs.declared.change.Change.TheVariants.{AcceptHeard as AcceptHeardChange, Accepted as AcceptedChange, Asked as AskedChange, Closed as ClosedChange, Confirmed as ConfirmedChange, Ended as EndedChange, FreeHeard as FreeHeardChange, LimitsSet as LimitsSetChange, MaterialHeard as MaterialHeardChange, Merged as MergedChange, Planned as PlannedChange, Posted as PostedChange, Purged as PurgedChange, ResultHeard as ResultHeardChange, Started as StartedChange, TaskClosed as TaskClosedChange, Told as ToldChange, Tried as TriedChange};
 ghost use Rattle.run_states.specs.LawfulRow.{BringsResults};
+ghost use Rattle.live_rows.specs.Still.{live_keys};
 ghost use Rattle.host_book.specs.Host.{noted};
-ghost use Rattle.host_book.specs.Ledger.{fact_bytes, most_counted, IsNoPlan};
+ghost use Rattle.row_ledger.specs.Ledger.{fact_bytes, most_counted, IsNoPlan};
 ghost use Rattle.host_model.specs.NewRow.{all_unheard};
 ghost use Rattle.host_book.specs.Ready.{AllFit, brought_bytes, changes_of, is_heard, is_merged, IsBare, IsReady};
 ghost use Rattle.host_book.specs.Reservations.{released};
 
-use crate::ledger::Ledger;
 use crate::new_row::{accepted_row, asked_row, planned_reservation, reservation_of};
 use crate::pairs::Pairs;
+use crate::parts::Parts;
 use crate::ready::{Ready, made_ready};
+use crate::restore::restored_timeline;
 use archive_retry::state::ArchiveState;
 use host_model::change::Change;
 use host_model::task_row::TaskRow;
@@ -34,6 +36,7 @@ use ps_time::key::RunKey;
 use ps_time::memory::Memory;
 use ps_time::moment::Moment;
 use ps_time::text::Text;
+use row_ledger::ledger::Ledger;
 use run_states::answer::{Answer, FreeAnswer, Other, Told};
 use run_states::fact::Fact;
 use run_states::life::LifeStep;
@@ -58,7 +61,7 @@ pub struct HostBook {
 }
 
 impl Model for HostBook {
-    ghost use Rattle.std.specs.Prelude.{◌-◌, vec_len, vec_capacity};
+    ghost use Rattle.std.specs.Prelude.{◌≡◌, ◌-◌, vec_len, vec_capacity};
     ghost use Rattle.host_model.specs.Book.{Book};
     ghost use Rattle.host_book.specs.Host.{Host as Seen, IsSound, least};
 
@@ -70,7 +73,7 @@ impl Model for HostBook {
       room = least h.ledger.room h.timeline.room h.pairs.room (vec_capacity h.tasks - vec_len h.tasks) (vec_capacity h.epochs - vec_len h.epochs);
     } };
 
-    ghost invariant = { λ h. IsSound h.number (record { moment = h.moment; epochs = h.epochs.items; pairs = h.pairs.list; tasks = h.tasks.items; rows = h.ledger.list }) h.timeline.list };
+    ghost invariant = { λ h. IsSound h.number (record { moment = h.moment; epochs = h.epochs.items; pairs = h.pairs.list; tasks = h.tasks.items; rows = h.ledger.list }) h.timeline.list × (h.ledger.number ≡ h.number) };
 }
 
 impl HostBook {
@@ -85,9 +88,36 @@ impl HostBook {
             epochs: Vec::new(alloc),
             pairs: Pairs::new(alloc),
             tasks: Vec::new(alloc),
-            ledger: Ledger::new(alloc),
+            ledger: Ledger::new(alloc, number),
             timeline: Timeline::new(alloc),
         }
+    }
+
+    /// The book of these parts, with what is looked up in it, and places for no more. Rows that stand in the order of their
+    /// keys are only appended.
+    pub fn restore(alloc: Global, number: u16, parts: Parts) -> Result<HostBook, Memory>
+        requires lawful { Lawful number parts }
+        ensures number { IfOk result (λ h. h.number ≡ number) }
+        ensures book { IfOk result (λ h. h.book ≡ parts) }
+    {
+        let timeline = restored_timeline(alloc, parts.rows.as_slice())?;
+        let Parts {
+            moment,
+            epochs,
+            pairs,
+            tasks,
+            rows,
+        } = parts;
+        let ledger = Ledger::restore(alloc, number, rows)?;
+        Ok(HostBook {
+            number,
+            moment,
+            epochs: epochs.into_vec(),
+            pairs: Pairs::restore(pairs),
+            tasks: tasks.into_vec(),
+            ledger,
+            timeline,
+        })
     }
 
     /// The latest moment of the book, in seconds since 1970 UTC.
@@ -105,6 +135,15 @@ impl HostBook {
         ensures lawful { Lawful self.now.number self.now.book }
     {
         self.ledger.rows()
+    }
+
+    /// The keys of the rows that the host may have something to do with, ascending: each other row is still, so that no group of a
+    /// turn but the purging, no order, no archive and no lapse is of it any more, whatever the moment.
+    pub fn live(&self) -> &[RunKey]
+        ensures { result.now ≡ live_keys self.now.number self.now.book.rows }
+    {
+        let _ = self.number;
+        self.ledger.live()
     }
 
     /// What the booked rows reserve.

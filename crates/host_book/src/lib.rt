@@ -3,7 +3,8 @@
 #![tactic(auto)]
 
 pub mod book;
-mod ledger;
 mod new_row;
 mod pairs;
+pub mod parts;
 pub mod ready;
+mod restore;

@@ -1,8 +1,9 @@
 //! The epochs under which runs were accepted, by their keys.
 ghost use Rattle.std.specs.Prelude.{◌≡◌, ◌+◌, ◌<◌, ◌≤◌, [], None, IfOk, IfErr, OnOk, is_some, option_map, if◌then◌else◌};
 ghost use Rattle.host_model.specs.Book.{find_pair};
-ghost use Rattle.host_book.specs.Pairs.{drop_pair, with_pair, IsGapFor, IsPlaceOf};
+ghost use Rattle.host_book.specs.Pairs.{drop_pair, with_pair, IsAscendingPairs, IsGapFor, IsPlaceOf};
 
+use ps_time::items::Items;
 use ps_time::key::RunKey;
 use ps_time::memory::Memory;
 use std::alloc::Global;
@@ -31,6 +32,16 @@ impl Pairs {
     {
         Pairs {
             pairs: Vec::new(alloc),
+        }
+    }
+
+    /// These pairs, which ascend by key.
+    pub(crate) fn restore(pairs: Items<(RunKey, u32)>) -> Pairs
+        requires { IsAscendingPairs pairs }
+        ensures { result.list ≡ pairs }
+    {
+        Pairs {
+            pairs: pairs.into_vec(),
         }
     }
 

@@ -28,7 +28,7 @@ pub invariant_of-self : goal.invariant_of-self
 invariant_of-self c =
     let b : Book = record { moment = c.self.inside.moment; epochs = c.self.inside.epochs.items; pairs = c.self.inside.pairs.list; tasks = c.self.inside.tasks.items; rows = c.self.inside.ledger.list } in
     let lawful : Lawful c.self.inside.number (apply b.moment (Ended c.args.key c.args.good c.args.body) b) = subst (λ (h : Host). Lawful h.number (apply h.book.moment (Ended c.args.key c.args.good c.args.body) h.book)) (sym c.self.view_is) c.requires.lawful in
-    rw c.mark.ensures.rows (ended_sound c.self.inside.number b c.self.inside.timeline.list c.self.invariant c.args.key (record { moment = b.moment; good = c.args.good; body = c.args.body }) lawful)
+    (rw c.mark.ensures.rows (ended_sound c.self.inside.number b c.self.inside.timeline.list c.self.invariant.0 c.args.key (record { moment = b.moment; good = c.args.good; body = c.args.body }) lawful), c.mark.ensures.number ∙ c.self.invariant.1)
 
 pub returns-clause-book : goal.returns-clause-book
 returns-clause-book c =

@@ -18,7 +18,7 @@ returns-then-is_heard-clause-book c =
     let lawful : Lawful c.self.inside.number (apply b.moment (ResultHeard c.args.key c.args.place c.args.told) b) = subst (λ (h : Host). Lawful h.number (apply h.book.moment (ResultHeard c.args.key c.args.place c.args.told) h.book)) (sym c.self.view_is) c.requires.lawful in
     let can : CanApply b (ResultHeard c.args.key c.args.place c.args.told) = subst (λ (h : Host). CanApply h.book (ResultHeard c.args.key c.args.place c.args.told)) (sym c.self.view_is) c.requires.can in
     let is : is_heard c.args.place (find_row b.rows c.args.key) ≡ true = subst (λ l. is_heard c.args.place (find_row l c.args.key) ≡ true) c.rows.ensures.list (sym c.is_heard.ensures ∙ c.if-is_heard.true) in
-    let leaves = unchanged (change_other (with_result c.args.told) c.args.place) b.rows c.args.key (λ r at. heard_before c.args.told c.args.place r (ap (is_heard c.args.place) (sym at) ∙ is)) c.self.invariant.lawful.ascending in
+    let leaves = unchanged (change_other (with_result c.args.told) c.args.place) b.rows c.args.key (λ r at. heard_before c.args.told c.args.place r (ap (is_heard c.args.place) (sym at) ∙ is)) c.self.invariant.0.lawful.ascending in
     sym (ap (λ (h : Host). h.book) c.self.view_is) ∙ (ap (λ l. record b { rows = l }) (sym leaves) ∙ ap (λ (h : Host). apply h.book.moment (ResultHeard c.args.key c.args.place c.args.told) h.book) c.self.view_is)
 
 -- what comes is a result

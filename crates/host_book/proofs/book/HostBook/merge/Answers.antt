@@ -24,7 +24,7 @@ returns-then-is_merged-clause-book c =
     let can : CanApply b (Merged c.args.key c.args.body) = subst (λ (h : Host). CanApply h.book (Merged c.args.key c.args.body)) (sym c.self.view_is) c.requires.can in
     let is : is_merged (find_row b.rows c.args.key) ≡ true = subst (λ l. is_merged (find_row l c.args.key) ≡ true) c.rows.ensures.list (sym c.is_merged.ensures ∙ c.if-is_merged.true) in
     let leaves = unchanged (merge_row (states_due b.moment (archives_of b.tasks c.args.key)) c.args.body) b.rows c.args.key
-    (λ r at. merged_before c.self.inside.number b.tasks b.moment b.moment c.args.key c.args.body r (find_row-key b.rows c.args.key r at) (found_of_all (IsHostRow c.self.inside.number b.tasks b.moment) c.args.key r b.rows c.self.invariant.lawful.rows at) (ap is_merged (sym at) ∙ is)) c.self.invariant.lawful.ascending in
+    (λ r at. merged_before c.self.inside.number b.tasks b.moment b.moment c.args.key c.args.body r (find_row-key b.rows c.args.key r at) (found_of_all (IsHostRow c.self.inside.number b.tasks b.moment) c.args.key r b.rows c.self.invariant.0.lawful.rows at) (ap is_merged (sym at) ∙ is)) c.self.invariant.0.lawful.ascending in
     sym (ap (λ (h : Host). h.book) c.self.view_is) ∙ (ap (λ l. record b { rows = l }) (sym leaves) ∙ ap (λ (h : Host). apply h.book.moment (Merged c.args.key c.args.body) h.book) c.self.view_is)
 
 -- what comes is a tree

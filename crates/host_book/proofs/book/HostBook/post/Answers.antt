@@ -11,9 +11,11 @@ pub invariant_of-self : goal.invariant_of-self
 invariant_of-self c =
     let b : Book = record { moment = c.self.inside.moment; epochs = c.self.inside.epochs.items; pairs = c.self.inside.pairs.list; tasks = c.self.inside.tasks.items; rows = c.self.inside.ledger.list } in
     let pushed : c.push.new.self.items ≡ b.tasks ++ c.args.task ∷ [] = rw (c.push.ensures.items, c.unwrap.ensures) refl in
-    let lawful : Lawful c.self.inside.number (apply b.moment (Posted c.args.task) b) = subst (λ (h : Host). Lawful h.number (apply h.book.moment (Posted c.args.task) h.book)) (sym c.self.view_is) c.requires.lawful in
-    subst (λ x. IsSound c.self.inside.number x c.self.inside.timeline.list) (sym (ap₂ (λ x y. record b { tasks = x; rows = y }) pushed (sym (left_rows b.rows))))
-    (posted_sound c.self.inside.number b c.self.inside.timeline.list c.self.invariant c.args.task lawful)
+    let lawful : Lawful c.self.inside.number (apply b.moment (Posted c.args.task) b) = subst (λ (h : Host). Lawful h.number (apply h.book.moment (Posted c.args.task) h.book)) (sym c.self.view_is) c.requires.lawful in (
+      subst (λ x. IsSound c.self.inside.number x c.self.inside.timeline.list) (sym (ap₂ (λ x y. record b { tasks = x; rows = y }) pushed (sym (left_rows b.rows))))
+          (posted_sound c.self.inside.number b c.self.inside.timeline.list c.self.invariant.0 c.args.task lawful),
+      c.self.invariant.1,
+    )
 
 pub returns-clause-book : goal.returns-clause-book
 returns-clause-book c =

@@ -19,7 +19,7 @@ pub invariant_of-self : goal.invariant_of-self
 invariant_of-self c =
     let b : Book = record { moment = c.self.inside.moment; epochs = c.self.inside.epochs.items; pairs = c.self.inside.pairs.list; tasks = c.self.inside.tasks.items; rows = c.self.inside.ledger.list } in
     let lawful : Lawful c.self.inside.number (apply b.moment (Started c.args.key) b) = subst (λ (h : Host). Lawful h.number (apply h.book.moment (Started c.args.key) h.book)) (sym c.self.view_is) c.requires.lawful in
-    rw (c.mark_started.ensures.list, c.mark.ensures.rows) (started_sound c.self.inside.number b c.self.inside.timeline.list c.self.invariant c.args.key b.moment lawful)
+    (rw (c.mark_started.ensures.list, c.mark.ensures.rows) (started_sound c.self.inside.number b c.self.inside.timeline.list c.self.invariant.0 c.args.key b.moment lawful), c.mark.ensures.number ∙ c.self.invariant.1)
 
 pub returns-clause-book : goal.returns-clause-book
 returns-clause-book c =

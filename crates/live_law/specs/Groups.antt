@@ -1,0 +1,25 @@
+-- A turn whose groups over rows go over these keys alone, but for the last.
+use Rattle.std.specs.Prelude.{List, Option, option_and_then, ℕ}
+use Rattle.ps_time.specs.declared.key.RunKey.{RunKey}
+use Rattle.run_states.specs.Rows.{find_row}
+use Rattle.run_states.specs.declared.row.RunRow.{RunRow}
+use Rattle.host_model.specs.Book.{Book}
+use Rattle.host_model.specs.Draft.{Draft, make_each, make_rows, make_tasks}
+use Rattle.host_model.specs.Ending.{end_run}
+use Rattle.host_model.specs.Merging.{merge_run}
+use Rattle.host_model.specs.NextAttempt.{ask}
+use Rattle.host_model.specs.Plan.{plan_run}
+use Rattle.host_model.specs.Purging.{purge_run}
+use Rattle.host_model.specs.Starting.{start_run}
+use Rattle.host_model.specs.declared.change.Change.{Change}
+use Rattle.host_model.specs.declared.config.Config.{Config}
+
+-- for the row of each of these keys, in order
+abbrev pub make_keys : (Book → RunRow → Option Change) → ℕ → List RunKey → Draft → Draft
+make_keys wish m ks d = make_each (λ b k. option_and_then (wish b) (find_row b.rows k)) m ks d
+
+-- the six groups
+abbrev pub turned_over : Config → ℕ → List RunKey → Draft → Draft
+turned_over c m live d =
+    make_rows (purge_run c m) m (make_tasks (ask c m) m (
+    make_keys (plan_run c m) m live (make_keys (start_run m) m live (make_keys (merge_run c m) m live (make_keys (end_run c m) m live d)))))

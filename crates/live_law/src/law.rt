@@ -1,0 +1,28 @@
+//! What rows that are still mean for a host.
+ghost use Rattle.std.specs.Prelude.{◌≡◌, None, List, true, ℕ};
+ghost use Rattle.run_states.specs.Life.{settled_row};
+ghost use Rattle.run_states.specs.declared.row.RunRow.{RunRow};
+ghost use Rattle.host_model.specs.Archives.{due_pairs};
+ghost use Rattle.host_model.specs.Book.{Book};
+ghost use Rattle.host_model.specs.Draft.{Draft, turned};
+ghost use Rattle.host_model.specs.Ending.{restart_run};
+ghost use Rattle.host_model.specs.Lawful.{Lawful};
+ghost use Rattle.host_model.specs.Orders.{orders_of};
+ghost use Rattle.host_model.specs.declared.config.Config.{Config};
+ghost use Rattle.live_law.specs.Groups.{turned_over};
+ghost use Rattle.live_rows.specs.Still.{is_still, live_keys, live_rows};
+
+/// A law: the turn whose groups over rows go only over the keys of the rows that weren't still before it, but for the purging,
+/// is the turn.
+pub fn law_turn()
+    ensures { (c : Config) (m : ℕ) (d : Draft) → Lawful c.number d.book → turned_over c m (live_keys c.number d.book.rows) d ≡ turned c m d }
+{}
+
+/// A law: a row that is still doesn't lapse, whatever the moment, nor does it end where its host is opened anew; and the others
+/// have all orders and all archives that are due.
+pub fn law_still()
+    ensures stands { (self m : ℕ) (r : RunRow) → is_still self r ≡ true → settled_row m r ≡ r }
+    ensures opened { (c : Config) (b : Book) (r : RunRow) → is_still c.number r ≡ true → restart_run c b r ≡ None }
+    ensures orders { (self m : ℕ) (rows : List RunRow) → orders_of m (live_rows self rows) ≡ orders_of m rows }
+    ensures due { (self m : ℕ) (rows : List RunRow) → due_pairs (live_rows self rows) m ≡ due_pairs rows m }
+{}

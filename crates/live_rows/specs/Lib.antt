@@ -1,0 +1,2 @@
+pub mod LiveKeys
+pub mod Still

@@ -1,0 +1,126 @@
+//! The keys of the rows that aren't still.
+ghost use Rattle.std.specs.Prelude.{◌≡◌, ◌<◌, ◌≤◌, [], IfErr, IfOk, None, OnOk, length, true, vec_capacity};
+ghost use Rattle.run_states.specs.Rows.{IsAscendingRows};
+ghost use Rattle.live_rows.specs.LiveKeys.{drop_key, find_own, marked, with_key, IsGapFor, IsPlaceOf};
+ghost use Rattle.live_rows.specs.Still.{live_keys};
+
+use crate::still::is_still;
+use ps_time::key::RunKey;
+use ps_time::memory::Memory;
+use run_states::row::RunRow;
+use std::alloc::Global;
+use std::marker::Model;
+
+/// Different keys in ascending order, in places that were reserved.
+#[derive(Drop)]
+pub struct LiveKeys {
+    keys: Vec<RunKey>,
+}
+
+impl Model for LiveKeys {
+    ghost use Rattle.std.specs.Prelude.{vec_capacity};
+    ghost use Rattle.live_rows.specs.LiveKeys.{LiveKeys as Seen, IsAscendingKeys};
+
+    ghost Value = { Seen };
+
+    ghost view = { λ k. record { list = k.keys.items; places = vec_capacity k.keys } };
+
+    ghost invariant = { λ k. IsAscendingKeys k.keys.items };
+}
+
+impl LiveKeys {
+    /// No keys, without reserved places.
+    pub fn new(alloc: Global) -> LiveKeys
+        ensures { result.list ≡ [] }
+    {
+        LiveKeys {
+            keys: Vec::new(alloc),
+        }
+    }
+
+    /// Makes so many places, those of the keys that are there among them.
+    pub fn reserve(&mut self, places: usize) -> Result<(), Memory>
+        ensures same { self.new.list ≡ self.old.list }
+        ensures never_less { self.old.places ≤ self.new.places }
+        ensures ok { OnOk result (places ≤ self.new.places) }
+    {
+        self.keys.reserve(places.saturating_sub(self.keys.len()))?;
+        Ok(())
+    }
+
+    /// The keys, ascending.
+    pub fn list(&self) -> &[RunKey]
+        ensures { result.now ≡ self.now.list }
+    {
+        self.keys.as_slice()
+    }
+
+    /// Puts the key in where it is live, and takes it out where it isn't. Takes no memory.
+    pub fn mark(&mut self, key: RunKey, live: bool)
+        requires { live ≡ true → find_own self.old.list key ≡ None → length self.old.list < self.old.places }
+        ensures list { self.new.list ≡ marked live self.old.list key }
+        ensures places { self.new.places ≡ self.old.places }
+    {
+        if live {
+            self.put(key);
+        } else {
+            self.remove(key);
+        }
+    }
+
+    fn put(&mut self, key: RunKey)
+        requires { find_own self.old.list key ≡ None → length self.old.list < self.old.places }
+        ensures list { self.new.list ≡ with_key (drop_key self.old.list key) key }
+        ensures places { self.new.places ≡ self.old.places }
+    {
+        match self.search(key) {
+            Ok(_) => {}
+            Err(at) => self.keys.insert(at, key).unwrap(),
+        }
+    }
+
+    fn remove(&mut self, key: RunKey)
+        ensures list { self.new.list ≡ drop_key self.old.list key }
+        ensures places { self.new.places ≡ self.old.places }
+    {
+        match self.search(key) {
+            Ok(at) => {
+                self.keys.remove(at);
+            }
+            Err(_) => {}
+        }
+    }
+
+    /// Makes the keys those of the rows that aren't still at the host with this number. Takes no memory.
+    pub fn refill(&mut self, rows: &[RunRow], number: u16)
+        requires ascending { IsAscendingRows rows.now }
+        requires places { length rows.now ≤ self.old.places }
+        ensures list { self.new.list ≡ live_keys number rows.now }
+        ensures places { self.old.places ≤ self.new.places }
+    {
+        self.keys.clear();
+        fill(&mut self.keys, rows, number);
+    }
+
+    // Where the key is, or where it would go.
+    fn search(&self, key: RunKey) -> Result<usize, usize>
+        ensures found { IfOk result (IsPlaceOf self.now.list key) }
+        ensures absent { IfErr result (IsGapFor self.now.list key) }
+    {
+        self.keys.binary_search_by_key(&key, |own| *own)
+    }
+}
+
+// Adds the keys of the rows that aren't still at the host with this number to none.
+fn fill(keys: &mut Vec<RunKey>, rows: &[RunRow], number: u16)
+    requires none { keys.old.items ≡ [] }
+    requires places { length rows.now ≤ vec_capacity keys.old }
+    ensures items { keys.new.items ≡ live_keys number rows.now }
+    ensures places { vec_capacity keys.old ≤ vec_capacity keys.new }
+{
+    for row in rows {
+        if !is_still(row, number) {
+            keys.push(row.key).unwrap();
+        }
+    }
+}

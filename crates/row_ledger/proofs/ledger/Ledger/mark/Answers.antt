@@ -1,0 +1,78 @@
+use Rattle.std.proofs.Common.{◌≡◌, ◌≤◌, ◌-◌, ◌+◌, ◌∙◌, All, IfSome, length, min, ap, sym, subst, arith}
+use Rattle.run_states.specs.Life.{marked_row, HasMoments}
+use Rattle.run_states.specs.ResultBytes.{result_bytes}
+use Rattle.run_states.specs.Rows.{change_row, find_row}
+use Rattle.run_states.proofs.Place.{marked_key}
+use Rattle.row_ledger.specs.Ledger.{IsCounted, Ledger, StandsUntil, bytes_at, is_live_at, most_counted, step_bytes}
+use Rattle.live_rows.specs.LiveKeys.{marked}
+use Rattle.live_rows.specs.Still.{live_keys}
+use Rattle.row_ledger.proofs.LiveLemmas.{length_changed, live_changed}
+use Rattle.row_ledger.proofs.LedgerLemmas.{changed_counted, changed_less, changed_more, found_if, sooner_if}
+use Rattle.row_ledger.proofs.RowLemmas.{step_brings}
+use Rattle.row_ledger.proofs.ledger.Ledger.mark.Goals as goal
+
+pub overflow_sub-self : goal.overflow_sub-self
+overflow_sub-self c =
+    let rows = c.self.inside.rows.list in
+    let low : c.self.inside.bytes ≤ most_counted = omega (arith, c.self.ranges) in
+    let room : step_bytes c.args.step ≤ most_counted - result_bytes rows = subst (λ (t : Ledger). step_bytes c.args.step ≤ most_counted - result_bytes t.list) (sym c.self.view_is) c.requires.bytes in
+    changed_less (marked_row c.args.step c.args.moment) (λ r. marked_key c.args.step c.args.moment r) rows c.self.inside.bytes c.self.inside.next_lapse c.args.key (step_bytes c.args.step) c.self.invariant.counted c.bytes_at-before.ensures.ascending (λ r. step_brings c.args.step c.args.moment r) room low c.bytes_at-before.result c.bytes_at-before.ensures.value
+
+pub overflow_add-self : goal.overflow_add-self
+overflow_add-self c =
+    let rows = c.self.inside.rows.list in
+    let low : c.self.inside.bytes ≤ most_counted = omega (arith, c.self.ranges) in
+    let room : step_bytes c.args.step ≤ most_counted - result_bytes rows = subst (λ (t : Ledger). step_bytes c.args.step ≤ most_counted - result_bytes t.list) (sym c.self.view_is) c.requires.bytes in
+    let most = changed_more (marked_row c.args.step c.args.moment) (λ r. marked_key c.args.step c.args.moment r) rows c.self.inside.bytes c.self.inside.next_lapse c.args.key (step_bytes c.args.step) c.self.invariant.counted c.bytes_at-before.ensures.ascending (λ r. step_brings c.args.step c.args.moment r) room low c.bytes_at-before.result c.bytes_at-before.ensures.value c.bytes_at-after.result (subst (λ l. c.bytes_at-after.result ≡ min (bytes_at (find_row l c.args.key)) most_counted) c.mark.ensures.rows c.bytes_at-after.ensures.value) in
+    omega (arith, most)
+
+-- the changed row has its moments in bounds
+pub stands_at-requires : goal.stands_at-requires
+stands_at-requires c =
+    let moments : All HasMoments (change_row (marked_row c.args.step c.args.moment) c.self.inside.rows.list c.args.key) = subst (λ (t : Ledger). All HasMoments (change_row (marked_row c.args.step c.args.moment) t.list c.args.key)) (sym c.self.view_is) c.requires.moments in
+    subst (λ l. IfSome (find_row l c.args.key) HasMoments) (sym c.mark.ensures.rows) (found_if HasMoments c.args.key (change_row (marked_row c.args.step c.args.moment) c.self.inside.rows.list c.args.key) moments)
+
+-- and all is counted
+pub invariant_of-self : goal.invariant_of-self
+invariant_of-self c =
+    let rows = c.self.inside.rows.list in
+    let low : c.self.inside.bytes ≤ most_counted = omega (arith, c.self.ranges) in
+    let room : step_bytes c.args.step ≤ most_counted - result_bytes rows = subst (λ (t : Ledger). step_bytes c.args.step ≤ most_counted - result_bytes t.list) (sym c.self.view_is) c.requires.bytes in
+    let moments : All HasMoments (change_row (marked_row c.args.step c.args.moment) rows c.args.key) = subst (λ (t : Ledger). All HasMoments (change_row (marked_row c.args.step c.args.moment) t.list c.args.key)) (sym c.self.view_is) c.requires.moments in
+    let at = c.min-self-inside.ensures in
+    let sooner : c.min-self-inside.result ≤ c.self.inside.next_lapse = omega (arith, at) in
+    let own : c.min-self-inside.result ≤ c.stands_at.result = omega (arith, at) in
+    let stands : IfSome (find_row (change_row (marked_row c.args.step c.args.moment) rows c.args.key) c.args.key) (StandsUntil c.stands_at.result) = subst (λ l. IfSome (find_row l c.args.key) (StandsUntil c.stands_at.result)) c.mark.ensures.rows c.stands_at.ensures in
+    let many : length c.mark.new.self.list ≡ length rows = ap length c.mark.ensures.rows ∙ length_changed (marked_row c.args.step c.args.moment) rows c.args.key in
+    let enough = c.self.invariant.places in
+    let places = c.review.ensures.places in
+    record {
+      counted =
+          subst (λ l. IsCounted l (c.self.inside.bytes - c.bytes_at-before.result + c.bytes_at-after.result) c.min-self-inside.result) (sym c.mark.ensures.rows)
+          (changed_counted (marked_row c.args.step c.args.moment) (λ r. marked_key c.args.step c.args.moment r) rows c.self.inside.bytes c.self.inside.next_lapse c.args.key (step_bytes c.args.step) c.self.invariant.counted c.bytes_at-before.ensures.ascending (λ r. step_brings c.args.step c.args.moment r) room low c.bytes_at-before.result c.bytes_at-before.ensures.value c.bytes_at-after.result (subst (λ l. c.bytes_at-after.result ≡ min (bytes_at (find_row l c.args.key)) most_counted) c.mark.ensures.rows c.bytes_at-after.ensures.value) c.min-self-inside.result moments sooner (sooner_if c.min-self-inside.result c.stands_at.result own (find_row (change_row (marked_row c.args.step c.args.moment) rows c.args.key) c.args.key) stands));
+      live = c.review.ensures.list;
+      places = omega (arith, many, enough, places);
+    }
+
+-- the key of the row that changed is live where the row is
+pub review-requires-clause-marked : goal.review-requires-clause-marked
+review-requires-clause-marked c =
+    let rows = c.self.inside.rows.list in
+    let n = c.self.inside.number in
+    subst (λ l. marked (is_live_at n (find_row l c.args.key)) c.self.inside.live.list c.args.key ≡ live_keys n l) (sym c.mark.ensures.rows)
+    (ap (λ ks. marked (is_live_at n (find_row (change_row (marked_row c.args.step c.args.moment) rows c.args.key) c.args.key)) ks c.args.key) c.self.invariant.live
+    ∙ live_changed n (marked_row c.args.step c.args.moment) (λ r. marked_key c.args.step c.args.moment r) rows c.args.key c.bytes_at-before.ensures.ascending)
+
+pub review-requires-clause-places : goal.review-requires-clause-places
+review-requires-clause-places c =
+    let many : length c.mark.new.self.list ≡ length c.self.inside.rows.list = ap length c.mark.ensures.rows ∙ length_changed (marked_row c.args.step c.args.moment) c.self.inside.rows.list c.args.key in
+    let enough = c.self.invariant.places in
+    omega (arith, many, enough)
+
+pub returns-clause-room : goal.returns-clause-room
+returns-clause-room c =
+    let many : length c.mark.new.self.list ≡ length c.self.inside.rows.list = ap length c.mark.ensures.rows ∙ length_changed (marked_row c.args.step c.args.moment) c.self.inside.rows.list c.args.key in
+    let room = ap (λ (t : Ledger). t.room) c.self.view_is in
+    let places = c.review.ensures.places in
+    let left = c.mark.ensures.room in
+    omega (arith, many, room, places, left)

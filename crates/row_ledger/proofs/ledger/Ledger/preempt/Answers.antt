@@ -1,0 +1,10 @@
+use Rattle.run_states.specs.Life.{HasMoments}
+use Rattle.run_states.specs.declared.why.Why.TheVariants.{Preempted}
+use Rattle.row_ledger.proofs.ClosingLemmas.{closed_all}
+use Rattle.row_ledger.proofs.LapseLemmas.{moments_closed}
+use Rattle.row_ledger.proofs.ledger.Ledger.preempt.Goals as goal
+
+-- closing leaves the moments of rows in bounds
+pub mark-requires-clause-moments : goal.mark-requires-clause-moments
+mark-requires-clause-moments c =
+    closed_all HasMoments c.args.moment c.args.by (λ r within. moments_closed (record { moment = c.args.moment; why = Preempted c.args.by }) r within) c.args.key c.args.self.now.list c.rows.ensures.moments

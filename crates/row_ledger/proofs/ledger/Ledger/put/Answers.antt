@@ -1,0 +1,51 @@
+use Rattle.std.proofs.Common.{◌≡◌, ◌≤◌, ◌∙◌, None, length, suc, ap, sym, subst, arith}
+use Rattle.run_states.specs.Rows.{find_row, put_row}
+use Rattle.live_rows.specs.LiveKeys.{marked}
+use Rattle.live_rows.specs.Still.{live_keys}
+use Rattle.row_ledger.specs.Ledger.{is_live_at, IsCounted, Ledger}
+use Rattle.row_ledger.proofs.LiveLemmas.{length_put, live_new}
+use Rattle.row_ledger.proofs.LapseLemmas.{stands_less}
+use Rattle.row_ledger.proofs.LedgerLemmas.{put_counted}
+use Rattle.row_ledger.proofs.ledger.Ledger.put.Goals as goal
+
+pub invariant_of-self : goal.invariant_of-self
+invariant_of-self c =
+    let at = c.min-self-inside.ensures in
+    let sooner : c.min-self-inside.result ≤ c.self.inside.next_lapse = omega (arith, at) in
+    let own : c.min-self-inside.result ≤ c.stands_until.result = omega (arith, at) in
+    let many : length c.put.new.self.list ≡ suc (length c.self.inside.rows.list) = ap length c.put.ensures.rows ∙ length_put c.self.inside.rows.list c.args.row in
+    let places = c.review.ensures.places in
+    let room = ap (λ (t : Ledger). t.room) c.self.view_is in
+    let some = c.requires.room in
+    record {
+      counted =
+          subst (λ l. IsCounted l c.self.inside.bytes c.min-self-inside.result) (sym c.put.ensures.rows)
+          (put_counted c.self.inside.rows.list c.self.inside.bytes c.self.inside.next_lapse c.self.invariant.counted c.args.row c.min-self-inside.result c.requires.moments c.requires.bytes sooner
+          (stands_less c.min-self-inside.result c.stands_until.result c.args.row own c.stands_until.ensures));
+      live = c.review.ensures.list;
+      places = omega (arith, many, places, room, some);
+    }
+
+-- a new row's key is live where it is
+pub review-requires-clause-marked : goal.review-requires-clause-marked
+review-requires-clause-marked c =
+    let rows = c.self.inside.rows.list in
+    let n = c.self.inside.number in
+    let none : find_row rows c.args.row.key ≡ None = subst (λ (t : Ledger). find_row t.list c.args.row.key ≡ None) (sym c.self.view_is) c.requires.new_key in
+    subst (λ l. marked (is_live_at n (find_row l c.args.row.key)) c.self.inside.live.list c.args.row.key ≡ live_keys n l) (sym c.put.ensures.rows)
+    (ap (λ ks. marked (is_live_at n (find_row (put_row rows c.args.row) c.args.row.key)) ks c.args.row.key) c.self.invariant.live ∙ live_new n rows c.args.row c.list.ensures.ascending none)
+
+pub review-requires-clause-places : goal.review-requires-clause-places
+review-requires-clause-places c =
+    let many : length c.put.new.self.list ≡ suc (length c.self.inside.rows.list) = ap length c.put.ensures.rows ∙ length_put c.self.inside.rows.list c.args.row in
+    let room = ap (λ (t : Ledger). t.room) c.self.view_is in
+    let some = c.requires.room in
+    omega (arith, many, room, some)
+
+pub returns-clause-room : goal.returns-clause-room
+returns-clause-room c =
+    let many : length c.put.new.self.list ≡ suc (length c.self.inside.rows.list) = ap length c.put.ensures.rows ∙ length_put c.self.inside.rows.list c.args.row in
+    let room = ap (λ (t : Ledger). t.room) c.self.view_is in
+    let places = c.review.ensures.places in
+    let left = c.put.ensures.room in
+    omega (arith, many, room, places, left)

@@ -1,0 +1,76 @@
+-- What is counted over rows.
+use Rattle.std.specs.Prelude.{◌≡◌, ◌<◌, ◌≤◌, All, Bool, List, None, Option, Some, false, length, ℕ}
+use Rattle.run_states.specs.Life.{HasMoments, lapse_of}
+use Rattle.run_states.specs.ResultBytes.{bytes_in, result_bytes, row_bytes}
+use Rattle.run_states.specs.declared.answer.Answer.{Answer}
+use Rattle.run_states.specs.declared.answer.Answer.TheVariants.{Free, Accepted, Acknowledged, Result}
+use Rattle.run_states.specs.declared.fact.Fact.{Fact}
+use Rattle.run_states.specs.declared.fact.Fact.TheVariants.{Planned, Answered, MaterialHeard, Merged, Tried}
+use Rattle.run_states.specs.declared.life.LifeStep.{LifeStep}
+use Rattle.run_states.specs.declared.life.LifeStep.TheVariants.{Confirm, Start, End, Close}
+use Rattle.run_states.specs.declared.row.RunRow.{RunRow}
+use Rattle.live_rows.specs.LiveKeys.{LiveKeys}
+use Rattle.live_rows.specs.Still.{is_live, live_keys}
+
+-- the rows of a host, ascending by key, and how many more fit
+pub record Ledger : Type 0 where
+  pub number : ℕ
+  pub list : List RunRow
+  pub room : ℕ
+
+-- there is a row, and it isn't still at the host with this number
+abbrev pub is_live_at : ℕ → Option RunRow → Bool
+is_live_at self None = false
+is_live_at self (Some r) = is_live self r
+
+-- the most bytes that are counted
+abbrev pub most_counted : ℕ
+most_counted = 18_446_744_073_709_551_615
+
+-- the row doesn't lapse before this moment
+abbrev pub StandsUntil : ℕ → RunRow → Type 0
+StandsUntil until r = (m : ℕ) → m < until → lapse_of m r ≡ None
+
+-- the bytes of the results of a row that may be there
+abbrev pub bytes_at : Option RunRow → ℕ
+bytes_at None = 0
+bytes_at (Some r) = row_bytes r
+
+-- how many bytes of results an answer brings at most
+abbrev pub answer_bytes : Answer → ℕ
+answer_bytes (Free answer) = 0
+answer_bytes Accepted = 0
+answer_bytes (Acknowledged told) = 0
+answer_bytes (Result result) = bytes_in result
+
+-- and a fact
+abbrev pub fact_bytes : Fact → ℕ
+fact_bytes (Planned tool interval) = 0
+fact_bytes (Answered place answer) = answer_bytes answer
+fact_bytes MaterialHeard = 0
+fact_bytes (Merged body states) = length body
+fact_bytes (Tried index state) = 0
+
+-- and a step of a row's life
+abbrev pub step_bytes : LifeStep → ℕ
+step_bytes Confirm = 0
+step_bytes Start = 0
+step_bytes (End good body) = length body
+step_bytes (Close why) = 0
+
+-- a fact that accepts nothing
+abbrev pub IsNoPlan : Fact → Type 0
+IsNoPlan (Planned tool interval) = ⊥
+IsNoPlan _ = Unit {0}
+
+-- moments are in bounds, the bytes are those of the rows, and no row lapses before the next lapse
+pub record IsCounted (rows : List RunRow) (bytes next_lapse : ℕ) : Type 0 where
+  pub moments : All HasMoments rows
+  pub kept : bytes ≡ result_bytes rows
+  pub stand : All (StandsUntil next_lapse) rows
+
+-- that, and the keys of the rows that aren't still, with a place for each row
+pub record IsKept (number : ℕ) (rows : List RunRow) (bytes next_lapse : ℕ) (ks : LiveKeys) : Type 0 where
+  pub counted : IsCounted rows bytes next_lapse
+  pub live : ks.list ≡ live_keys number rows
+  pub places : length rows ≤ ks.places

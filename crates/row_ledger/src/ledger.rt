@@ -1,0 +1,315 @@
+//! Rows, with the bytes of their results, a moment before which none of them lapses, and the keys of those that aren't still.
+ghost use Rattle.std.specs.Prelude.{◌≡◌, ◌≤◌, ◌<◌, ◌+◌, ◌-◌, ℕ, [], All, IfOk, IfSome, IsFalse, OnOk, None, length, min};
+ghost use Rattle.run_states.specs.Effect.{noted_row};
+ghost use Rattle.run_states.specs.LawfulRow.{BringsResult, BringsResults};
+ghost use Rattle.run_states.specs.Life.{close_row, settled_rows, marked_row, HasMoments};
+ghost use Rattle.run_states.specs.declared.why.Why.TheVariants.{Preempted};
+ghost use Rattle.run_states.specs.ResultBytes.{result_bytes as bytes_of_rows, row_bytes};
+ghost use Rattle.run_states.specs.Rows.{change_row, find_row, lift_row, put_row, IsAscendingRows};
+ghost use Rattle.live_rows.specs.LiveKeys.{marked};
+ghost use Rattle.live_rows.specs.Still.{live_keys};
+ghost use Rattle.row_ledger.specs.Ledger.{bytes_at, fact_bytes, is_live_at, most_counted, step_bytes, StandsUntil};
+ghost use Rattle.row_ledger.specs.Closing.{closed_each};
+
+use crate::restore::restored_rows;
+use host_timeline::booking::Booking;
+use host_timeline::timeline::Timeline;
+use live_rows::live_keys::LiveKeys;
+use live_rows::still::is_still;
+use ps_time::items::Items;
+use ps_time::key::RunKey;
+use ps_time::memory::Memory;
+use ps_time::moment::Moment;
+use run_states::fact::Fact;
+use run_states::life::LifeStep;
+use run_states::rest::result_bytes;
+use run_states::row::RunRow;
+use run_states::rows::Rows;
+use run_states::why::Why;
+use std::alloc::Global;
+use std::marker::Model;
+
+/// Rows with reserved places, and what is counted over them.
+#[derive(Drop)]
+pub struct Ledger {
+    rows: Rows,
+    // of the results that the rows keep
+    bytes: u64,
+    // no row lapses before this moment
+    next_lapse: Moment,
+    // of the host
+    number: u16,
+    // the keys of the rows that aren't still, with a place for each row
+    live: LiveKeys,
+}
+
+impl Model for Ledger {
+    ghost use Rattle.std.specs.Prelude.{◌-◌, length, min};
+    ghost use Rattle.row_ledger.specs.Ledger.{Ledger as Seen, IsKept};
+
+    ghost Value = { Seen };
+
+    ghost view = { λ l. record { number = l.number; list = l.rows.list; room = min l.rows.room (l.live.places - length l.rows.list) } };
+
+    ghost invariant = { λ l. IsKept l.number l.rows.list l.bytes l.next_lapse l.live };
+}
+
+impl Ledger {
+    /// No rows, for the host with this number.
+    pub fn new(alloc: Global, number: u16) -> Ledger
+        ensures number { result.number ≡ number }
+        ensures list { result.list ≡ [] }
+    {
+        Ledger {
+            rows: Rows::new(alloc),
+            bytes: 0,
+            next_lapse: Moment::MAX,
+            number,
+            live: LiveKeys::new(alloc),
+        }
+    }
+
+    /// These rows, which ascend by key, for the host with this number, and places for no more.
+    pub fn restore(alloc: Global, number: u16, rows: Items<RunRow>) -> Result<Ledger, Memory>
+        requires ascending { IsAscendingRows rows }
+        requires moments { All HasMoments rows }
+        ensures number { IfOk result (λ l. l.number ≡ number) }
+        ensures list { IfOk result (λ l. l.list ≡ rows) }
+    {
+        let mut live = LiveKeys::new(alloc);
+        live.reserve(rows.len())?;
+        let rows = restored_rows(alloc, rows)?;
+        let bytes = counted_bytes(rows.list())?;
+        let next_lapse = next_lapse(rows.list());
+        live.refill(rows.list(), number);
+        Ok(Ledger {
+            rows,
+            bytes,
+            next_lapse,
+            number,
+            live,
+        })
+    }
+
+    /// The rows, ascending by key.
+    pub fn rows(&self) -> &Rows
+        ensures list { result.now.list ≡ self.now.list }
+        ensures ascending { IsAscendingRows self.now.list }
+        ensures moments { All HasMoments self.now.list }
+    {
+        let _ = self.rows.list();
+        &self.rows
+    }
+
+    /// The keys of the rows that aren't still, ascending.
+    pub fn live(&self) -> &[RunKey]
+        ensures { result.now ≡ live_keys self.now.number self.now.list }
+    {
+        self.live.list()
+    }
+
+    /// How many bytes the results have that the rows keep.
+    pub fn result_bytes(&self) -> u64
+        ensures { result ≡ bytes_of_rows self.now.list }
+    {
+        self.bytes
+    }
+
+    /// Makes room for so many more rows than there are now.
+    pub fn reserve(&mut self, count: usize) -> Result<(), Memory>
+        ensures number { self.new.number ≡ self.old.number }
+        ensures same { self.new.list ≡ self.old.list }
+        ensures never_less { self.old.room ≤ self.new.room }
+        ensures ok { OnOk result (count ≤ self.new.room) }
+    {
+        self.rows.reserve(count)?;
+        match self.rows.list().len().checked_add(count) {
+            Some(places) => self.live.reserve(places),
+            None => Err(Memory),
+        }
+    }
+
+    /// Whether a row may lapse by the moment.
+    pub fn may_lapse(&self, moment: Moment) -> bool
+        ensures { IsFalse result → settled_rows moment self.now.list ≡ self.now.list }
+    {
+        if moment < self.next_lapse {
+            return false;
+        }
+        true
+    }
+
+    /// Closes each row that has lapsed by the moment.
+    pub fn settle(&mut self, moment: Moment)
+        ensures number { self.new.number ≡ self.old.number }
+        ensures rows { self.new.list ≡ settled_rows moment self.old.list }
+        ensures room { self.old.room ≤ self.new.room }
+    {
+        self.rows.settle(moment);
+        self.next_lapse = next_lapse(self.rows.list());
+        self.live.refill(self.rows.list(), self.number);
+    }
+
+    /// Sets what a step of life sets in the row of the key.
+    pub fn mark(&mut self, key: RunKey, step: LifeStep, moment: Moment)
+        requires result { BringsResult step }
+        requires moments { All HasMoments (change_row (marked_row step moment) self.old.list key) }
+        requires bytes { step_bytes step ≤ most_counted - bytes_of_rows self.old.list }
+        ensures number { self.new.number ≡ self.old.number }
+        ensures rows { self.new.list ≡ change_row (marked_row step moment) self.old.list key }
+        ensures room { self.old.room ≤ self.new.room }
+    {
+        let before = bytes_at(&self.rows, key);
+        self.rows.mark(key, step, moment);
+        let after = bytes_at(&self.rows, key);
+        self.bytes = self.bytes - before + after;
+        self.next_lapse = self.next_lapse.min(stands_at(&self.rows, key));
+        review(&mut self.live, &self.rows, key, self.number);
+    }
+
+    /// Sets what the fact tells in the row of the key.
+    pub fn note(&mut self, key: RunKey, fact: Fact, moment: Moment)
+        requires results { BringsResults fact }
+        requires moments { All HasMoments (change_row (noted_row fact moment) self.old.list key) }
+        requires bytes { fact_bytes fact ≤ most_counted - bytes_of_rows self.old.list }
+        ensures number { self.new.number ≡ self.old.number }
+        ensures rows { self.new.list ≡ change_row (noted_row fact moment) self.old.list key }
+        ensures room { self.old.room ≤ self.new.room }
+    {
+        let before = bytes_at(&self.rows, key);
+        self.rows.note(key, fact, moment);
+        let after = bytes_at(&self.rows, key);
+        self.bytes = self.bytes - before + after;
+        self.next_lapse = self.next_lapse.min(stands_at(&self.rows, key));
+        review(&mut self.live, &self.rows, key, self.number);
+    }
+
+    /// Puts a row that has no results.
+    pub fn put(&mut self, row: RunRow)
+        requires room { 0 < self.old.room }
+        requires new_key { find_row self.old.list row.key ≡ None }
+        requires moments { HasMoments row }
+        requires bytes { row_bytes row ≡ 0 }
+        ensures number { self.new.number ≡ self.old.number }
+        ensures rows { self.new.list ≡ put_row self.old.list row }
+        ensures room { self.old.room ≤ self.new.room + 1 }
+    {
+        self.next_lapse = self.next_lapse.min(stands_until(&row));
+        let _ = self.rows.list();
+        let key = row.key;
+        self.rows.put(row);
+        review(&mut self.live, &self.rows, key, self.number);
+    }
+
+    /// Takes the row of the key out for good; its place stays reserved.
+    pub fn purge(&mut self, key: RunKey)
+        ensures number { self.new.number ≡ self.old.number }
+        ensures rows { self.new.list ≡ lift_row self.old.list key }
+        ensures room { self.old.room ≤ self.new.room }
+    {
+        self.bytes -= bytes_at(&self.rows, key);
+        self.rows.purge(key);
+        self.live.mark(key, false);
+    }
+
+    /// Closes the rows of the reservations in conflict with the run, in favour of it.
+    pub fn close_conflicts(&mut self, timeline: &Timeline, run: &Booking, moment: Moment)
+        ensures number { self.new.number ≡ self.old.number }
+        ensures rows { self.new.list ≡ closed_each moment run.now.key run.now.class run.now.interval timeline.now.list self.old.list }
+        ensures room { self.old.room ≤ self.new.room }
+    {
+        let mut last = None;
+        while let Some(key) = timeline.next_conflict(run.class, &run.interval, last) {
+            self.preempt(key, run.key, moment);
+            last = Some(key);
+        }
+    }
+
+    // Closes the row of the key in favour of another run.
+    fn preempt(&mut self, key: RunKey, by: RunKey, moment: Moment)
+        ensures number { self.new.number ≡ self.old.number }
+        ensures rows { self.new.list ≡ change_row (close_row (record { moment = moment; why = Preempted by })) self.old.list key }
+        ensures room { self.old.room ≤ self.new.room }
+    {
+        let _ = self.rows();
+        self.mark(key, LifeStep::Close(Why::Preempted(by)), moment);
+    }
+}
+
+// How many bytes of results the rows keep. No memory holds more than the type counts.
+fn counted_bytes(rows: &[RunRow]) -> Result<u64, Memory>
+    ensures { IfOk result (λ bytes. bytes ≡ bytes_of_rows rows.now) }
+{
+    let bytes = result_bytes(rows);
+    if bytes == u64::MAX {
+        return Err(Memory);
+    }
+    Ok(bytes)
+}
+
+// How many bytes of results the row of the key keeps.
+fn bytes_at(rows: &Rows, key: RunKey) -> u64
+    ensures value { result ≡ min (bytes_at (find_row rows.now.list key)) most_counted }
+    ensures ascending { IsAscendingRows rows.now.list }
+{
+    let _ = rows.list();
+    match rows.find(key) {
+        Some(row) => row.result_bytes(),
+        None => 0,
+    }
+}
+
+// A moment before which the row of the key doesn't lapse.
+fn stands_at(rows: &Rows, key: RunKey) -> Moment
+    requires { IfSome (find_row rows.now.list key) HasMoments }
+    ensures { IfSome (find_row rows.now.list key) (StandsUntil result) }
+{
+    match rows.find(key) {
+        Some(row) => stands_until(row),
+        None => Moment::MAX,
+    }
+}
+
+// A moment before which the row doesn't lapse: the one at which it lapses, where there is one.
+fn stands_until(row: &RunRow) -> Moment
+    requires { HasMoments row.now }
+    ensures { StandsUntil result row.now }
+{
+    match row.lapse(Moment::MAX) {
+        Some(closing) => closing.moment,
+        None => Moment::MAX,
+    }
+}
+
+// A moment before which none of the rows lapses.
+fn next_lapse(rows: &[RunRow]) -> Moment
+    requires { All HasMoments rows.now }
+    ensures { All (StandsUntil result) rows.now }
+{
+    let mut next = Moment::MAX;
+    for row in rows {
+        next = next.min(stands_until(row));
+    }
+    next
+}
+
+// Puts the key of a row that came or changed among those of the rows that aren't still, or takes it out.
+fn review(live: &mut LiveKeys, rows: &Rows, key: RunKey, number: u16)
+    requires marked { marked (is_live_at number (find_row rows.now.list key)) live.old.list key ≡ live_keys number rows.now.list }
+    requires places { length rows.now.list ≤ live.old.places }
+    ensures list { live.new.list ≡ live_keys number rows.now.list }
+    ensures places { live.new.places ≡ live.old.places }
+{
+    let is_live = is_live_at(rows, key, number);
+    live.mark(key, is_live);
+}
+
+// Whether there is a row of the key, and it isn't still.
+fn is_live_at(rows: &Rows, key: RunKey, number: u16) -> bool
+    ensures { result ≡ is_live_at number (find_row rows.now.list key) }
+{
+    match rows.find(key) {
+        Some(row) => !is_still(row, number),
+        None => false,
+    }
+}
