@@ -1,0 +1,4 @@
+mod BookingLemmas
+mod CancelLemmas
+mod KeptLemmas
+mod WalkLemmas

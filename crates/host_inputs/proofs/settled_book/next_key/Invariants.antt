@@ -1,0 +1,9 @@
+use Rattle.std.proofs.Common.{◌≡◌, drop}
+use Rattle.std.specs.Prelude.{find}
+use Rattle.host_timeline.specs.Booking.{is_after}
+use Rattle.host_model.specs.Book.{keys_of_rows}
+use Rattle.host_inputs.proofs.settled_book.next_key.Given as goal
+
+-- what is left decides
+abbrev pub invariant-loop-row : goal.invariant-loop-row
+invariant-loop-row l = find (is_after l.after) (keys_of_rows l.rows) ≡ find (is_after l.after) (keys_of_rows (drop l.row-index l.rows))

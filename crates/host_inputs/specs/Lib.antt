@@ -1,0 +1,4 @@
+pub mod Answerable
+pub mod Epochs
+pub mod Kept
+pub mod Runs
