@@ -1,0 +1,178 @@
+-- What a draft keeps of its parts, as it opens and as changes are made.
+use Rattle.std.proofs.Common.{◌≡◌, ◌≤◌, ◌+◌, ◌-◌, ◌&&◌, ◌++◌, ◌∷◌, ℕ, zero, suc, Bool, true, false, cond, not, nat_le, nat_lt, List, [], Some, None, length, refl, ap, ap₂, sym, subst, ◌∙◌, arith}
+use Rattle.std.proofs.lemmas.List.{length-map}
+use Rattle.std.proofs.lemmas.Bool.Decides.{nat_tests}
+use Rattle.std.specs.List.{AllByRecursion}
+use Rattle.std.specs.Ordering.{is_eq}
+use Rattle.ps_time.specs.Key.{key_cmp}
+use Rattle.ps_time.specs.declared.key.RunKey.{RunKey}
+use Rattle.ps_time.specs.declared.moment.TheConstants.{MAX_MOMENT}
+use Rattle.limit_apply.specs.Limits.{Config as Limits}
+use Rattle.run_states.specs.Life.{settled_row}
+use Rattle.run_states.specs.ResultBytes.{result_bytes, row_bytes}
+use Rattle.run_states.specs.Rows.{change_row, find_row, lift_row, IsAscendingRows}
+use Rattle.run_states.specs.declared.row.RunRow.{RunRow}
+use Rattle.host_model.specs.Apply.{apply, apply_all, settled}
+use Rattle.host_model.specs.Book.{Book}
+use Rattle.host_model.specs.Draft.{Draft, ended, made, make, make_with}
+use Rattle.host_model.specs.Lawful.{Lawful}
+use Rattle.host_model.specs.RecordLength.{change_bytes}
+use Rattle.host_model.specs.declared.change.Change.{Change}
+use Rattle.run_states.proofs.Place.{key_is}
+use Rattle.host_model.proofs.SettledBook.{book_settled}
+use Rattle.row_ledger.specs.Ledger.{most_counted}
+use Rattle.row_ledger.proofs.RowLemmas.{above_other, bytes_cons, bytes_settled}
+use Rattle.host_draft.specs.Draft.{IsDraft, Seen, admits, book_now, with_draft}
+use Rattle.host_draft.specs.Overlay.{below, lapsed_over}
+use Rattle.host_draft.proofs.OverLemmas.{below_own, found_gone, found_marked, found_opened, found_touched}
+use Rattle.host_model.specs.Apply.{put_new}
+
+-- a draft without changes
+pub opened_sound : (number m : ℕ) (b : Book) (epoch count bytes left : ℕ) → b.moment ≤ m → m ≤ MAX_MOMENT → Lawful number b → epoch ≡ length b.epochs → count ≡ length b.rows → bytes ≡ result_bytes b.rows → bytes + left ≤ most_counted
+    → IsDraft number m b (book_now m [] b) (lapsed_over m [] b.rows) [] epoch count bytes left
+opened_sound number m b epoch count bytes left later low lawful epochs rows kept fits = record {
+  moment = low;
+  at = refl;
+  lawful = book_settled number b m later low lawful;
+  found = found_opened m b.rows lawful.ascending;
+  epoch = epochs;
+  count = let same = length-map b.rows (settled_row m) in omega (arith, rows, same);
+  bytes = kept ∙ sym (bytes_settled m b.rows);
+  room = fits;
+}
+
+-- one more change comes last
+apply_last : (m : ℕ) (cs : List Change) (c : Change) (b : Book) → apply_all m (cs ++ c ∷ []) b ≡ apply m c (apply_all m cs b)
+apply_last m [] c b = refl
+apply_last m (d ∷ ds) c b = apply_last m ds c (apply m d b)
+
+pub now_last : (m : ℕ) (cs later : List Change) (c : Change) (b : Book) → later ≡ cs ++ c ∷ [] → book_now m later b ≡ apply m c (book_now m cs b)
+now_last m cs later c b is = ap (λ l. book_now m l b) is ∙ apply_last m cs c (settled m b)
+
+-- ---- one change ----
+module _ (number m : ℕ) (began now : Book) (ts : List RunRow) (gone : List RunKey) (epoch count bytes left : ℕ) (sound : IsDraft number m began now ts gone epoch count bytes left) where
+  -- one more copy
+  pub touched_sound : (k : RunKey) → IsDraft number m began now (put_new (below gone began.rows k) ts) gone epoch count bytes left
+  touched_sound k = record {
+    moment = sound.moment;
+    at = sound.at;
+    lawful = sound.lawful;
+    found = λ j. sound.found j ∙ sym (found_touched (below gone began.rows) (below_own gone began.rows) ts k j);
+    epoch = sound.epoch;
+    count = sound.count;
+    bytes = sound.bytes;
+    room = sound.room;
+  }
+
+  -- a row changes
+  pub changed_sound : (c : Change) (f : RunRow → RunRow) → ((r : RunRow) → (f r).key ≡ r.key) → (k : RunKey) (kept rest : ℕ) → Lawful number (apply m c now)
+      → (apply m c now).rows ≡ change_row f now.rows k → (apply m c now).epochs ≡ now.epochs → kept ≡ result_bytes (change_row f now.rows k) → kept + rest ≤ most_counted
+      → IsDraft number m began (apply m c now) (change_row f (put_new (below gone began.rows k) ts) k) gone epoch count kept rest
+  changed_sound c f same k kept rest lawful rows epochs bytes_are fits = record {
+    moment = sound.moment;
+    at = sound.at;
+    lawful = lawful;
+    found = λ j. ap (λ l. find_row l j) rows ∙ found_marked (below gone began.rows) (below_own gone began.rows) f same now.rows ts k sound.found j;
+    epoch = sound.epoch ∙ ap length (sym epochs);
+    count =
+        let same = length-map now.rows (λ r. cond (is_eq (key_cmp r.key k)) (f r) r) in
+        let all = ap length rows in
+        omega (arith, sound.count, same, all);
+    bytes = bytes_are ∙ ap result_bytes (sym rows);
+    room = fits;
+  }
+
+  -- a row goes
+  pub gone_sound : (c : Change) (k : RunKey) (n kept rest : ℕ) → Lawful number (apply m c now) → (apply m c now).rows ≡ lift_row now.rows k → (apply m c now).epochs ≡ now.epochs
+      → n ≡ length (lift_row now.rows k) → kept ≡ result_bytes (lift_row now.rows k) → kept + rest ≤ most_counted
+      → IsDraft number m began (apply m c now) (lift_row ts k) (gone ++ k ∷ []) epoch n kept rest
+  gone_sound c k n kept rest lawful rows epochs fewer bytes_are fits = record {
+    moment = sound.moment;
+    at = sound.at;
+    lawful = lawful;
+    found = λ j. ap (λ l. find_row l j) rows ∙ found_gone now.rows ts gone began.rows k sound.found j;
+    epoch = sound.epoch ∙ ap length (sym epochs);
+    count = fewer ∙ ap length (sym rows);
+    bytes = bytes_are ∙ ap result_bytes (sym rows);
+    room = fits;
+  }
+
+-- ---- what is made ----
+is_place : (n : ℕ) → nat_lt 0 (suc n) ≡ true
+is_place n = grind (arith, nat_tests)
+
+module _ (m : ℕ) (c : Change) (d : Draft) where
+  -- a change for which there is place
+  pub made_admitted : admits (change_bytes c) d ≡ true → make m (Some c) d ≡ made m c d (d.places - 1)
+  made_admitted fits = go d.places refl fits
+    where
+      go : (p : ℕ) → d.places ≡ p → (nat_lt 0 p && nat_le (change_bytes c) d.left) ≡ true → make_with m c d p ≡ made m c d (p - 1)
+      go zero e is = cc
+      go (suc n) e is =
+          let fits : nat_le (change_bytes c) d.left ≡ true = ap (λ b. b && nat_le (change_bytes c) d.left) (sym (is_place n)) ∙ is in
+          let less : n ≡ suc n - 1 = omega arith in
+          ap (λ b. cond b (made m c d n) (ended d)) fits ∙ ap (made m c d) less
+
+  -- one for which there is none ends the step
+  pub made_refused : admits (change_bytes c) d ≡ false → make m (Some c) d ≡ ended d
+  made_refused fits = go d.places refl fits
+    where
+      go : (p : ℕ) → d.places ≡ p → (nat_lt 0 p && nat_le (change_bytes c) d.left) ≡ false → make_with m c d p ≡ ended d
+      go zero e is = ap (λ p. record { book = d.book; changes = d.changes; places = p; left = d.left }) e
+      go (suc n) e is =
+          let over : nat_le (change_bytes c) d.left ≡ false = ap (λ b. b && nat_le (change_bytes c) d.left) (sym (is_place n)) ∙ is in
+          ap (λ b. cond b (made m c d n) (ended d)) over
+
+-- ---- what is shown ----
+abbrev pub shown : ℕ → Limits → Book → List Change → ℕ → ℕ → Seen
+shown number limits b cs places left = record { number = number; limits = limits; draft = record { book = b; changes = cs; places = places; left = left } }
+
+module _ (number m : ℕ) (limits : Limits) (b : Book) (cs : List Change) (places left : ℕ) (c : Change) (s : Seen) (seen : shown number limits (book_now m cs b) cs places left ≡ s) (at : (book_now m cs b).moment ≡ m) where
+  moment_is : s.draft.book.moment ≡ m
+  moment_is = ap (λ (x : Seen). x.draft.book.moment) (sym seen) ∙ at
+
+  -- a change was made
+  pub made_shown : (later : List Change) → later ≡ cs ++ c ∷ [] → admits (change_bytes c) s.draft ≡ true → shown number limits (book_now m later b) later (places - 1) (left - change_bytes c) ≡ with_draft (make s.draft.book.moment (Some c) s.draft) s
+  made_shown later next fits =
+      ap₂ (λ x l. shown number limits x l (places - 1) (left - change_bytes c)) (now_last m cs later c b next) next
+      ∙ (ap (λ (x : Seen). with_draft (made m c x.draft (x.draft.places - 1)) x) seen
+      ∙ (ap (λ d. with_draft d s) (sym (made_admitted m c s.draft fits))
+      ∙ ap (λ n. with_draft (make n (Some c) s.draft) s) (sym moment_is)))
+
+  -- the step ended
+  pub refused_shown : admits (change_bytes c) s.draft ≡ false → shown number limits (book_now m cs b) cs 0 left ≡ with_draft (make s.draft.book.moment (Some c) s.draft) s
+  refused_shown fits =
+      ap (λ (x : Seen). with_draft (ended x.draft) x) seen
+      ∙ (ap (λ d. with_draft d s) (sym (made_refused m c s.draft fits))
+      ∙ ap (λ n. with_draft (make n (Some c) s.draft) s) (sym moment_is))
+
+-- ---- bytes of results ----
+-- a change that leaves each row's results leaves all
+pub bytes_kept : (f : RunRow → RunRow) → ((r : RunRow) → row_bytes (f r) ≡ row_bytes r) → (rows : List RunRow) (k : RunKey) → result_bytes (change_row f rows k) ≡ result_bytes rows
+bytes_kept f same [] k = refl
+bytes_kept f same (r ∷ rs) k =
+    let b : Bool = is_eq (key_cmp r.key k) in
+    bytes_cons (cond b (f r) r) (change_row f rs k)
+    ∙ (ap₂ (λ x y. x + y) (either b) (bytes_kept f same rs k)
+    ∙ sym (bytes_cons r rs))
+  where
+    either : (b : Bool) → row_bytes (cond b (f r) r) ≡ row_bytes r
+    either true = same r
+    either false = refl
+
+-- ---- a row that goes ----
+lift_none : (k : RunKey) (xs : List RunRow) → AllByRecursion (λ y. is_eq (key_cmp y.key k) ≡ false) xs → lift_row xs k ≡ xs
+lift_none k [] all = refl
+lift_none k (x ∷ xs) all = ap₂ (λ b l. cond (not b) (x ∷ l) l) all.0 (lift_none k xs all.1)
+
+-- there is one row less
+pub fewer_rows : (rows : List RunRow) (k : RunKey) (r : RunRow) → IsAscendingRows rows → find_row rows k ≡ Some r → length (lift_row rows k) + 1 ≡ length rows
+fewer_rows [] k r up e = cc
+fewer_rows (x ∷ xs) k r up e = go (is_eq (key_cmp x.key k)) refl e (fewer_rows xs k r up.1)
+  where
+    go : (b : Bool) → is_eq (key_cmp x.key k) ≡ b → cond b (Some x) (find_row xs k) ≡ Some r → (find_row xs k ≡ Some r → length (lift_row xs k) + 1 ≡ length xs) → length (cond (not b) (x ∷ lift_row xs k) (lift_row xs k)) + 1 ≡ length (x ∷ xs)
+    go true h is later =
+        let others : AllByRecursion (λ y. is_eq (key_cmp y.key k) ≡ false) xs = subst (λ j. AllByRecursion (λ y. is_eq (key_cmp y.key j) ≡ false) xs) (key_is x.key k h) (above_other x.key xs up.0) in
+        let same : length (lift_row xs k) ≡ length xs = ap length (lift_none k xs others) in
+        omega (arith, same)
+    go false h is later = let one = later is in omega (arith, one)

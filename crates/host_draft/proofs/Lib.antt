@@ -1,0 +1,5 @@
+pub mod DraftLemmas
+pub mod FreeLemmas
+pub mod OverLemmas
+pub mod PickLemmas
+pub mod ReadLemmas

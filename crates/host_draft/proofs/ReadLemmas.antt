@@ -1,0 +1,92 @@
+-- What is read of a draft is what its rows say.
+use Rattle.std.specs.Prelude.{IfSome, find}
+use Rattle.std.specs.List.{last_or, list_any}
+use Rattle.std.specs.Ordering.{is_lt}
+use Rattle.std.proofs.Common.{◌≡◌, ◌≤◌, ◌&&◌, ◌||◌, ℕ, ℤ, Bool, true, false, cond, not, List, [], ◌∷◌, filter, Option, Some, None, option_map, is_some, refl, ap, ap₂, sym, subst, ◌∙◌}
+use Rattle.ps_time.specs.Key.{key_cmp}
+use Rattle.ps_time.specs.Span.{Range}
+use Rattle.ps_time.specs.declared.class.Class.{Class}
+use Rattle.ps_time.specs.declared.key.RunKey.{RunKey}
+use Rattle.run_states.specs.Life.{HasMoments}
+use Rattle.run_states.specs.Rows.{find_row, IsAscendingRows}
+use Rattle.run_states.specs.TaskRows.{is_of_task, newest_row, rows_of_task}
+use Rattle.run_states.specs.declared.row.RunRow.{RunRow}
+use Rattle.host_timeline.specs.Booking.{conflicting_after, keys_of, lesser_of}
+use Rattle.host_timeline.specs.Free.{free_tiers as free_among}
+use Rattle.host_timeline.specs.declared.booking.Booking.{Booking}
+use Rattle.part_core.specs.Reservations.{bookings_of}
+use Rattle.host_model.specs.Book.{Book}
+use Rattle.host_model.specs.FreeStarts.{free_tiers}
+use Rattle.host_model.specs.Lawful.{Lawful}
+use Rattle.host_model.proofs.RowLemmas.{found_of_all}
+use Rattle.host_book.proofs.MomentLemmas.{book_moments}
+use Rattle.host_draft.specs.Draft.{IsDraft}
+use Rattle.host_draft.specs.Overlay.{Takes, booked, gathered, hides, later, meets, meets_below}
+use Rattle.host_draft.specs.declared.overlay.Sought.{Sought}
+use Rattle.host_draft.proofs.FreeLemmas.{takes_gathered, tiers_over}
+use Rattle.host_draft.proofs.PickLemmas.{earlier, find_over, greater_order, is_greater, is_less, last_over, less_order, sought_over}
+
+-- the later row is the one that comes first among descending keys
+later_is : (a b : Option RunRow) → earlier is_greater greater_order a b ≡ later a b
+later_is None b = refl
+later_is (Some a) None = refl
+later_is (Some a) (Some b) = refl
+
+filter_twice : (p g : RunRow → Bool) (xs : List RunRow) → filter g (filter p xs) ≡ filter (λ r. p r && g r) xs
+filter_twice p g [] = refl
+filter_twice p g (x ∷ xs) = elim (p x) as (λ b. filter g (cond b (x ∷ filter p xs) (filter p xs)) ≡ cond (b && g x) (x ∷ filter (λ r. p r && g r) xs) (filter (λ r. p r && g r) xs)) [
+  | true ↦ ap (λ l. cond (g x) (x ∷ l) l) (filter_twice p g xs)
+  | false ↦ filter_twice p g xs
+]
+
+-- the row of each key has its moments in bounds
+pub moments_now : (number : ℕ) (b : Book) → Lawful number b → (k : RunKey) → IfSome (find_row b.rows k) HasMoments
+moments_now number b lawful k = go (find_row b.rows k) refl
+  where
+    go : (o : Option RunRow) → find_row b.rows k ≡ o → IfSome o HasMoments
+    go None e = tt
+    go (Some r) e = found_of_all HasMoments k r b.rows (book_moments number b lawful) e
+
+module _ (number m : ℕ) (began now : Book) (touched : List RunRow) (gone : List RunKey) (epoch count bytes left : ℕ) (sound : IsDraft number m began now touched gone epoch count bytes left)
+    (up : IsAscendingRows touched) (lawful : Lawful number began) where
+  pub read_sought : (s : Sought) (bookings : List Booking) → bookings ≡ bookings_of began.rows
+      → lesser_of (option_map (λ r. r.key) (find (meets m s) touched)) (find (meets_below m s touched gone began.rows) (keys_of (conflicting_after s.class s.interval s.after bookings)))
+      ≡ option_map (λ r. r.key) (find (meets now.moment s) now.rows)
+  read_sought s bookings index =
+      ap (λ l. lesser_of (option_map (λ r. r.key) (find (meets m s) touched)) (find (meets_below m s touched gone began.rows) (keys_of (conflicting_after s.class s.interval s.after l)))) index
+      ∙ (sym (sought_over now.rows touched gone began.rows sound.lawful.ascending up lawful.ascending sound.found m s)
+      ∙ ap (λ n. option_map (λ (r : RunRow). r.key) (find (meets n s) now.rows)) (sym sound.at))
+
+  pub read_newest : (lead serial : ℕ) → later (newest_row lead serial touched) (last_or None (filter (λ r. not (hides touched gone r.key)) (rows_of_task lead serial began.rows))) ≡ newest_row lead serial now.rows
+  read_newest lead serial =
+      ap (λ l. later (newest_row lead serial touched) (last_or None l)) (filter_twice (is_of_task lead serial) (λ r. not (hides touched gone r.key)) began.rows)
+      ∙ (sym (later_is (newest_row lead serial touched) (last_or None (filter (λ r. is_of_task lead serial r && not (hides touched gone r.key)) began.rows)))
+      ∙ sym (last_over now.rows touched gone began.rows sound.lawful.ascending up lawful.ascending sound.found (is_of_task lead serial)))
+
+  -- what is gathered can be taken in
+  pub read_takes : (bookings list : List Booking) → bookings ≡ bookings_of began.rows → list ≡ gathered touched gone bookings → Takes list []
+  read_takes bookings list index is =
+      takes_gathered now.rows touched gone began.rows sound.lawful.ascending up lawful.ascending sound.found sound.lawful.no_clash list (is ∙ ap (gathered touched gone) index)
+
+  pub read_tiers : (class : Class) (len : ℕ) (priority : ℤ) (w : Range) (bookings list made : List Booking) → bookings ≡ bookings_of began.rows → list ≡ gathered touched gone bookings → made ≡ booked list []
+      → free_among class len priority w m made ≡ free_tiers class len priority w now.moment now.rows
+  read_tiers class len priority w bookings list made index is made_is =
+      tiers_over now.rows touched gone began.rows sound.lawful.ascending up lawful.ascending sound.found class len priority w m made (made_is ∙ ap (λ l. booked l []) (is ∙ ap (gathered touched gone) index))
+      ∙ ap (λ n. free_tiers class len priority w n now.rows) (sym sound.at)
+
+  -- some row passes
+  pub read_any : (p : RunRow → Bool) → (list_any p touched || list_any (λ r. p r && not (hides touched gone r.key)) began.rows) ≡ list_any p now.rows
+  read_any p =
+      ap₂ (λ a b. a || b) (some_found p touched) (some_found (λ r. p r && not (hides touched gone r.key)) began.rows)
+      ∙ (sym (some_earlier (find p touched) (find (λ r. p r && not (hides touched gone r.key)) began.rows))
+      ∙ (ap is_some (sym (find_over now.rows touched gone began.rows sound.lawful.ascending up lawful.ascending sound.found p))
+      ∙ sym (some_found p now.rows)))
+    where
+      some_found : (p : RunRow → Bool) (rows : List RunRow) → list_any p rows ≡ is_some (find p rows)
+      some_found p [] = refl
+      some_found p (r ∷ rs) = elim (p r) as (λ b. (b || list_any p rs) ≡ is_some (cond b (Some r) (find p rs))) [ true ↦ refl | false ↦ some_found p rs ]
+
+      some_earlier : (a b : Option RunRow) → is_some (earlier is_less less_order a b) ≡ (is_some a || is_some b)
+      some_earlier None b = refl
+      some_earlier (Some r) None = refl
+      some_earlier (Some r) (Some s) = elim (is_less s.key r.key) as (λ c. is_some (cond c (Some s) (Some r)) ≡ true) [ true ↦ refl | false ↦ refl ]

@@ -1,0 +1,13 @@
+use Rattle.std.proofs.Common.{◌≡◌, ◌≤◌, ◌+◌, ◌∙◌, length, ap, arith}
+use Rattle.row_ledger.specs.Ledger.{most_counted}
+use Rattle.host_draft.proofs.DraftLemmas.{opened_sound}
+use Rattle.host_draft.proofs.draft.Draft.new.Goals as goal
+
+-- the lapsed rows lie over the book, and no other
+pub invariant_of-result : goal.invariant_of-result
+invariant_of-result c =
+    let b = c.args.book.now.book in
+    let epochs : c.in-Ok.epoch ≡ length b.epochs = c.in-Ok.ensures.1 ∙ ap length c.epochs.ensures in
+    let fits : c.result_bytes-bytes.result + 4194292 ≤ most_counted = omega (arith, c.if-bytes.false) in
+    rw (c.in_ok-touched.ensures, c.list.ensures.rows, c.rows.ensures.list, c.new.ensures.items, c.new-2.ensures)
+    (opened_sound c.args.book.now.number c.args.moment b c.in-Ok.epoch (length c.list-2.result.now) c.result_bytes-bytes.result 4194292 c.requires.later c.requires.bound c.rows.ensures.lawful epochs (ap length (c.list-2.ensures.rows ∙ c.rows-2.ensures.list)) c.result_bytes-bytes.ensures fits)

@@ -1,0 +1,12 @@
+use Rattle.std.proofs.Common.{◌≡◌, ◌∙◌, Bool, true, not, ap, sym}
+use Rattle.run_states.specs.declared.row.RunRow.{RunRow}
+use Rattle.host_draft.specs.Overlay.{hides}
+use Rattle.host_draft.proofs.PickLemmas.{last_here}
+use Rattle.host_draft.proofs.overlay.last_bare.Goals as goal
+
+-- the last of those that are left
+pub returns-then-not-is_hidden : goal.returns-then-not-is_hidden
+returns-then-not-is_hidden c =
+    let g : RunRow → Bool = λ r. not (hides c.args.touched.now.list c.args.gone.now r.key) in
+    let bare : g c.index-rows-end.result ≡ true = ap not (sym c.is_hidden.ensures ∙ c.if-not-is_hidden.true) in
+    sym (c.loop-end.invariant.left ∙ last_here g c.args.rows.now c.loop-end.end c.index-rows-end.result c.loop-end-test.true c.loop-end.invariant.within c.index-rows-end.is bare)
