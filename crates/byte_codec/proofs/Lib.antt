@@ -1,4 +1,4 @@
-mod Loop
+pub mod Loop
 mod NoText
 mod Pushed
-mod WholeLemmas
+pub mod WholeLemmas

@@ -153,7 +153,8 @@ fn read_asked(alloc: Global, bytes: &[u8]) -> Result<(Change, &[u8]), CodeFault>
     ))
 }
 
-fn read_change(alloc: Global, number: u8, bytes: &[u8]) -> Result<(Change, &[u8]), CodeFault>
+/// The change of this tag with whose fields the bytes begin, and the bytes behind them.
+pub fn read_fields(alloc: Global, number: u8, bytes: &[u8]) -> Result<(Change, &[u8]), CodeFault>
     ensures value { Gives (λ x. (x.0, x.1.now)) result (change_cases number bytes.now) }
     ensures fits { IfOk result (λ x. FitsChange x.0) }
 {
@@ -289,7 +290,7 @@ impl Coded for Change {
 
     fn read(alloc: Global, bytes: &[u8]) -> Result<(Change, &[u8]), CodeFault> {
         let (number, rest) = u8::read(alloc, bytes)?;
-        read_change(alloc, number, rest)
+        read_fields(alloc, number, rest)
     }
 
     ghost laws = { change_is };

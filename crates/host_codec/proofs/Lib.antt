@@ -1,0 +1,5 @@
+mod FirstLemmas
+mod FollowLemmas
+mod LengthLemmas
+mod ReadLemmas
+mod WritableLemmas

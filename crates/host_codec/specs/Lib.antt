@@ -1,1 +1,3 @@
 pub mod Books
+pub mod Bounds
+pub mod FirstFormat

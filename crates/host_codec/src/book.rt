@@ -1,8 +1,15 @@
 //! Books as bytes: snapshots of the second format.
-ghost use Rattle.std.specs.Prelude.{◌++◌, ◌≡◌, IfOk, IfSome, OnOk, Some};
+ghost use Rattle.std.specs.Prelude.{◌++◌, ◌<◌, ◌^◌, ◌≡◌, IfOk, IfSome, OnOk, Some, length, ℕ};
 ghost use Rattle.byte_codec.specs.Gives.{Gives};
 ghost use Rattle.byte_codec.specs.Reading.{whole_of};
-ghost use Rattle.host_model.specs.Book.{Book};
+ghost use Rattle.host_model.specs.Book.{Book, empty_book};
+ghost use Rattle.host_model.specs.Lawful.{Lawful};
+ghost use Rattle.host_model.specs.declared.task_row.TaskRow.{TaskRow as Task};
+ghost use Rattle.run_states.specs.declared.row.RunRow.{RunRow as Row};
+ghost use Rattle.task_spec.specs.Bounds.{IsTask};
+ghost use Rattle.row_check.specs.HasTests.{HasTests};
+ghost use Rattle.byte_codec.specs.Rows.{row};
+ghost use Rattle.byte_codec.specs.Tasks.{task_row};
 ghost use Rattle.host_codec.specs.Books.{back, back_of, book, epochs, front, front_of, lent, second};
 
 use byte_codec::coded::Coded;
@@ -40,6 +47,21 @@ impl Model for KeptBook {
     ghost Value = { Book };
 
     ghost view = { λ b. record { moment = b.moment; epochs = b.epochs; pairs = b.pairs; tasks = b.tasks; rows = b.rows } };
+}
+
+impl KeptBook {
+    /// The book of a host that has kept nothing.
+    pub fn empty(alloc: Global) -> KeptBook
+        ensures { result ≡ empty_book }
+    {
+        KeptBook {
+            moment: 0,
+            epochs: Items::new(alloc),
+            pairs: Items::new(alloc),
+            tasks: Items::new(alloc),
+            rows: Items::new(alloc),
+        }
+    }
 }
 
 /// The parts of a book, lent to be written.
@@ -159,3 +181,14 @@ pub fn read_book(alloc: Global, bytes: &[u8]) -> Result<Option<KeptBook>, Memory
 {
     read_whole::<KeptBook>(alloc, bytes)
 }
+
+/// A law: each lawful book whose snapshot has fewer than 2^32 bytes may be written.
+pub fn law_writable_book()
+    ensures { (self : ℕ) (b : Book) → Lawful self b → length (book.code b) < 2 ^ 32 → book.Writable b }
+{}
+
+/// Laws: the tests and tasks of what was read keep their bounds, as the tests of books ask.
+pub fn law_read()
+    ensures rows { (r : Row) → row.Fits r → HasTests r }
+    ensures tasks { (t : Task) → task_row.Fits t → IsTask t.asker.server t.task }
+{}

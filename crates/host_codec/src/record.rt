@@ -1,8 +1,13 @@
 //! Records of changes as bytes.
-ghost use Rattle.std.specs.Prelude.{◌++◌, ◌≡◌, IfOk, IfSome, List, OnOk, Some, ℕ};
-ghost use Rattle.byte_codec.specs.Changes.{changes};
+ghost use Rattle.std.specs.Prelude.{◌++◌, ◌<◌, ◌^◌, ◌≡◌, All, IfOk, IfSome, List, OnOk, Some, length, ℕ};
+ghost use Rattle.byte_codec.specs.Changes.{change, changes};
 ghost use Rattle.byte_codec.specs.Reading.{whole_of};
+ghost use Rattle.host_model.specs.Book.{Book};
+ghost use Rattle.host_model.specs.MayFollow.{MayFollow};
+ghost use Rattle.host_model.specs.RecordLength.{change_bytes, record_bytes};
+ghost use Rattle.host_model.specs.declared.change.Change.{Change};
 ghost use Rattle.host_model.specs.declared.change.Changes.{Changes};
+ghost use Rattle.host_codec.specs.Bounds.{KeepsBounds};
 
 use byte_codec::coded::Coded;
 use byte_codec::whole::{law_one_code, read_whole};
@@ -34,3 +39,16 @@ pub fn law_record()
 {
     law_one_code::<Changes>();
 }
+
+/// Laws: the bytes of a change and of a record are as many as a host counts for them.
+pub fn law_lengths()
+    ensures change { (c : Change) → length (change.code c) ≡ change_bytes c }
+    ensures record { (r : Changes) → length (changes.code r) ≡ record_bytes r.list }
+{}
+
+/// Laws: a record of fewer than 2^32 bytes whose tests and tasks keep their bounds may be written, and so may each of
+/// fewer than 2^32 bytes that may follow a book.
+pub fn law_writable_record()
+    ensures bounds { (r : Changes) → record_bytes r.list < 2 ^ 32 → All KeepsBounds r.list → changes.Writable r }
+    ensures follows { (self : ℕ) (b : Book) (r : Changes) → MayFollow self b r → record_bytes r.list < 2 ^ 32 → changes.Writable r }
+{}

@@ -1,0 +1,3 @@
+mod FoundTasks
+mod OrderLemmas
+mod StateLemmas

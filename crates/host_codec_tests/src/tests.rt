@@ -1,0 +1,201 @@
+//! What no clause says: records and snapshots byte by byte, as docs/specification/journal.md has them, and bytes of none.
+//! The snapshot with two bookings is one that examples/first-format/make.py writes.
+
+use host_codec::book::{BookParts, KeptBook, read_book, write_book};
+use host_codec::record::{read_record, write_record};
+use host_model::change::{Change, Changes};
+use ps_time::items::Items;
+use ps_time::key::RunKey;
+use run_states::row::RunRow;
+use std::alloc::Global;
+use std::test::Fail;
+
+// At the moment 1000 one change: the confirmation of the seventh booking of host 1.
+static CONFIRMED: [u8; 25] = [
+    0, 0, 0, 0, 0, 0, 3, 232, // the moment
+    0, 0, 0, 1, // one change
+    6, // its tag
+    0, 1, // the key's lead
+    0, 0, 0, 0, // its task
+    0, 0, 0, 7, // its number
+    0, 0, // its attempt
+];
+
+// The snapshot of a host that has kept nothing but the moment 1000.
+static EMPTY: [u8; 36] = [
+    255, 255, 255, 255, 255, 255, 255, 255, // the mark of the second format
+    0, 0, 0, 2, // its number
+    0, 0, 0, 0, 0, 0, 3, 232, // the moment
+    0, 0, 0, 0, // no epochs
+    0, 0, 0, 0, // no pairs
+    0, 0, 0, 0, // no tasks
+    0, 0, 0, 0, // no rows
+];
+
+// At the moment 0 a book with two bookings that are accepted and confirmed.
+static TWO_BOOKINGS: [u8; 368] = [
+    0xff, 0xff, 0xff, 0xff, 0xff, 0xff, 0xff, 0xff, 0x00, 0x00, 0x00, 0x02, 0x00, 0x00, 0x00, 0x00,
+    0x00, 0x00, 0x00, 0x00, 0x00, 0x00, 0x00, 0x00, 0x00, 0x00, 0x00, 0x02, 0x00, 0x01, 0x00, 0x00,
+    0x00, 0x00, 0x00, 0x00, 0x00, 0x01, 0x00, 0x00, 0x00, 0x00, 0x00, 0x00, 0x00, 0x01, 0x00, 0x00,
+    0x00, 0x00, 0x00, 0x00, 0x00, 0x02, 0x00, 0x00, 0x00, 0x00, 0x00, 0x00, 0x00, 0x00, 0x00, 0x00,
+    0x00, 0x00, 0x00, 0x02, 0x00, 0x01, 0x00, 0x00, 0x00, 0x00, 0x00, 0x00, 0x00, 0x01, 0x00, 0x00,
+    0x00, 0x00, 0x00, 0x2d, 0x7b, 0x22, 0x73, 0x70, 0x65, 0x63, 0x22, 0x3a, 0x7b, 0x22, 0x64, 0x75,
+    0x72, 0x61, 0x74, 0x69, 0x6f, 0x6e, 0x22, 0x3a, 0x22, 0x50, 0x54, 0x31, 0x30, 0x53, 0x22, 0x7d,
+    0x2c, 0x22, 0x74, 0x79, 0x70, 0x65, 0x22, 0x3a, 0x22, 0x69, 0x64, 0x6c, 0x65, 0x65, 0x78, 0x22,
+    0x7d, 0x01, 0x00, 0x00, 0x00, 0x05, 0x73, 0x6c, 0x65, 0x65, 0x70, 0x01, 0x00, 0x00, 0x00, 0x00,
+    0x00, 0x00, 0x00, 0x64, 0x00, 0x00, 0x00, 0x00, 0x00, 0x00, 0x00, 0x6e, 0x00, 0x00, 0x00, 0x00,
+    0x00, 0x01, 0x00, 0x00, 0x00, 0x01, 0x61, 0x00, 0x00, 0x00, 0x09, 0x31, 0x32, 0x37, 0x2e, 0x30,
+    0x2e, 0x30, 0x2e, 0x31, 0x00, 0x00, 0x00, 0x01, 0x61, 0x01, 0x00, 0x00, 0x00, 0x00, 0x00, 0x00,
+    0x00, 0x00, 0x01, 0x00, 0x00, 0x00, 0x00, 0x00, 0x00, 0x00, 0x00, 0x00, 0x00, 0x00, 0x00, 0x00,
+    0x00, 0x00, 0x00, 0x00, 0x00, 0x00, 0x00, 0x00, 0x00, 0x00, 0x00, 0x01, 0x00, 0x00, 0x00, 0x00,
+    0x00, 0x00, 0x00, 0x02, 0x00, 0x00, 0x00, 0x00, 0x00, 0x2d, 0x7b, 0x22, 0x73, 0x70, 0x65, 0x63,
+    0x22, 0x3a, 0x7b, 0x22, 0x64, 0x75, 0x72, 0x61, 0x74, 0x69, 0x6f, 0x6e, 0x22, 0x3a, 0x22, 0x50,
+    0x54, 0x31, 0x30, 0x53, 0x22, 0x7d, 0x2c, 0x22, 0x74, 0x79, 0x70, 0x65, 0x22, 0x3a, 0x22, 0x69,
+    0x64, 0x6c, 0x65, 0x65, 0x78, 0x22, 0x7d, 0x01, 0x00, 0x00, 0x00, 0x05, 0x73, 0x6c, 0x65, 0x65,
+    0x70, 0x01, 0x00, 0x00, 0x00, 0x00, 0x00, 0x00, 0x00, 0x6e, 0x00, 0x00, 0x00, 0x00, 0x00, 0x00,
+    0x00, 0x78, 0x00, 0x00, 0x00, 0x00, 0x00, 0x01, 0x00, 0x00, 0x00, 0x01, 0x61, 0x00, 0x00, 0x00,
+    0x09, 0x31, 0x32, 0x37, 0x2e, 0x30, 0x2e, 0x30, 0x2e, 0x31, 0x00, 0x00, 0x00, 0x01, 0x61, 0x01,
+    0x00, 0x00, 0x00, 0x00, 0x00, 0x00, 0x00, 0x00, 0x01, 0x00, 0x00, 0x00, 0x00, 0x00, 0x00, 0x00,
+    0x00, 0x00, 0x00, 0x00, 0x00, 0x00, 0x00, 0x00, 0x00, 0x00, 0x00, 0x00, 0x00, 0x00, 0x00, 0x00,
+];
+
+fn seventh() -> RunKey {
+    RunKey {
+        lead: 1,
+        task: 0,
+        number: 7,
+        attempt: 0,
+    }
+}
+
+fn confirms(kept: &Changes, key: RunKey) -> bool {
+    match kept.list.as_slice() {
+        [Change::Confirmed(confirmed)] => *confirmed == key,
+        _ => false,
+    }
+}
+
+fn is_confirmation(alloc: Global, bytes: &[u8]) -> bool {
+    match read_record(alloc, bytes) {
+        Ok(Some(kept)) => kept.moment == 1_000 && confirms(&kept, seventh()),
+        _ => false,
+    }
+}
+
+fn writes_confirmation(alloc: Global, wanted: &[u8]) -> bool {
+    let mut list = Vec::new(alloc);
+    if list.push(Change::Confirmed(seventh())).is_err() {
+        return false;
+    }
+    let kept = Changes {
+        moment: 1_000,
+        list: Items::from_vec(list),
+    };
+    let mut out = Vec::new(alloc);
+    write_record(alloc, &kept, &mut out).is_ok() && out.as_slice() == wanted
+}
+
+#[test]
+fn a_record_byte_by_byte(rt: HostRuntime) -> Result<(), Fail> {
+    let alloc = rt.alloc();
+    assert!(rt; is_confirmation(alloc, &CONFIRMED));
+    assert!(rt; writes_confirmation(alloc, &CONFIRMED));
+    Ok(())
+}
+
+fn is_first_row(row: &RunRow) -> bool {
+    row.key.number == 1 && row.accepted == Some(0) && row.confirmed == Some(0)
+}
+
+fn has_two_rows(book: &KeptBook) -> bool {
+    match book.rows.as_slice() {
+        [first, second] => is_first_row(first) && second.key.number == 2,
+        _ => false,
+    }
+}
+
+fn has_two_pairs(book: &KeptBook) -> bool {
+    match book.pairs.as_slice() {
+        [first, second] => first.0.number == 1 && first.1 == 0 && second.0.number == 2,
+        _ => false,
+    }
+}
+
+fn has_two_bookings(book: &KeptBook) -> bool {
+    book.moment == 0 && book.epochs.len() == 0 && has_two_rows(book) && has_two_pairs(book)
+}
+
+fn is_empty_at(book: &KeptBook, moment: u64) -> bool {
+    book.moment == moment && book.tasks.len() == 0 && book.rows.len() == 0
+}
+
+fn reads_empty(alloc: Global, bytes: &[u8]) -> bool {
+    match read_book(alloc, bytes) {
+        Ok(Some(book)) => is_empty_at(&book, 1_000),
+        _ => false,
+    }
+}
+
+fn writes_empty(alloc: Global, wanted: &[u8]) -> bool {
+    let mut out = Vec::new(alloc);
+    let parts = BookParts {
+        moment: 1_000,
+        epochs: &[],
+        pairs: &[],
+        tasks: &[],
+        rows: &[],
+    };
+    write_book(alloc, &parts, &mut out).is_ok() && out.as_slice() == wanted
+}
+
+fn reads_two(alloc: Global, bytes: &[u8]) -> bool {
+    match read_book(alloc, bytes) {
+        Ok(Some(book)) => has_two_bookings(&book),
+        _ => false,
+    }
+}
+
+#[test]
+fn a_snapshot_there_and_back(rt: HostRuntime) -> Result<(), Fail> {
+    let alloc = rt.alloc();
+    assert!(rt; writes_empty(alloc, &EMPTY));
+    assert!(rt; reads_empty(alloc, &EMPTY));
+    assert!(rt; reads_two(alloc, &TWO_BOOKINGS));
+    Ok(())
+}
+
+fn is_no_record(alloc: Global, bytes: &[u8]) -> bool {
+    matches!(read_record(alloc, bytes), Ok(None))
+}
+
+fn is_no_book(alloc: Global, bytes: &[u8]) -> bool {
+    matches!(read_book(alloc, bytes), Ok(None))
+}
+
+static NO_RECORDS: [&[u8]; 5] = [
+    &[],
+    &[0, 0, 0, 0, 0, 0, 3, 232, 0, 0, 0, 1],
+    &[0, 0, 0, 0, 0, 0, 3, 232, 0, 0, 0, 0, 0],
+    &[0, 0, 0, 0, 0, 0, 3, 232, 0, 0, 0, 1, 0, 0, 0, 0, 1],
+    &[
+        0, 0, 0, 0, 0, 0, 3, 232, 0, 0, 0, 1, 19, 0, 1, 0, 0, 0, 0, 0, 0, 0, 7, 0, 0,
+    ],
+];
+
+fn are_no_records(alloc: Global, table: &[&[u8]]) -> bool {
+    for bytes in table {
+        if !is_no_record(alloc, bytes) {
+            return false;
+        }
+    }
+    true
+}
+
+#[test]
+fn bytes_of_no_value(rt: HostRuntime) -> Result<(), Fail> {
+    let alloc = rt.alloc();
+    assert!(rt; are_no_records(alloc, &NO_RECORDS));
+    assert!(rt; is_no_book(alloc, &[]) && is_no_book(alloc, &EMPTY[..35]));
+    assert!(rt; is_no_book(alloc, &TWO_BOOKINGS[8..]));
+    Ok(())
+}
