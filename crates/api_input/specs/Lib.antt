@@ -1,9 +1,5 @@
-pub mod Bodies
-pub mod Denied
-pub mod Heard
 pub mod Places
 pub mod Query
 pub mod Refused
 pub mod Routes
-pub mod Told
 pub mod Understood

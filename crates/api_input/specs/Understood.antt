@@ -14,7 +14,7 @@ use Rattle.host_model.specs.declared.config.Peer.{Peer as PeerHost}
 use Rattle.host_model.specs.declared.input.Input.{Input}
 use Rattle.host_model.specs.declared.input.Input.TheVariants as input
 use Rattle.host_model.specs.declared.view.Page.TheVariants as page
-use Rattle.api_input.specs.Bodies.{body_tree, material_of, proposal_of, question_of}
+use Rattle.api_body.specs.Bodies.{body_tree, material_of, proposal_of, question_of}
 use Rattle.api_input.specs.Places.{target_of}
 use Rattle.api_input.specs.Query.{window_of}
 use Rattle.api_input.specs.Refused.{in_body}

@@ -7,11 +7,11 @@ ghost use Rattle.host_model.specs.Propose.{find_peer};
 ghost use Rattle.api_input.specs.Query.{window_of};
 ghost use Rattle.api_input.specs.Understood.{sender_of, schedule_input, posted_input, task_input, open_input, public_input, asked_by, from_peer, input_at, understood};
 
-use crate::bodies::{read_body, read_material, read_proposal, read_question};
 use crate::parts::Parts;
 use crate::place::{PeerPlace, Place, PublicPlace, find_target};
 use crate::query::read_window;
 use crate::refusal::Refusal;
+use api_body::bodies::{read_body, read_material, read_proposal, read_question};
 use host_model::config::{Config, Peer};
 use host_model::input::Input;
 use host_model::view::Page;

@@ -1,0 +1,3 @@
+pub mod Denied
+pub mod Heard
+pub mod Told

@@ -1,0 +1,4 @@
+//! How a host refuses a request that asks nothing of it.
+#![tactic(auto)]
+
+pub mod refusal;

@@ -1,0 +1,3 @@
+mod ArchivingLemmas
+mod KeptLemmas
+mod WholeLemmas

@@ -1,0 +1,5 @@
+pub mod Bounds
+pub mod Denials
+pub mod Replies
+pub mod Shown
+pub mod Views

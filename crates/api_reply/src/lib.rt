@@ -1,0 +1,11 @@
+//! What a host answers: its replies as responses of HTTP.
+#![tactic(auto)]
+
+pub mod denial;
+pub mod object;
+pub mod respond;
+pub mod run_view;
+pub mod shown;
+pub mod task_view;
+pub mod told;
+pub mod view;
