@@ -1,3 +1,2 @@
 pub mod Keeper
 pub mod Row
-pub mod Statement

@@ -1,21 +1,19 @@
 -- Rows of the table of results, as records.
-use Rattle.std.specs.Prelude.{◌≡◌, ℕ, pos, Bool, true, ◌&&◌, if◌then◌else◌, List, [], ◌∷◌, Option, Some, None}
+use Rattle.std.specs.Prelude.{◌≡◌, pos, Bool, true, ◌&&◌, List, [], ◌∷◌, Option, Some, None}
 use Rattle.std.specs.Ordering.{is_lt}
 use Rattle.sqlite.specs.Order.{Row, column}
 use Rattle.sqlite.specs.declared.types.Value.TheVariants.{Int, Text}
-use Rattle.ps_time.specs.Id.{id_text}
+use Rattle.ps_time.specs.Id.{InRange}
 use Rattle.ps_time.specs.declared.id.Id.TheVariants.{Run}
 use Rattle.ps_time.specs.Key.{key_cmp}
 use Rattle.ps_time.specs.declared.key.RunKey.{RunKey}
+use Rattle.result_rows.specs.Rows.{number_of, key_text}
 use Rattle.result_table.specs.declared.record.Record.{Record}
-
--- a flag as a number
-abbrev pub number_of : Bool → ℕ
-number_of good = if good then 1 else 0
 
 -- the row of a record: the run's identifier, both moments, 1 or 0, and the body
 pub record IsRowOf (row : Row) (r : Record) : Type 0 where
-  pub key : column row 0 ≡ Text (id_text (Run r.key))
+  pub key : column row 0 ≡ Text (key_text r.key)
+  pub range : InRange (Run r.key)
   pub since : column row 1 ≡ Int (pos r.since)
   pub latest : column row 2 ≡ Int (pos r.latest)
   pub good : column row 3 ≡ Int (pos (number_of r.good))
@@ -42,8 +40,3 @@ is_further (Some last) key = is_lt (key_cmp last key)
 abbrev pub in_order : Option RunKey → List Record → Bool
 in_order last [] = true
 in_order last (r ∷ rs) = is_further last r.key && in_order (Some r.key) rs
-
--- the text that the texts of the identifiers above a key are above; the empty one, where there is none
-abbrev pub text_above : Option RunKey → List ℕ
-text_above None = []
-text_above (Some key) = id_text (Run key)

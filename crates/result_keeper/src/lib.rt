@@ -3,4 +3,3 @@
 
 mod row;
 pub mod sqlite_keeper;
-pub mod statement;

@@ -2,17 +2,18 @@
 ghost use Rattle.std.specs.Prelude.{◌≡◌, ◌≤◌, IfOk, IfSome, All, length, pos};
 ghost use Rattle.sqlite.specs.Order.{column};
 ghost use Rattle.sqlite.specs.declared.types.Value.TheVariants.{Int, Text as Words};
-ghost use Rattle.ps_time.specs.Id.{id_text};
+ghost use Rattle.ps_time.specs.Id.{InRange};
 ghost use Rattle.ps_time.specs.Numbers.{greatest_moment};
 ghost use Rattle.ps_time.specs.declared.id.Id.TheVariants.{Run};
-ghost use Rattle.result_keeper.specs.Row.{number_of, text_above, is_further, in_order, IsRowOf, AreRowsOf, IsFound};
+ghost use Rattle.result_keeper.specs.Row.{is_further, in_order, IsRowOf, AreRowsOf, IsFound};
+ghost use Rattle.result_rows.specs.Rows.{number_of, key_text};
 ghost use Rattle.result_table.specs.Record.{IsTable, HasMoments, IsAbove};
 
-use ps_time::id::{Id, id_text, read_id};
 use ps_time::key::RunKey;
 use ps_time::memory::Memory;
 use ps_time::moment::{MAX_MOMENT, Moment};
 use ps_time::text::Text;
+use result_rows::run_id::read_key;
 use result_table::record::Record;
 use sqlite::{Error, ErrorCode, Row};
 use std::alloc::Global;
@@ -72,20 +73,14 @@ fn flag_at(row: &Row, at: usize) -> Result<Option<bool>, Memory>
     }
 }
 
-/// The key in a column: the text of a run's identifier, as `id_text` writes it.
+/// The key in a column: the text of a run's identifier, as it is written.
 fn key_at(alloc: Global, row: &Row, at: usize) -> Result<Option<RunKey>, Memory>
-    ensures { IfOk result (λ key. IfSome key (λ k. column row.now at ≡ Words (id_text (Run k)))) }
+    ensures key { IfOk result (λ key. IfSome key (λ k. column row.now at ≡ Words (key_text k))) }
+    ensures range { IfOk result (λ key. IfSome key (λ k. InRange (Run k))) }
 {
-    let Some(text) = text_at(row, at)? else {
-        return Ok(None);
-    };
-    let Some(Id::Run(key)) = read_id(text.as_str()) else {
-        return Ok(None);
-    };
-    if text.is(id_text(alloc, Id::Run(key))?.as_str()) {
-        Ok(Some(key))
-    } else {
-        Ok(None)
+    match text_at(row, at)? {
+        Some(text) => read_key(alloc, &text),
+        None => Ok(None),
     }
 }
 
@@ -197,15 +192,5 @@ pub(crate) fn read_list(
         Ok(Some(records))
     } else {
         Ok(None)
-    }
-}
-
-/// The text that the texts of the identifiers above a key are above.
-pub(crate) fn text_after(alloc: Global, after: Option<RunKey>) -> Result<Text, Memory>
-    ensures { IfOk result (λ text. text ≡ text_above after) }
-{
-    match after {
-        Some(key) => id_text(alloc, Id::Run(key)),
-        None => Text::new(alloc, ""),
     }
 }

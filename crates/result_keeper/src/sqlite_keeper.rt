@@ -1,22 +1,25 @@
 //! A keeper over SQL.
 ghost use Rattle.std.specs.Prelude.{◌≡◌, ◌≤◌, ℕ, List, [], ◌∷◌, Option, IfOk, OnOk, OnErr, IfErr, IfSome, length, All, Ok, Err};
+ghost use Rattle.sqlite.specs.Held.{state};
 ghost use Rattle.sqlite.specs.State.{HasCleanDisk, Executes, Shown};
+ghost use Rattle.sqlite.specs.Steps.{IsEmpty, over_memory};
 ghost use Rattle.sqlite.specs.Order.{Row as Values};
 ghost use Rattle.sqlite.specs.declared.error.Error.{Error as SqlError};
 ghost use Rattle.ps_ports.specs.Causes.{Rose, counted, raised};
 ghost use Rattle.ps_time.specs.Numbers.{greatest_moment};
-ghost use Rattle.result_keeper.specs.Keeper.{store_of, faults_with, put_params, get_params, list_params};
+ghost use Rattle.result_keeper.specs.Keeper.{fault_of, store_of, faults_with, put_params, get_params, list_params};
 ghost use Rattle.result_keeper.specs.Row.{IsFound, AreRowsOf};
-ghost use Rattle.result_keeper.specs.Statement.{put_text, get_text, list_text};
+ghost use Rattle.result_rows.specs.Keeps.{IsSound, Keeps};
+ghost use Rattle.result_rows.specs.Statement.{create_text, put_text, get_text, list_text};
 ghost use Rattle.result_table.specs.Record.{put_record, find_record, first_above, IsTable, HasMoments, IsAbove};
 ghost use Rattle.result_table.specs.declared.record.Record.{Record as Kept};
 
-use crate::row::{read_found, read_list, text_after};
-use crate::statement::{create_table, get_rows, list_rows, put_row};
+use crate::row::{read_found, read_list};
 use ps_ports::faults::Faults;
-use ps_time::id::{Id, id_text};
 use ps_time::key::RunKey;
 use ps_time::moment::Moment;
+use result_rows::run_id::{write_after, write_key};
+use result_rows::statement::{create_table, get_rows, list_rows, put_row};
 use result_table::keeper::{Keeper, KeeperFault};
 use result_table::record::{Record, is_good};
 use sqlite::{Alter, Connection, Error, ErrorCode, File, FileStore, MemStore};
@@ -31,7 +34,9 @@ pub struct SqliteKeeper<S: Alter> {
 }
 
 /// What a refusal of the database means for a keeper.
-fn fault_of(error: &Error) -> KeeperFault {
+fn fault_of(error: &Error) -> KeeperFault
+    ensures { result ≡ fault_of error.now }
+{
     match error {
         Error::SqliteFailure(ErrorCode::OutOfMemory) => KeeperFault::Memory,
         _ => KeeperFault::Failed,
@@ -40,7 +45,11 @@ fn fault_of(error: &Error) -> KeeperFault {
 
 impl SqliteKeeper<MemStore> {
     /// A keeper in memory, with no records.
-    pub fn in_memory(alloc: Global) -> Result<SqliteKeeper<MemStore>, KeeperFault> {
+    pub fn in_memory(alloc: Global) -> Result<SqliteKeeper<MemStore>, KeeperFault>
+        ensures faults { IfOk result (λ keeper. counted keeper.faults ≡ 0) }
+        ensures sound { IfOk result (λ keeper. IsSound (store_of over_memory keeper)) }
+        ensures table { IfOk result (λ keeper. Keeps (store_of over_memory keeper) []) }
+    {
         SqliteKeeper::over(Connection::open_in_memory(alloc)?)
     }
 }
@@ -48,10 +57,9 @@ impl SqliteKeeper<MemStore> {
 impl SqliteKeeper<FileStore<File>> {
     /// A keeper over a database in a file, which is made where it isn't there. `Failed` where the file can't be opened, as
     /// one that another program holds, or is no database.
-    pub fn open(
-        rt: &HostRuntime,
-        path: &str,
-    ) -> Result<SqliteKeeper<FileStore<File>>, KeeperFault> {
+    pub fn open(rt: &HostRuntime, path: &str) -> Result<SqliteKeeper<FileStore<File>>, KeeperFault>
+        ensures faults { IfOk result (λ keeper. counted keeper.faults ≡ 0) }
+    {
         match Connection::open(rt, path) {
             Ok(conn) => SqliteKeeper::over(conn),
             Err(error) => Err(fault_of(&error)),
@@ -61,7 +69,13 @@ impl SqliteKeeper<FileStore<File>> {
 
 impl<S: Alter + Drop> SqliteKeeper<S> {
     /// Makes the table, where it isn't there.
-    fn over(mut conn: Connection<S>) -> Result<SqliteKeeper<S>, KeeperFault> {
+    fn over(mut conn: Connection<S>) -> Result<SqliteKeeper<S>, KeeperFault>
+        ensures faults { IfOk result (λ keeper. counted keeper.faults ≡ 0) }
+        ensures made { IfOk result (λ keeper. HasCleanDisk (store_of S.Store keeper)
+            → (count : ℕ) × Executes create_text [] (state S.Store conn) (store_of S.Store keeper) (Ok count)) }
+        ensures empty { IsEmpty (state S.Store conn) → IfOk result (λ keeper. HasCleanDisk (store_of S.Store keeper)
+            → IsSound (store_of S.Store keeper) × Keeps (store_of S.Store keeper) []) }
+    {
         match create_table(&mut conn) {
             Ok(_) => Ok(SqliteKeeper {
                 conn,
@@ -74,7 +88,8 @@ impl<S: Alter + Drop> SqliteKeeper<S> {
 
 /// Counts that the database refused a statement, unless memory was wanting.
 fn count_refusal(faults: &mut Faults, error: &Error) -> KeeperFault
-    ensures { faults.new ≡ faults_with faults.old result }
+    ensures fault { result ≡ fault_of error.now }
+    ensures count { faults.new ≡ faults_with faults.old (fault_of error.now) }
 {
     let fault = fault_of(error);
     if fault == KeeperFault::Failed {
@@ -93,15 +108,15 @@ fn count_unread(faults: &mut Faults) -> KeeperFault
 }
 
 impl<S: Alter> Keeper for SqliteKeeper<S> {
-    ghost use Rattle.sqlite.specs.State.{HasCleanDisk};
     ghost use Rattle.ps_ports.specs.Causes.{counted, counted_fits};
     ghost use Rattle.result_keeper.specs.Keeper.{store_of};
+    ghost use Rattle.result_rows.specs.Keeps.{IsSound, Keeps};
 
     ghost keeper_faults = { λ k. counted k.faults };
 
-    ghost has_table = { λ _ _. ⊥ };
+    ghost has_table = { λ k table. Keeps (store_of S.Store k) table };
 
-    ghost is_sound = { λ k. HasCleanDisk (store_of S.Store k) };
+    ghost is_sound = { λ k. IsSound (store_of S.Store k) };
 
     fn put(
         &mut self,
@@ -113,15 +128,17 @@ impl<S: Alter> Keeper for SqliteKeeper<S> {
         requires { moment ≤ greatest_moment }
         ensures later { counted self.old.faults ≤ counted self.new.faults }
         ensures failed { result ≡ Err KeeperFault.Failed → Rose (counted self.old.faults) (counted self.new.faults) }
-        ensures sound { HasCleanDisk (store_of S.Store self.new) → HasCleanDisk (store_of S.Store self.old) }
-        ensures ok { (table : List Kept) → ⊥ → HasCleanDisk (store_of S.Store self.new) → OnOk result ⊥ }
-        ensures err { (table : List Kept) → ⊥ → HasCleanDisk (store_of S.Store self.new) → OnErr result ⊥ }
+        ensures sound { IsSound (store_of S.Store self.new) → IsSound (store_of S.Store self.old) }
+        ensures ok { (table : List Kept) → Keeps (store_of S.Store self.old) table → IsSound (store_of S.Store self.new)
+            → OnOk result (Keeps (store_of S.Store self.new) (put_record table key moment body.now)) }
+        ensures err { (table : List Kept) → Keeps (store_of S.Store self.old) table → IsSound (store_of S.Store self.new)
+            → OnErr result (Keeps (store_of S.Store self.new) table) }
         ensures runs { HasCleanDisk (store_of S.Store self.new)
             → OnOk result ((count : ℕ) × Executes put_text (put_params key moment body.now) (store_of S.Store self.old) (store_of S.Store self.new) (Ok count)) }
         ensures refused { HasCleanDisk (store_of S.Store self.new) → result ≡ Err KeeperFault.Failed
             → (error : SqlError) × Executes put_text (put_params key moment body.now) (store_of S.Store self.old) (store_of S.Store self.new) (Err error) }
     {
-        let id = id_text(alloc, Id::Run(key))?;
+        let id = write_key(alloc, key)?;
         let good = is_good(alloc, body)?;
         match put_row(&mut self.conn, id.as_str(), moment, good, body) {
             Ok(_changed) => Ok(()),
@@ -132,15 +149,16 @@ impl<S: Alter> Keeper for SqliteKeeper<S> {
     fn get(&mut self, alloc: Global, key: RunKey) -> Result<Option<Record>, KeeperFault>
         ensures later { counted self.old.faults ≤ counted self.new.faults }
         ensures failed { result ≡ Err KeeperFault.Failed → Rose (counted self.old.faults) (counted self.new.faults) }
-        ensures sound { HasCleanDisk (store_of S.Store self.new) → HasCleanDisk (store_of S.Store self.old) }
-        ensures found { (table : List Kept) → ⊥ → HasCleanDisk (store_of S.Store self.new)
+        ensures sound { IsSound (store_of S.Store self.new) → IsSound (store_of S.Store self.old) }
+        ensures found { (table : List Kept) → Keeps (store_of S.Store self.old) table → IsSound (store_of S.Store self.new)
             → IfOk result (λ found. found ≡ find_record table key) }
-        ensures stays { (table : List Kept) → ⊥ → HasCleanDisk (store_of S.Store self.new) → ⊥ }
+        ensures stays { (table : List Kept) → Keeps (store_of S.Store self.old) table → IsSound (store_of S.Store self.new)
+            → Keeps (store_of S.Store self.new) table }
         ensures bound { IfOk result (λ found. IfSome found (λ r. (r.key ≡ key) × HasMoments r)) }
         ensures shown { HasCleanDisk (store_of S.Store self.new) → IfOk result (λ found. (rows : List Values)
             × Shown get_text (get_params key) (store_of S.Store self.old) (store_of S.Store self.new) rows × IsFound rows found) }
     {
-        let id = id_text(alloc, Id::Run(key))?;
+        let id = write_key(alloc, key)?;
         let rows = match get_rows(&mut self.conn, id.as_str()) {
             Ok(rows) => rows,
             Err(error) => return Err(count_refusal(&mut self.faults, &error)),
@@ -159,10 +177,11 @@ impl<S: Alter> Keeper for SqliteKeeper<S> {
     ) -> Result<Vec<Record>, KeeperFault>
         ensures later { counted self.old.faults ≤ counted self.new.faults }
         ensures failed { result ≡ Err KeeperFault.Failed → Rose (counted self.old.faults) (counted self.new.faults) }
-        ensures sound { HasCleanDisk (store_of S.Store self.new) → HasCleanDisk (store_of S.Store self.old) }
-        ensures records { (table : List Kept) → ⊥ → HasCleanDisk (store_of S.Store self.new)
+        ensures sound { IsSound (store_of S.Store self.new) → IsSound (store_of S.Store self.old) }
+        ensures records { (table : List Kept) → Keeps (store_of S.Store self.old) table → IsSound (store_of S.Store self.new)
             → IfOk result (λ records. records.items ≡ first_above table after count) }
-        ensures stays { (table : List Kept) → ⊥ → HasCleanDisk (store_of S.Store self.new) → ⊥ }
+        ensures stays { (table : List Kept) → Keeps (store_of S.Store self.old) table → IsSound (store_of S.Store self.new)
+            → Keeps (store_of S.Store self.new) table }
         ensures count { IfOk result (λ records. length records.items ≤ count) }
         ensures ascending { IfOk result (λ records. IsTable records.items) }
         ensures above { IfOk result (λ records. All (IsAbove after) records.items) }
@@ -170,7 +189,7 @@ impl<S: Alter> Keeper for SqliteKeeper<S> {
         ensures shown { HasCleanDisk (store_of S.Store self.new) → IfOk result (λ records. (rows : List Values)
             × Shown list_text (list_params after count) (store_of S.Store self.old) (store_of S.Store self.new) rows × AreRowsOf rows records.items) }
     {
-        let id = text_after(alloc, after)?;
+        let id = write_after(alloc, after)?;
         let rows = match list_rows(&mut self.conn, id.as_str(), i64::from(count)) {
             Ok(rows) => rows,
             Err(error) => return Err(count_refusal(&mut self.faults, &error)),
@@ -181,7 +200,7 @@ impl<S: Alter> Keeper for SqliteKeeper<S> {
         }
     }
 
-    ghost is_table = { λ keeper table has. absurd has };
+    ghost is_table = { λ keeper table has. has.rows.ascends };
 
     ghost keeper_faults_fit = { λ k. counted_fits k.faults };
 }

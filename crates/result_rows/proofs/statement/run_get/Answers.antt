@@ -1,5 +1,5 @@
 use Rattle.std.proofs.Common.{arith}
-use Rattle.result_keeper.proofs.statement.list_rows.Goals as goal
+use Rattle.result_rows.proofs.statement.run_get.Goals as goal
 
 pub returns-clause-clean : goal.returns-clause-clean
 returns-clause-clean g c clean = omega (arith, c.query_all.ensures.survives.clean, clean)

@@ -1,5 +1,5 @@
 use Rattle.std.proofs.Common.{arith}
-use Rattle.result_keeper.proofs.statement.create_table.Goals as goal
+use Rattle.result_rows.proofs.statement.execute_put.Goals as goal
 
 pub returns-clause-clean : goal.returns-clause-clean
 returns-clause-clean g c clean = omega (arith, c.execute.ensures.survives.clean, clean)

@@ -1,0 +1,6 @@
+pub mod Texts
+pub mod TableLemmas
+pub mod EntryLemmas
+pub mod SelectLemmas
+pub mod StateLemmas
+pub mod PutLemmas

@@ -1,0 +1,4 @@
+pub mod Keeps
+pub mod Rows
+pub mod Statement
+pub mod Table
