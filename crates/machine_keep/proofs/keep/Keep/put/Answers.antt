@@ -1,0 +1,19 @@
+use Rattle.std.proofs.Common.{◌≡◌, IfSome, None, subst, sym}
+use Rattle.host_journal.specs.State.{stored}
+use Rattle.machine_keep.specs.Kept.{StandsBut, StandsFor}
+use Rattle.machine_keep.proofs.KeepLemmas.{taken_in}
+use Rattle.machine_keep.proofs.keep.Keep.put.Goals as goal
+
+pub invariant_of-self-2 : goal.invariant_of-self-2
+invariant_of-self-2 g c =
+    let none : c.append.new.unsure ≡ None = c.in_ok-step.ensures.sure in (
+      λ _. none,
+      (
+        subst (λ u. IfSome u (λ step. g.M.Machine.follows (g.M.Machine.state c.take.new.self) step × g.M.Machine.has_room c.take.new.self step)) (sym none) tt,
+        λ p. subst (λ u. StandsBut g.M.Machine.stands_for g.M.Machine.record_of (g.M.Machine.state c.take.new.self) c.append.new.journal.pending (stored g.D.Disk.seen c.append.new.journal) u) (sym none)
+            (taken_in g.M.Machine.stands_for g.M.Machine.record_of g.M.Machine.follows g.M.Machine.after g.met.M.Machine.stands_more (g.M.Machine.state c.self.inside.machine) (g.M.Machine.state c.take.new.self) c.args.step c.in_ok-step.step c.args.bytes.now
+            (stored g.D.Disk.seen c.self.inside.journal) (stored g.D.Disk.seen c.append.new.journal) c.in_ok-step.ensures.step c.requires.bytes c.take.ensures (c.in_ok-step.ensures.appended p)
+            (subst (λ k. g.M.Machine.follows (g.M.Machine.state k.machine) c.args.step) (sym c.self.view_is) c.requires.follows)
+            (subst (λ k. StandsFor g.M.Machine.stands_for (g.M.Machine.state k.machine) (stored g.D.Disk.seen k.journal)) (sym c.self.view_is) (c.known.ensures.stands p c.requires.ready))),
+      ),
+    )

@@ -1,0 +1,55 @@
+-- What the disks of a kept machine stand for.
+use Rattle.std.specs.Prelude.{◌≡◌, ◌⊎◌, ℕ, Bool, List, None, Option, Some, Result, Ok, Err, ◌+◌, ◌-◌, ◌*◌, ◌≤◌, if◌then◌else◌, max, nat_lt}
+use Rattle.host_journal.specs.Moments.{IsNear}
+use Rattle.host_journal.specs.State.{State, has_record, which}
+use Rattle.host_journal.specs.declared.pending.Pending.{Pending}
+use Rattle.host_journal.specs.declared.reading.Counted.{Counted}
+use Rattle.host_journal.specs.declared.reading.DiskPlace.{DiskPlace}
+
+-- a machine, its journal, and the step of an append that failed
+pub record Kept (M D T : Type 0) : Type 0 where
+  pub machine : M
+  pub journal : State D
+  pub unsure : Option T
+
+-- two disks stand for a list that stands for the state
+abbrev pub StandsFor : {S : Type 0} → (List (List ℕ) → S → Type 0) → S → Result Counted DiskPlace → Type 0
+StandsFor stands s (Ok k) = stands k.list s
+StandsFor stands s (Err place) = ⊥
+
+-- after an append failed they stand for the state without the step, or with its record too
+pub record IsUnsure {S T : Type 0} (stands : List (List ℕ) → S → Type 0) (bytes : T → List ℕ) (s : S) (step : T) (pending : Pending) (pair : Result Counted DiskPlace) : Type 0 where
+  pub before : Result Counted DiskPlace
+  pub stood : StandsFor stands s before
+  pub found : pair ≡ which (bytes step) (has_record pending pair) before
+
+-- they stand for the state, but for a step that is unsure
+abbrev pub StandsBut : {S T : Type 0} → (List (List ℕ) → S → Type 0) → (T → List ℕ) → S → Pending → Result Counted DiskPlace → Option T → Type 0
+StandsBut stands bytes s pending pair None = StandsFor stands s pair
+StandsBut stands bytes s pending pair (Some step) = IsUnsure stands bytes s step pending pair
+
+-- the state with a step, where there is one
+abbrev pub after_step : {S T : Type 0} → (S → T → S) → S → Option T → S
+after_step after s None = s
+after_step after s (Some step) = after s step
+
+-- the state once it is known whether the record of a step stands that was unsure
+abbrev pub caught : {S T : Type 0} → (S → T → S) → S → Option T → Bool → S
+caught after s None stood = s
+caught after s (Some step) stood = if stood then after s step else s
+
+-- the bytes of records, with one more of so many, are more than 1 MiB and than twice those of the snapshot
+abbrev pub is_many : ℕ → ℕ → ℕ → Bool
+is_many records snapshot bytes = nat_lt (max (2 * snapshot) 1_048_576) (records + bytes + 5)
+
+-- the bytes of a journal's records are at most 1 MiB, or twice those of its snapshot
+abbrev pub HasFew : {D : Type 0} → State D → Type 0
+HasFew s = s.end - s.start ≤ max (2 * (s.start - 21)) 1_048_576
+
+-- the disks stand for the state, or for what a step that the call asks for makes of it
+abbrev pub StandsAround : {S C R T : Type 0} → (List (List ℕ) → S → Type 0) → (S → C → R → Option T → Type 0) → (S → T → S) → S → C → Result Counted DiskPlace → Type 0
+StandsAround {S} {C} {R} {T} stands answers after s call pair = StandsFor stands s pair ⊎ ((reply : R) × ((step : T) × (answers s call reply (Some step) × StandsFor stands (after s step) pair)))
+
+-- they stand for the later state, with at most one snapshot more
+abbrev pub IsMade : {S : Type 0} → (List (List ℕ) → S → Type 0) → Result Counted DiskPlace → S → Result Counted DiskPlace → Type 0
+IsMade stands from later pair = StandsFor stands later pair × IsNear from pair

@@ -1,0 +1,345 @@
+//! A machine that is kept.
+ghost use Rattle.std.specs.Prelude.{◌≡◌, ◌⊎◌, ◌+◌, ◌-◌, ◌≤◌, ◌<◌, ◌^◌, ℕ, List, Option, Some, None, Err, IsSome, IsTrue, IfOk, IfSome, OnOk, OnErr, false, length};
+ghost use Rattle.ps_disks.specs.MemoryDisk.{armed, armed_number};
+ghost use Rattle.ps_ports.specs.Causes.{Rose};
+ghost use Rattle.host_journal.specs.Calls.{IsRead};
+ghost use Rattle.host_journal.specs.Moments.{Adds, LeftIn, LiesBeside, Shows};
+ghost use Rattle.host_journal.specs.Pair.{pair_of};
+ghost use Rattle.host_journal.specs.State.{is_ready, stored, has_record, snapshot_of, which, with_record, EachImage, EachSince, IsAt, KeepsPlace, first_disk, second_disk};
+ghost use Rattle.machine_keep.specs.Kept.{HasFew, IsMade, StandsAround, StandsFor, after_step, caught, is_many};
+ghost use Rattle.machine_keep.specs.declared.fault.StepFault.TheVariants.{Disk as disk_fault, Memory as no_memory};
+
+use crate::fault::StepFault;
+use crate::machine::{Decided, Machine};
+use host_journal::fault::DiskFault;
+use host_journal::journal::Journal;
+use ps_disks::disk::Disk;
+use ps_disks::memory_disk::MemoryDisk;
+use std::alloc::Global;
+use std::marker::Model;
+
+/// The records may take so many bytes before a snapshot takes their place, however small the last one was.
+const FEW_RECORD_BYTES: u128 = 1_048_576;
+
+/// A machine whose steps are kept on two disks.
+#[derive(Drop)]
+pub struct Keep<M: Machine, D: Disk> {
+    machine: M,
+    journal: Journal<D>,
+    // of an append that failed
+    unsure: Option<M::Step>,
+}
+
+impl<M: Machine, D: Disk> Model for Keep<M, D> {
+    ghost use Rattle.std.specs.Prelude.{◌≡◌, IsTrue, IfSome, None};
+    ghost use Rattle.host_journal.specs.State.{is_ready, stored};
+    ghost use Rattle.machine_keep.specs.Kept.{Kept, StandsBut};
+
+    ghost Value = { Kept M D M.Step };
+
+    ghost view = { λ k. record { machine = k.machine; journal = k.journal; unsure = k.unsure } };
+
+    ghost invariant = { λ k. (IsTrue (is_ready k.journal.pending) → k.unsure ≡ None)
+        × (IfSome k.unsure (λ step. M.follows (M.state k.machine) step × M.has_room k.machine step)
+        × (D.premise → StandsBut M.stands_for M.record_of (M.state k.machine) k.journal.pending (stored D.seen k.journal) k.unsure)) };
+}
+
+impl<M: Machine, D: Disk> Keep<M, D> {
+    /// A machine over a journal that stands for it.
+    pub fn over(machine: M, journal: Journal<D>) -> Keep<M, D>
+        requires ready { IsTrue (is_ready journal.pending) }
+        requires stands { D.premise → StandsFor M.stands_for (M.state machine) (stored D.seen journal) }
+        ensures machine { result.machine ≡ machine }
+        ensures journal { result.journal ≡ journal }
+    {
+        Keep {
+            machine,
+            journal,
+            unsure: None,
+        }
+    }
+
+    /// The machine. After a fault it may lack a step that is kept; the next call finds that out.
+    pub fn machine(&self) -> &M
+        ensures { result.now ≡ self.now.machine }
+    {
+        &self.machine
+    }
+
+    /// What is known of a kept machine whose last call met no fault. Does nothing.
+    pub fn known(&self)
+        ensures stands { D.premise → IsTrue (is_ready self.now.journal.pending) → StandsFor M.stands_for (M.state self.now.machine) (stored D.seen self.now.journal) }
+        ensures durable { D.premise → IsTrue (is_ready self.now.journal.pending) → EachImage D.may_leave self.now.journal (StandsFor M.stands_for (M.state self.now.machine)) }
+        ensures place { D.premise → IsTrue (is_ready self.now.journal.pending) → IsAt self.now.journal (stored D.seen self.now.journal) }
+        ensures each { D.premise → IsTrue (is_ready self.now.journal.pending) → EachImage D.may_leave self.now.journal (λ pair. pair ≡ stored D.seen self.now.journal) }
+    {
+        self.journal.known();
+    }
+
+    /// Makes one step, and keeps what it changes before it is answered. After a fault it first finds out what stands.
+    pub fn apply(&mut self, alloc: Global, call: M::Call) -> Result<M::Reply, StepFault>
+        requires { M.may_ask call }
+        // The answer and the step are those of the state that stands as the call begins.
+        ensures done { D.premise → IfOk result (λ reply.
+            (step : Option M.Step) × M.answers (caught M.after (M.state self.old.machine) self.old.unsure (has_record self.old.journal.pending (stored D.seen self.old.journal))) call reply step
+            × (M.state self.new.machine ≡ after_step M.after (caught M.after (M.state self.old.machine) self.old.unsure (has_record self.old.journal.pending (stored D.seen self.old.journal))) step)) }
+        // Whatever a crash leaves then stands for the state that was answered from.
+        ensures durable { D.premise → OnOk result (EachImage D.may_leave self.new.journal (StandsFor M.stands_for (M.state self.new.machine))) }
+        ensures memory { D.premise → result ≡ Err no_memory → (stored D.seen self.new.journal ≡ stored D.seen self.old.journal)
+            × (M.state self.new.machine ≡ caught M.after (M.state self.old.machine) self.old.unsure (has_record self.old.journal.pending (stored D.seen self.old.journal))) }
+        // At every moment of a call that began with no fault.
+        ensures any_moment { D.premise → IsTrue (is_ready self.old.journal.pending) → EachSince D.moment D.left_since self.old.journal self.new.journal
+            (StandsAround M.stands_for M.answers M.after (M.state self.old.machine) call) }
+        // Of a call that began after a fault: until it has synced both disks, an image is one that a crash could have left
+        // of its disk as the call began.
+        ensures recovers { D.premise → is_ready self.old.journal.pending ≡ false
+            → (c d : List ℕ) → D.left_since (first_disk self.new.journal) (D.moment (first_disk self.old.journal)) c → D.left_since (second_disk self.new.journal) (D.moment (second_disk self.old.journal)) d
+            → (D.may_leave (first_disk self.old.journal) c ⊎ D.may_leave (second_disk self.old.journal) d)
+            ⊎ StandsAround M.stands_for M.answers M.after (caught M.after (M.state self.old.machine) self.old.unsure (has_record self.old.journal.pending (stored D.seen self.old.journal))) call (pair_of c d) }
+        // A step leaves few records, up to the last generation.
+        ensures few { D.premise → OnOk result ((M.state self.new.machine ≡ caught M.after (M.state self.old.machine) self.old.unsure (has_record self.old.journal.pending (stored D.seen self.old.journal)))
+            ⊎ (HasFew self.new.journal ⊎ (self.new.journal.generation ≡ 2 ^ 64 - 1))) }
+        ensures calm { (result ≡ Err disk_fault → ⊥) → (D.disk_faults (first_disk self.new.journal) ≡ D.disk_faults (first_disk self.old.journal)) × (D.disk_faults (second_disk self.new.journal) ≡ D.disk_faults (second_disk self.old.journal)) }
+        ensures cause { result ≡ Err disk_fault → Rose (D.disk_faults (first_disk self.old.journal)) (D.disk_faults (first_disk self.new.journal)) ⊎ Rose (D.disk_faults (second_disk self.old.journal)) (D.disk_faults (second_disk self.new.journal)) }
+    {
+        self.known();
+        self.catch_up()?;
+        self.known();
+        let decided = self.machine.decide(alloc, call)?;
+        let reply = self.keep_decided(alloc, decided)?;
+        self.known();
+        Ok(reply)
+    }
+
+    // Finds out what stands, where the last call failed.
+    fn catch_up(&mut self) -> Result<(), DiskFault>
+        ensures ready { OnOk result (IsTrue (is_ready self.new.journal.pending)) }
+        ensures state { D.premise → OnOk result (M.state self.new.machine ≡ caught M.after (M.state self.old.machine) self.old.unsure (has_record self.old.journal.pending (stored D.seen self.old.journal))) }
+        ensures stored { D.premise → stored D.seen self.new.journal ≡ stored D.seen self.old.journal }
+        ensures still { IsTrue (is_ready self.old.journal.pending) → self.new ≡ self.old }
+        ensures first { D.premise → is_ready self.old.journal.pending ≡ false → IsRead D.seen D.may_leave D.moment D.left_since (first_disk self.old.journal) (first_disk self.new.journal) }
+        ensures second { D.premise → is_ready self.old.journal.pending ≡ false → IsRead D.seen D.may_leave D.moment D.left_since (second_disk self.old.journal) (second_disk self.new.journal) }
+        ensures calm { OnOk result ((D.disk_faults (first_disk self.new.journal) ≡ D.disk_faults (first_disk self.old.journal)) × (D.disk_faults (second_disk self.new.journal) ≡ D.disk_faults (second_disk self.old.journal))) }
+        ensures cause { OnErr result (Rose (D.disk_faults (first_disk self.old.journal)) (D.disk_faults (first_disk self.new.journal)) ⊎ Rose (D.disk_faults (second_disk self.old.journal)) (D.disk_faults (second_disk self.new.journal))) }
+    {
+        if self.journal.is_ready() {
+            return Ok(());
+        }
+        let stood = self.journal.reload()?;
+        if let Some(step) = self.unsure.take() {
+            settle(&mut self.machine, step, stood);
+        }
+        Ok(())
+    }
+
+    // Keeps the step, if there is one, and answers.
+    fn keep_decided(
+        &mut self,
+        alloc: Global,
+        decided: Decided<M::Reply, M::Step>,
+    ) -> Result<M::Reply, StepFault>
+        requires ready { IsTrue (is_ready self.old.journal.pending) }
+        requires follows { IfSome decided.step (λ step. M.follows (M.state self.old.machine) step) }
+        requires room { IfSome decided.step (λ step. M.has_room self.old.machine step) }
+        requires short { IfSome decided.step (λ step. length (M.record_of step) ≤ 8388608) }
+        ensures reply { IfOk result (λ reply. reply ≡ decided.reply) }
+        ensures state { OnOk result (M.state self.new.machine ≡ after_step M.after (M.state self.old.machine) decided.step) }
+        ensures ready { OnOk result (IsTrue (is_ready self.new.journal.pending)) }
+        ensures memory { result ≡ Err no_memory → (stored D.seen self.new.journal ≡ stored D.seen self.old.journal) × (M.state self.new.machine ≡ M.state self.old.machine) }
+        ensures any_moment { D.premise → EachSince D.moment D.left_since self.old.journal self.new.journal
+            (λ pair. StandsFor M.stands_for (M.state self.old.machine) pair ⊎ ((step : M.Step) × ((decided.step ≡ Some step) × StandsFor M.stands_for (M.after (M.state self.old.machine) step) pair))) }
+        ensures adds { D.premise → Adds D.moment D.left_since self.old.journal self.new.journal
+            (LeftIn (stored D.seen self.old.journal) (λ pair. (step : M.Step) × ((decided.step ≡ Some step) × IsMade M.stands_for (stored D.seen self.old.journal) (M.after (M.state self.old.machine) step) pair))) }
+        ensures few { OnOk result (IsSome decided.step → HasFew self.new.journal ⊎ (self.new.journal.generation ≡ 2 ^ 64 - 1)) }
+        ensures calm { (result ≡ Err disk_fault → ⊥) → (D.disk_faults (first_disk self.new.journal) ≡ D.disk_faults (first_disk self.old.journal)) × (D.disk_faults (second_disk self.new.journal) ≡ D.disk_faults (second_disk self.old.journal)) }
+        ensures cause { result ≡ Err disk_fault → Rose (D.disk_faults (first_disk self.old.journal)) (D.disk_faults (first_disk self.new.journal)) ⊎ Rose (D.disk_faults (second_disk self.old.journal)) (D.disk_faults (second_disk self.new.journal)) }
+    {
+        let Decided { reply, step } = decided;
+        match step {
+            Some(step) => {
+                self.keep(alloc, step)?;
+                Ok(reply)
+            }
+            None => {
+                self.known();
+                Ok(reply)
+            }
+        }
+    }
+
+    // Takes all memory, writes the record, takes the step in, and makes a snapshot where the records are many.
+    fn keep(&mut self, alloc: Global, step: M::Step) -> Result<(), StepFault>
+        requires ready { IsTrue (is_ready self.old.journal.pending) }
+        requires follows { M.follows (M.state self.old.machine) step }
+        requires room { M.has_room self.old.machine step }
+        requires short { length (M.record_of step) ≤ 8388608 }
+        ensures state { OnOk result (M.state self.new.machine ≡ M.after (M.state self.old.machine) step) }
+        ensures ready { OnOk result (IsTrue (is_ready self.new.journal.pending)) }
+        ensures memory { result ≡ Err no_memory → (stored D.seen self.new.journal ≡ stored D.seen self.old.journal) × (M.state self.new.machine ≡ M.state self.old.machine) }
+        ensures any_moment { D.premise → EachSince D.moment D.left_since self.old.journal self.new.journal
+            (λ pair. StandsFor M.stands_for (M.state self.old.machine) pair ⊎ StandsFor M.stands_for (M.after (M.state self.old.machine) step) pair) }
+        ensures adds { D.premise → Adds D.moment D.left_since self.old.journal self.new.journal
+            (LeftIn (stored D.seen self.old.journal) (IsMade M.stands_for (stored D.seen self.old.journal) (M.after (M.state self.old.machine) step))) }
+        ensures few { OnOk result (HasFew self.new.journal ⊎ (self.new.journal.generation ≡ 2 ^ 64 - 1)) }
+        ensures calm { (result ≡ Err disk_fault → ⊥) → (D.disk_faults (first_disk self.new.journal) ≡ D.disk_faults (first_disk self.old.journal)) × (D.disk_faults (second_disk self.new.journal) ≡ D.disk_faults (second_disk self.old.journal)) }
+        ensures cause { result ≡ Err disk_fault → Rose (D.disk_faults (first_disk self.old.journal)) (D.disk_faults (first_disk self.new.journal)) ⊎ Rose (D.disk_faults (second_disk self.old.journal)) (D.disk_faults (second_disk self.new.journal)) }
+    {
+        self.known();
+        let bytes = self.machine.write_record(alloc, &step)?;
+        let image = self.image_room(&step, bytes.len());
+        self.journal.reserve(image.unwrap_or(0).max(bytes.len()))?;
+        self.put(step, &bytes)?;
+        if image.is_none() {
+            return Ok(());
+        }
+        self.snapshot()?;
+        Ok(())
+    }
+
+    // Writes the record of a step, and takes the step in.
+    fn put(&mut self, step: M::Step, bytes: &[u8]) -> Result<(), DiskFault>
+        requires ready { IsTrue (is_ready self.old.journal.pending) }
+        requires follows { M.follows (M.state self.old.machine) step }
+        requires has_room { M.has_room self.old.machine step }
+        requires bytes { bytes.now ≡ M.record_of step }
+        requires short { length bytes.now ≤ 8388608 }
+        requires room { length bytes.now + 13 ≤ self.old.journal.room }
+        ensures state { OnOk result (M.state self.new.machine ≡ M.after (M.state self.old.machine) step) }
+        ensures appended { D.premise → OnOk result (stored D.seen self.new.journal ≡ with_record (M.record_of step) (stored D.seen self.old.journal)) }
+        ensures adds { D.premise → Adds D.moment D.left_since self.old.journal self.new.journal
+            (λ second c. Shows (stored D.seen self.old.journal) second c ⊎ Shows (with_record (M.record_of step) (stored D.seen self.old.journal)) second c) }
+        ensures kept { KeepsPlace self.old.journal self.new.journal }
+        ensures end { OnOk result (self.new.journal.end ≡ self.old.journal.end + 5 + length bytes.now) }
+        ensures calm { OnOk result ((D.disk_faults (first_disk self.new.journal) ≡ D.disk_faults (first_disk self.old.journal)) × (D.disk_faults (second_disk self.new.journal) ≡ D.disk_faults (second_disk self.old.journal))) }
+        ensures ready { OnOk result (IsTrue (is_ready self.new.journal.pending)) }
+        ensures cause { OnErr result (Rose (D.disk_faults (first_disk self.old.journal)) (D.disk_faults (first_disk self.new.journal)) ⊎ Rose (D.disk_faults (second_disk self.old.journal)) (D.disk_faults (second_disk self.new.journal))) }
+    {
+        self.known();
+        let step = append(&mut self.journal, &mut self.unsure, step, bytes)?;
+        self.machine.take(step);
+        Ok(())
+    }
+
+    // How much room a snapshot wants, where one is due behind a record of so many bytes.
+    fn image_room(&self, step: &M::Step, bytes: usize) -> Option<usize>
+        requires { M.follows (M.state self.now.machine) step.now }
+        ensures enough { IfSome result (λ room. length (M.image_of (M.after (M.state self.now.machine) step.now)) ≤ room) }
+        ensures bound { IfSome result (λ room. room ≤ 4294967295) }
+        ensures generation { IfSome result (λ room. self.now.journal.generation < 2 ^ 64 - 1) }
+        ensures due { result ≡ None → (is_many (self.now.journal.end - self.now.journal.start) (self.now.journal.start - 21) bytes ≡ false) ⊎ (self.now.journal.generation ≡ 2 ^ 64 - 1) }
+    {
+        if !self.has_many_records(bytes) || self.journal.generation() == u64::MAX {
+            return None;
+        }
+        Some(self.machine.image_bound(step))
+    }
+
+    // Whether the records, with one more of so many bytes, take more than 1 MiB and than twice the snapshot.
+    fn has_many_records(&self, bytes: usize) -> bool
+        ensures { result ≡ is_many (self.now.journal.end - self.now.journal.start) (self.now.journal.start - 21) bytes }
+    {
+        let records = u128::from(self.journal.record_bytes()) + bytes as u128 + 5;
+        let most = 2 * u128::from(self.journal.snapshot_bytes());
+        records > most.max(FEW_RECORD_BYTES)
+    }
+
+    // Puts a snapshot of the machine in place of all records.
+    fn snapshot(&mut self) -> Result<(), DiskFault>
+        requires ready { IsTrue (is_ready self.old.journal.pending) }
+        requires room { length (M.image_of (M.state self.old.machine)) + 13 ≤ self.old.journal.room }
+        requires bound { length (M.image_of (M.state self.old.machine)) ≤ 4294967295 }
+        requires generation { self.old.journal.generation < 2 ^ 64 - 1 }
+        ensures machine { self.new.machine ≡ self.old.machine }
+        ensures empty { OnOk result (self.new.journal.end ≡ self.new.journal.start) }
+        ensures calm { OnOk result ((D.disk_faults (first_disk self.new.journal) ≡ D.disk_faults (first_disk self.old.journal)) × (D.disk_faults (second_disk self.new.journal) ≡ D.disk_faults (second_disk self.old.journal))) }
+        ensures ready { OnOk result (IsTrue (is_ready self.new.journal.pending)) }
+        ensures adds { D.premise → Adds D.moment D.left_since self.old.journal self.new.journal
+            (λ second c. LiesBeside (stored D.seen self.old.journal) second c ⊎ Shows (snapshot_of (M.image_of (M.state self.old.machine)) self.old.journal) second c) }
+        ensures cause { OnErr result (Rose (D.disk_faults (first_disk self.old.journal)) (D.disk_faults (first_disk self.new.journal)) ⊎ Rose (D.disk_faults (second_disk self.old.journal)) (D.disk_faults (second_disk self.new.journal))) }
+    {
+        let mut image = self.journal.begin_image();
+        let _written = self.machine.write_image(&mut image);
+        self.journal.snapshot(image)
+    }
+}
+
+impl<M: Machine + Drop, D: Disk> Keep<M, D> {
+    /// Both disks, in their order.
+    pub fn into_disks(self) -> (D, D)
+        ensures first { result.0 ≡ first_disk self.journal }
+        ensures second { result.1 ≡ second_disk self.journal }
+    {
+        let Keep {
+            machine: _,
+            journal,
+            unsure: _,
+        } = self;
+        journal.into_disks()
+    }
+}
+
+impl<M: Machine> Keep<M, MemoryDisk> {
+    /// Lets one of the writes, cuts and syncs of each disk fail, numbered from 1 from now on, or none.
+    pub fn fail_at(&mut self, call: Option<u64>)
+        ensures machine { self.new.machine ≡ self.old.machine }
+        ensures unsure { self.new.unsure ≡ self.old.unsure }
+        ensures counting { self.new.journal.counting ≡ armed self.old.journal.counting (armed_number call) }
+        ensures other { self.new.journal.other ≡ armed self.old.journal.other (armed_number call) }
+    {
+        self.journal.fail_at(call);
+    }
+
+    /// How many writes, cuts and syncs were made on each disk, the first one first.
+    pub fn calls(&self) -> (u64, u64)
+        ensures first { result.0 ≡ length (first_disk self.now.journal).history.log }
+        ensures second { result.1 ≡ length (second_disk self.now.journal).history.log }
+    {
+        self.journal.calls()
+    }
+}
+
+// Adds the record of a step, and hands the step back, or leaves it as unsure.
+fn append<S: Drop, D: Disk>(
+    journal: &mut Journal<D>,
+    unsure: &mut Option<S>,
+    step: S,
+    bytes: &[u8],
+) -> Result<S, DiskFault>
+    requires sure { unsure.old ≡ None }
+    requires ready { IsTrue (is_ready journal.old.pending) }
+    requires short { length bytes.now ≤ 8388608 }
+    requires room { length bytes.now + 13 ≤ journal.old.room }
+    ensures step { IfOk result (λ kept. kept ≡ step) }
+    ensures sure { OnOk result (unsure.new ≡ None) }
+    ensures unsure { OnErr result (unsure.new ≡ Some step) }
+    ensures appended { D.premise → OnOk result (stored D.seen journal.new ≡ with_record bytes.now (stored D.seen journal.old)) }
+    ensures which { D.premise → OnErr result (stored D.seen journal.new ≡ which bytes.now (has_record journal.new.pending (stored D.seen journal.new)) (stored D.seen journal.old)) }
+    ensures adds { D.premise → Adds D.moment D.left_since journal.old journal.new (λ second c. Shows (stored D.seen journal.old) second c ⊎ Shows (with_record bytes.now (stored D.seen journal.old)) second c) }
+    ensures kept { KeepsPlace journal.old journal.new }
+    ensures end { OnOk result (journal.new.end ≡ journal.old.end + 5 + length bytes.now) }
+    ensures ready { OnOk result (IsTrue (is_ready journal.new.pending)) }
+    ensures failed { OnErr result (is_ready journal.new.pending ≡ false) }
+    ensures calm { OnOk result ((D.disk_faults (first_disk journal.new) ≡ D.disk_faults (first_disk journal.old)) × (D.disk_faults (second_disk journal.new) ≡ D.disk_faults (second_disk journal.old))) }
+    ensures cause { OnErr result (Rose (D.disk_faults (first_disk journal.old)) (D.disk_faults (first_disk journal.new)) ⊎ Rose (D.disk_faults (second_disk journal.old)) (D.disk_faults (second_disk journal.new))) }
+{
+    match journal.append(bytes) {
+        Ok(()) => Ok(step),
+        Err(fault) => {
+            *unsure = Some(step);
+            Err(fault)
+        }
+    }
+}
+
+// A step that is found to be kept is taken in.
+fn settle<M: Machine>(machine: &mut M, step: M::Step, stood: bool)
+    requires follows { M.follows (M.state machine.old) step }
+    requires room { M.has_room machine.old step }
+    ensures { M.state machine.new ≡ caught M.after (M.state machine.old) (Some step) stood }
+{
+    if stood {
+        machine.take(step);
+    } else {
+        drop(step);
+    }
+}
