@@ -1,4 +1,4 @@
 mod BookingLemmas
 mod CancelLemmas
 mod KeptLemmas
-mod WalkLemmas
+pub mod WalkLemmas

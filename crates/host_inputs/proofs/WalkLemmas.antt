@@ -25,7 +25,7 @@ above : (k : RunKey) (rows : List RunRow) → AllByRecursion (λ y. key_cmp k y.
 above k [] all = tt
 above k (r ∷ rs) all = (all.0, above k rs all.1)
 
-keys_up : (rows : List RunRow) → IsAscendingRows rows → AreAscending (keys_of_rows rows)
+pub keys_up : (rows : List RunRow) → IsAscendingRows rows → AreAscending (keys_of_rows rows)
 keys_up [] up = tt
 keys_up (r ∷ rs) up = (above r.key rs up.0, keys_up rs up.1)
 

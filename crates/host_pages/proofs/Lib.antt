@@ -1,0 +1,2 @@
+mod OrderLemmas
+pub mod ShownLemmas
