@@ -1,7 +1,7 @@
 -- A group of a turn over the keys of the rows that weren't still at its start is the group over all rows.
 use Rattle.std.specs.Ordering.{is_eq}
 use Rattle.std.specs.List.{AllByRecursion}
-use Rattle.std.proofs.Common.{◌≡◌, ℕ, zero, suc, Bool, true, false, not, cond, ◌&&◌, ◌||◌, nat_le, List, [], ◌∷◌, map, filter, find, Option, Some, None, is_some, option_map, option_and_then, unwrap_or, if◌then◌else◌, refl, ap, ap₂, sym, subst, ◌∙◌}
+use Rattle.std.proofs.Common.{◌≡◌, ℕ, Bool, true, false, not, cond, ◌&&◌, ◌||◌, nat_le, List, [], ◌∷◌, map, filter, find, Option, Some, None, is_some, option_map, option_and_then, unwrap_or, refl, ap, ap₂, sym, subst, ◌∙◌}
 use Rattle.std.proofs.lemmas.List.Elements.{recursion_from_All}
 use Rattle.ps_time.specs.Key.{key_cmp}
 use Rattle.ps_time.specs.Span.{Range}
@@ -10,17 +10,18 @@ use Rattle.plugin_core.specs.TestSpec.{test_class}
 use Rattle.run_states.specs.Conflict.{in_conflict}
 use Rattle.run_states.specs.Effect.{accept_row, confirmed_if, is_alone}
 use Rattle.run_states.specs.LawfulRow.{Reserves}
-use Rattle.run_states.specs.Life.{close_row, first, is_booked}
+use Rattle.run_states.specs.Life.{close_row, closed_by, first, is_booked, lapse_of, settled_row, settled_rows}
 use Rattle.run_states.specs.Preemption.{Incoming, firm_conflict, give_way, planned_run, planned_span, yields}
-use Rattle.run_states.specs.Rows.{find_row}
+use Rattle.run_states.specs.Rows.{IsAscendingRows, find_row}
 use Rattle.run_states.specs.declared.proposal.Proposal.{Proposal}
 use Rattle.run_states.specs.declared.row.RunRow.{RunRow}
+use Rattle.run_states.specs.declared.why.Closing.{Closing}
 use Rattle.run_states.specs.declared.why.Denial.{Denial}
 use Rattle.run_states.specs.declared.why.Denial.TheVariants.{NoTool as lacks_tool, Past}
 use Rattle.run_states.specs.declared.why.Why.TheVariants.{Preempted}
-use Rattle.host_model.specs.Apply.{apply}
+use Rattle.host_model.specs.Apply.{apply, settled}
 use Rattle.host_model.specs.Book.{Book, find_task, keys_of_rows, limits_in}
-use Rattle.host_model.specs.Draft.{Draft, ended, made, make, make_rows, make_tasks, make_with, turned}
+use Rattle.host_model.specs.Draft.{Draft, fresh, make, make_rows, make_tasks, turned}
 use Rattle.host_model.specs.Effect.{change_key, effect, has_key}
 use Rattle.host_model.specs.Ending.{end_run, ended_with, tool_view}
 use Rattle.host_model.specs.Fits.{conflict_denial, has_tool, limits_denial, objection, unless, verdict_of, wanted_span}
@@ -30,7 +31,6 @@ use Rattle.host_model.specs.NextAttempt.{ask}
 use Rattle.host_model.specs.Plan.{change_of_plan, own_answer, plan, plan_asked, plan_run, planned_proposal, unless_objected, wanted_tools}
 use Rattle.host_model.specs.Preemption.{incoming}
 use Rattle.host_model.specs.Purging.{purge_run}
-use Rattle.host_model.specs.RecordLength.{change_bytes}
 use Rattle.host_model.specs.Starting.{start_run}
 use Rattle.host_model.specs.declared.change.Change.{Change}
 use Rattle.host_model.specs.declared.change.Change.TheVariants.{Closed, Merged, Planned as planned_change, Started}
@@ -44,9 +44,12 @@ use Rattle.host_model.proofs.RowFacts.{lawful_at}
 use Rattle.host_model.proofs.RowLemmas.{all_of_found}
 use Rattle.host_model.proofs.Standing.{changed_key, changed_row, find_row-map}
 use Rattle.host_model.proofs.Wishes.{end_granted, merge_granted, plan_granted, start_granted}
-use Rattle.live_law.specs.Groups.{make_keys, turned_over}
+use Rattle.host_model.proofs.GrownLemmas.{settled_evolves}
+use Rattle.live_law.specs.Groups.{going_keys, make_keys, turned_by, turned_over}
 use Rattle.live_rows.specs.Still.{is_still, live_keys, live_rows}
-use Rattle.live_law.proofs.StillLemmas.{both, is_not, still_end, still_merge, still_parts, still_plan, still_start}
+use Rattle.live_law.proofs.DraftLemmas.{made_keeps}
+use Rattle.live_law.proofs.PurgeLemmas.{purges_same}
+use Rattle.live_law.proofs.StillLemmas.{both, is_not, some_same, still_end, still_merge, still_parts, still_plan, still_settled, still_start}
 
 -- ---- rows that weren't accepted reserve nothing
 abbrev IsPlainRow : RunRow → Type 0
@@ -73,9 +76,6 @@ record Held (self : ℕ) (base : List RunRow) (b : Book) : Type 0 where
 mapped_keys : (f : RunRow → RunRow) → ((r : RunRow) → (f r).key ≡ r.key) → (rows : List RunRow) → keys_of_rows (map f rows) ≡ keys_of_rows rows
 mapped_keys f same [] = refl
 mapped_keys f same (r ∷ rs) = ap₂ (λ k ks. k ∷ ks) (same r) (mapped_keys f same rs)
-
-some_same : (a b : RunRow) → Some a ≡ Some b → a ≡ b
-some_same a b e = ap (λ o. unwrap_or o a) e
 
 -- a change of one row that isn't still
 module _ (self : ℕ) (base : List RunRow) (m : ℕ) (b : Book) (held : Held self base b) (r : RunRow) (at : find_row b.rows r.key ≡ Some r) (live : is_still self r ≡ true → ⊥) (x : Change) (rows_are : (apply m x b).rows ≡ map (changed_row m b.tasks x b.rows) b.rows)
@@ -124,23 +124,12 @@ module _ (self : ℕ) (base : List RunRow) (m : ℕ) (wish : Book → RunRow →
   abbrev at_key : Book → RunKey → Option Change
   at_key b k = option_and_then (wish b) (find_row b.rows k)
 
-  made_held : (x : Change) (d : Draft) → Held self base d.book → Held self base (apply m x d.book) → Held self base (make m (Some x) d).book
-  made_held x d held next = go d.places
-    where
-      fits : (n : ℕ) (t : Bool) → Held self base (if t then made m x d n else ended d).book
-      fits n true = next
-      fits n false = held
-
-      go : (n : ℕ) → Held self base (make_with m x d n).book
-      go zero = held
-      go (suc n) = fits n (nat_le (change_bytes x) d.left)
-
   one_held : (k : RunKey) (d : Draft) → Held self base d.book → Held self base (make m (at_key d.book k) d).book
   one_held k d held = found (find_row d.book.rows k) refl
     where
       wished : (r : RunRow) → find_row d.book.rows k ≡ Some r → (o : Option Change) → wish d.book r ≡ o → Held self base (make m o d).book
       wished r at None is = held
-      wished r at (Some x) is = made_held x d held (keeps.next d.book r x held (find_row-own d.book.rows k r at) is)
+      wished r at (Some x) is = made_keeps (λ b. Held self base b) m x d held (keeps.next d.book r x held (find_row-own d.book.rows k r at) is)
 
       found : (o : Option RunRow) → find_row d.book.rows k ≡ o → Held self base (make m (option_and_then (wish d.book) o) d).book
       found None at = held
@@ -300,33 +289,62 @@ module _ (c : Config) (base : List RunRow) (m : ℕ) where
         subst (λ y. Held self base (apply m y b)) e.1 (by_question b held r at fresh live r.question);
   }
 
--- ---- the turn
-module _ (c : Config) (m : ℕ) (d : Draft) (lawful : Lawful c.number d.book) where
-  abbrev rows : List RunRow
-  rows = d.book.rows
-
+-- ---- the turn, over a draft whose rows are these but for what lapsed
+module _ (c : Config) (m : ℕ) (base : List RunRow) (up : IsAscendingRows base) (d : Draft) (at_first : Held c.number base d.book) where
   abbrev live : List RunKey
-  live = live_keys c.number rows
+  live = live_keys c.number base
 
-  found : AllByRecursion (λ s. find_row rows s.key ≡ Some s) rows
-  found = recursion_from_All (λ s. find_row rows s.key ≡ Some s) rows (all_of_found (λ s. find_row rows s.key ≡ Some s) rows lawful.ascending (λ r at. at))
+  found : AllByRecursion (λ s. find_row base s.key ≡ Some s) base
+  found = recursion_from_All (λ s. find_row base s.key ≡ Some s) base (all_of_found (λ s. find_row base s.key ≡ Some s) base up (λ r at. at))
 
-  at_first : Held c.number rows d.book
-  at_first = record { stand = λ s at still. at; keys = refl; plain = plain_row c.number d.book lawful }
+  -- the groups that go over live keys
+  abbrev led : Draft
+  led = make_keys (plan_run c m) m live (make_keys (start_run m) m live (make_keys (merge_run c m) m live (make_keys (end_run c m) m live d)))
 
-  pub turned_same : turned_over c m live d ≡ turned c m d
-  turned_same =
+  led_same : (led ≡ make_rows (plan_run c m) m (make_rows (start_run m) m (make_rows (merge_run c m) m (make_rows (end_run c m) m d)))) × Held c.number base led.book
+  led_same =
       let ends = make_keys (end_run c m) m live d in
-      let held_ends = group_held c.number rows m (end_run c m) (end_keeps c rows m) live d at_first in
+      let held_ends = group_held c.number base m (end_run c m) (end_keeps c base m) live d at_first in
       let merges = make_keys (merge_run c m) m live ends in
-      let held_merges = group_held c.number rows m (merge_run c m) (merge_keeps c rows m) live ends held_ends in
+      let held_merges = group_held c.number base m (merge_run c m) (merge_keeps c base m) live ends held_ends in
       let starts = make_keys (start_run m) m live merges in
-      let held_starts = group_held c.number rows m (start_run m) (start_keeps c rows m) live merges held_merges in
-      let first_is : ends ≡ make_rows (end_run c m) m d = group_same c.number rows m (end_run c m) (end_keeps c rows m) found d at_first in
-      let second_is : merges ≡ make_rows (merge_run c m) m ends = group_same c.number rows m (merge_run c m) (merge_keeps c rows m) found ends held_ends in
-      let third_is : starts ≡ make_rows (start_run m) m merges = group_same c.number rows m (start_run m) (start_keeps c rows m) found merges held_merges in
-      let fourth_is : make_keys (plan_run c m) m live starts ≡ make_rows (plan_run c m) m starts = group_same c.number rows m (plan_run c m) (plan_keeps c rows m) found starts held_starts in
+      let held_starts = group_held c.number base m (start_run m) (start_keeps c base m) live merges held_merges in
+      let held_plans = group_held c.number base m (plan_run c m) (plan_keeps c base m) live starts held_starts in
+      let first_is : ends ≡ make_rows (end_run c m) m d = group_same c.number base m (end_run c m) (end_keeps c base m) found d at_first in
+      let second_is : merges ≡ make_rows (merge_run c m) m ends = group_same c.number base m (merge_run c m) (merge_keeps c base m) found ends held_ends in
+      let third_is : starts ≡ make_rows (start_run m) m merges = group_same c.number base m (start_run m) (start_keeps c base m) found merges held_merges in
+      let fourth_is : make_keys (plan_run c m) m live starts ≡ make_rows (plan_run c m) m starts = group_same c.number base m (plan_run c m) (plan_keeps c base m) found starts held_starts in
       let two : merges ≡ make_rows (merge_run c m) m (make_rows (end_run c m) m d) = second_is ∙ ap (make_rows (merge_run c m) m) first_is in
       let three : starts ≡ make_rows (start_run m) m (make_rows (merge_run c m) m (make_rows (end_run c m) m d)) = third_is ∙ ap (make_rows (start_run m) m) two in
-      let four : make_keys (plan_run c m) m live starts ≡ make_rows (plan_run c m) m (make_rows (start_run m) m (make_rows (merge_run c m) m (make_rows (end_run c m) m d))) = fourth_is ∙ ap (make_rows (plan_run c m) m) three in
-      ap (λ x. make_rows (purge_run c m) m (make_tasks (ask c m) m x)) four
+      (fourth_is ∙ ap (make_rows (plan_run c m) m) three, held_plans)
+
+pub turned_same : (c : Config) (m : ℕ) (d : Draft) → Lawful c.number d.book → turned_over c m (live_keys c.number d.book.rows) d ≡ turned c m d
+turned_same c m d lawful =
+    let at_first : Held c.number d.book.rows d.book = record { stand = λ s at still. at; keys = refl; plain = plain_row c.number d.book lawful } in
+    ap (λ x. make_rows (purge_run c m) m (make_tasks (ask c m) m x)) (led_same c m d.book.rows lawful.ascending d at_first).0
+
+-- a book that settled: rows that were still stand as they were
+settled_held : (self m : ℕ) (b : Book) → Lawful self b → Held self b.rows (settled m b)
+settled_held self m b lawful = record {
+  stand = λ s at still. found_settled m b.rows s.key ∙ (ap (option_map (settled_row m)) at ∙ ap (λ r. Some r) (still_settled self s still m));
+  keys = mapped_keys (settled_row m) (λ r. (settled_evolves m r).key) b.rows;
+  plain = λ k s found.
+      let q = found_map (settled_row m) (λ r. (settled_evolves m r).key) b.rows k s found in
+      subst IsPlainRow q.2 (closed_plain (lapse_of m q.0) q.0 (plain_row self b lawful k q.0 q.1));
+}
+  where
+    found_settled : (m : ℕ) (rows : List RunRow) (k : RunKey) → find_row (settled_rows m rows) k ≡ option_map (settled_row m) (find_row rows k)
+    found_settled m rows k = find_row-map (settled_row m) (λ r. (settled_evolves m r).key) rows k
+
+    closed_plain : (o : Option Closing) (r : RunRow) → IsPlainRow r → IsPlainRow (closed_by o r)
+    closed_plain None r plain = plain
+    closed_plain (Some c) r plain = plain
+
+-- a turn over the keys of the book that the step began with
+pub turned_begun : (c : Config) (m : ℕ) (b : Book) → Lawful c.number b → turned_by c m (live_keys c.number b.rows) (going_keys c.number m b.rows) (fresh (settled m b)) ≡ turned c m (fresh (settled m b))
+turned_begun c m b lawful =
+    let d : Draft = fresh (settled m b) in
+    let groups = led_same c m b.rows lawful.ascending d (settled_held c.number m b lawful) in
+    let through : Draft = led c m b.rows lawful.ascending d (settled_held c.number m b lawful) in
+    purges_same c m b.rows lawful.ascending through groups.1.keys groups.1.stand
+    ∙ ap (λ x. make_rows (purge_run c m) m (make_tasks (ask c m) m x)) groups.0

@@ -1,2 +1,4 @@
+pub mod DraftLemmas
 pub mod GroupLemmas
+pub mod PurgeLemmas
 pub mod StillLemmas

@@ -1,7 +1,7 @@
 -- Nothing is wished for a row that is still, and it says, archives and lapses nothing.
 use Rattle.std.specs.List.{list_all}
 use Rattle.std.specs.Prelude.{◌==◌}
-use Rattle.std.proofs.Common.{◌≡◌, ℕ, ◌+◌, Bool, true, false, not, cond, ◌&&◌, ◌||◌, nat_le, List, [], ◌∷◌, ◌++◌, map, flat_map, Option, Some, None, is_some, if◌then◌else◌, refl, ap, ap₂, sym, ◌∙◌}
+use Rattle.std.proofs.Common.{◌≡◌, ℕ, ◌+◌, Bool, true, false, not, cond, ◌&&◌, ◌||◌, nat_le, List, [], ◌∷◌, ◌++◌, map, flat_map, Option, Some, None, is_some, unwrap_or, if◌then◌else◌, refl, ap, ap₂, sym, ◌∙◌}
 use Rattle.ps_time.specs.Span.{Range}
 use Rattle.plugin_core.specs.declared.test_spec.TestSpec.{TestSpec}
 use Rattle.plugin_core.specs.declared.test_spec.TestSpec.TheVariants.{Idle, Idleex, Idlebgm, Idlemany, Simplestream}
@@ -33,6 +33,9 @@ both false b e = cc
 pub is_not : (a : Bool) → not a ≡ true → a ≡ false
 is_not false e = refl
 is_not true e = cc
+
+pub some_same : (a b : RunRow) → Some a ≡ Some b → a ≡ b
+some_same a b e = ap (λ o. unwrap_or o a) e
 
 -- ---- the parts of stillness
 pub record Still (self : ℕ) (r : RunRow) : Type 0 where

@@ -1,9 +1,10 @@
 -- A turn whose groups over rows go over these keys alone, but for the last.
-use Rattle.std.specs.Prelude.{List, Option, option_and_then, ℕ}
+use Rattle.std.specs.Prelude.{◌||◌, List, Option, filter, option_and_then, ℕ}
 use Rattle.ps_time.specs.declared.key.RunKey.{RunKey}
+use Rattle.run_states.specs.Purging.{is_long_past}
 use Rattle.run_states.specs.Rows.{find_row}
 use Rattle.run_states.specs.declared.row.RunRow.{RunRow}
-use Rattle.host_model.specs.Book.{Book}
+use Rattle.host_model.specs.Book.{Book, keys_of_rows}
 use Rattle.host_model.specs.Draft.{Draft, make_each, make_rows, make_tasks}
 use Rattle.host_model.specs.Ending.{end_run}
 use Rattle.host_model.specs.Merging.{merge_run}
@@ -13,6 +14,7 @@ use Rattle.host_model.specs.Purging.{purge_run}
 use Rattle.host_model.specs.Starting.{start_run}
 use Rattle.host_model.specs.declared.change.Change.{Change}
 use Rattle.host_model.specs.declared.config.Config.{Config}
+use Rattle.live_rows.specs.Still.{is_live}
 
 -- for the row of each of these keys, in order
 abbrev pub make_keys : (Book → RunRow → Option Change) → ℕ → List RunKey → Draft → Draft
@@ -22,4 +24,14 @@ make_keys wish m ks d = make_each (λ b k. option_and_then (wish b) (find_row b.
 abbrev pub turned_over : Config → ℕ → List RunKey → Draft → Draft
 turned_over c m live d =
     make_rows (purge_run c m) m (make_tasks (ask c m) m (
+    make_keys (plan_run c m) m live (make_keys (start_run m) m live (make_keys (merge_run c m) m live (make_keys (end_run c m) m live d)))))
+
+-- the keys of the rows that may go at m: those that aren't still, and those that are long past
+abbrev pub going_keys : ℕ → ℕ → List RunRow → List RunKey
+going_keys self m rows = keys_of_rows (filter (λ r. is_long_past m r || is_live self r) rows)
+
+-- the same, where the last goes over these keys
+abbrev pub turned_by : Config → ℕ → List RunKey → List RunKey → Draft → Draft
+turned_by c m live keys d =
+    make_keys (purge_run c m) m keys (make_tasks (ask c m) m (
     make_keys (plan_run c m) m live (make_keys (start_run m) m live (make_keys (merge_run c m) m live (make_keys (end_run c m) m live d)))))

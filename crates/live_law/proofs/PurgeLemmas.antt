@@ -1,0 +1,287 @@
+-- What a turn asks about doesn't go in it: the purges over the keys of the rows that were there before are those over all keys.
+use Rattle.std.specs.List.{AllByRecursion, list_any}
+use Rattle.std.specs.Ordering.{is_eq, match_ordering}
+use Rattle.std.specs.declared.cmp.Ordering.{Ordering}
+use Rattle.std.specs.declared.cmp.Ordering.TheVariants.{Less, Equal, Greater}
+use Rattle.std.proofs.Common.{◌≡◌, ◌⊎◌, inl, inr, ℕ, Bool, true, false, cond, ◌&&◌, ◌||◌, List, [], ◌∷◌, map, filter, Option, Some, None, is_some, option_and_then, not, refl, ap, ap₂, sym, subst, ◌∙◌}
+use Rattle.std.specs.Prelude.{◌==◌}
+use Rattle.std.proofs.Math.Bool.{or-true}
+use Rattle.std.proofs.lemmas.List.Elements.{recursion_from_All}
+use Rattle.ps_time.specs.Key.{key_cmp}
+use Rattle.ps_time.specs.declared.asker.Asker.{Asker}
+use Rattle.ps_time.specs.declared.key.RunKey.{RunKey}
+use Rattle.run_states.specs.Purging.{is_led_out, is_long_past}
+use Rattle.run_states.specs.Rows.{IsAscendingRows, find_row, lift_row, put_row}
+use Rattle.run_states.specs.declared.proposal.Question.{Question}
+use Rattle.run_states.specs.declared.row.RunRow.{RunRow}
+use Rattle.host_model.specs.Apply.{apply, put_new}
+use Rattle.host_model.specs.Book.{Book, find_task, keys_of_rows}
+use Rattle.host_model.specs.Draft.{Draft, make, make_each, make_rows, make_tasks}
+use Rattle.host_model.specs.Effect.{has_key}
+use Rattle.host_model.specs.NewRow.{asked_row}
+use Rattle.host_model.specs.NextAttempt.{ask}
+use Rattle.host_model.specs.Purging.{purge_run}
+use Rattle.host_model.specs.Walk.{change_if}
+use Rattle.host_model.specs.declared.change.Change.{Change}
+use Rattle.host_model.specs.declared.change.Change.TheVariants.{Asked, Purged}
+use Rattle.host_model.specs.declared.config.Config.{Config}
+use Rattle.host_model.specs.declared.task_row.TaskRow.{TaskRow}
+use Rattle.host_model.proofs.Placed.{lift_from, put_from, put_keeps}
+use Rattle.host_model.proofs.RowLemmas.{all_of_found}
+use Rattle.host_model.proofs.Standing.{changed_row}
+use Rattle.host_model.proofs.Wishes.{ask_granted, purge_granted}
+use Rattle.live_law.specs.Groups.{going_keys, make_keys}
+use Rattle.live_rows.specs.Still.{is_still}
+use Rattle.live_law.proofs.DraftLemmas.{made_keeps}
+use Rattle.live_law.proofs.StillLemmas.{some_same}
+
+-- ---- a key is that of a row
+abbrev has : RunKey → List RunKey → Bool
+has k ks = list_any (λ j. is_eq (key_cmp j k)) ks
+
+found_has : (rows : List RunRow) (k : RunKey) → is_some (find_row rows k) ≡ has k (keys_of_rows rows)
+found_has [] k = refl
+found_has (r ∷ rs) k = go (is_eq (key_cmp r.key k)) (found_has rs k)
+  where
+    go : (b : Bool) → is_some (find_row rs k) ≡ has k (keys_of_rows rs) → is_some (cond b (Some r) (find_row rs k)) ≡ (b || has k (keys_of_rows rs))
+    go true rest = refl
+    go false rest = rest
+
+filter_has : (p : RunKey → Bool) (k : RunKey) (ks : List RunKey) → has k (filter p ks) ≡ true → has k ks ≡ true
+filter_has p k [] e = e
+filter_has p k (j ∷ ks) e = go (p j) e (filter_has p k ks)
+  where
+    either : (same : Bool) → (same || has k (filter p ks)) ≡ true → (has k (filter p ks) ≡ true → has k ks ≡ true) → (same || has k ks) ≡ true
+    either true e later = refl
+    either false e later = later e
+
+    go : (passes : Bool) → has k (cond passes (j ∷ filter p ks) (filter p ks)) ≡ true → (has k (filter p ks) ≡ true → has k ks ≡ true) → (is_eq (key_cmp j k) || has k ks) ≡ true
+    go true e later = either (is_eq (key_cmp j k)) e later
+    go false e later = ap (λ x. is_eq (key_cmp j k) || x) (later e) ∙ or-true (is_eq (key_cmp j k))
+
+-- neither what is asked nor what goes changes another row
+same_row : (t : Bool) (r : RunRow) → cond t r r ≡ r
+same_row true r = refl
+same_row false r = refl
+
+asked_same : (m : ℕ) (tasks : List TaskRow) (q : Question) (participants : List (List ℕ)) (asker : Asker) (all rows : List RunRow) → map (changed_row m tasks (Asked q participants asker) all) rows ≡ rows
+asked_same m tasks q participants asker all [] = refl
+asked_same m tasks q participants asker all (r ∷ rs) = ap₂ (λ x xs. x ∷ xs) (same_row (has_key r.key (Some q.key)) r) (asked_same m tasks q participants asker all rs)
+
+purged_same : (m : ℕ) (tasks : List TaskRow) (k : RunKey) (all rows : List RunRow) → map (changed_row m tasks (Purged k) all) rows ≡ rows
+purged_same m tasks k all [] = refl
+purged_same m tasks k all (r ∷ rs) = ap₂ (λ x xs. x ∷ xs) (same_row (has_key r.key (Some k)) r) (purged_same m tasks k all rs)
+
+module _ (m : ℕ) (base : List RunRow) where
+  -- a row of the key was there at first
+  abbrev there : RunKey → Bool
+  there k = is_some (find_row base k)
+
+  -- what came since isn't long past
+  abbrev IsYoung : List RunRow → Type 0
+  IsYoung rows = (k : RunKey) (r : RunRow) → find_row rows k ≡ Some r → there k ≡ false → is_long_past m r ≡ false
+
+  -- the keys of before are those that were there at first
+  abbrev HaveKeys : List RunRow → Type 0
+  HaveKeys rows = filter there (keys_of_rows rows) ≡ keys_of_rows base
+
+  record Extended (b : Book) : Type 0 where
+    pub keys : HaveKeys b.rows
+    pub young : IsYoung b.rows
+
+  -- ---- at first
+  all_there : (rs : List RunRow) → AllByRecursion (λ s. find_row base s.key ≡ Some s) rs → filter there (keys_of_rows rs) ≡ keys_of_rows rs
+  all_there [] all = refl
+  all_there (s ∷ rs) all = ap (λ b. cond b (s.key ∷ filter there (keys_of_rows rs)) (filter there (keys_of_rows rs))) (ap is_some all.0) ∙ ap (λ ks. s.key ∷ ks) (all_there rs all.1)
+
+  extended_first : IsAscendingRows base → (b : Book) → keys_of_rows b.rows ≡ keys_of_rows base → Extended b
+  extended_first up b same = record {
+    keys = ap (filter there) same ∙ all_there base (recursion_from_All (λ s. find_row base s.key ≡ Some s) base (all_of_found (λ s. find_row base s.key ≡ Some s) base up (λ r at. at)));
+    young = λ k r at new.
+        let is : there k ≡ true = found_has base k ∙ (ap (has k) (sym same) ∙ (sym (found_has b.rows k) ∙ ap is_some at)) in
+        let never : true ≡ false = sym is ∙ new in
+        cc;
+  }
+
+  -- ---- a run that is asked about
+  -- a key that no row has is none of those at first
+  new_key : (rows : List RunRow) (k : RunKey) → HaveKeys rows → find_row rows k ≡ None → there k ≡ false
+  new_key rows k have none = go (there k) refl
+    where
+      go : (t : Bool) → there k ≡ t → t ≡ false
+      go false is = refl
+      go true is =
+          let first : has k (filter there (keys_of_rows rows)) ≡ true = ap (has k) have ∙ (sym (found_has base k) ∙ is) in
+          let never : false ≡ true = ap is_some (sym none) ∙ (found_has rows k ∙ filter_has there k (keys_of_rows rows) first) in
+          cc
+
+  put_keys : (rows : List RunRow) (n : RunRow) → there n.key ≡ false → filter there (keys_of_rows (put_row rows n)) ≡ filter there (keys_of_rows rows)
+  put_keys [] n new = ap (λ b. cond b (n.key ∷ []) []) new
+  put_keys (r ∷ rs) n new = go (key_cmp r.key n.key) (put_keys rs n new)
+    where
+      front : (xs ys : List RunKey) → xs ≡ ys → cond (there r.key) (r.key ∷ xs) xs ≡ cond (there r.key) (r.key ∷ ys) ys
+      front xs ys same = ap (λ ks. cond (there r.key) (r.key ∷ ks) ks) same
+
+      go : (o : Ordering) → filter there (keys_of_rows (put_row rs n)) ≡ filter there (keys_of_rows rs) →
+          filter there (keys_of_rows (match_ordering o (r ∷ put_row rs n) (r ∷ put_row rs n) (n ∷ r ∷ rs))) ≡ filter there (keys_of_rows (r ∷ rs))
+      go Less rest = front (filter there (keys_of_rows (put_row rs n))) (filter there (keys_of_rows rs)) rest
+      go Equal rest = front (filter there (keys_of_rows (put_row rs n))) (filter there (keys_of_rows rs)) rest
+      go Greater rest = ap (λ b. cond b (n.key ∷ filter there (keys_of_rows (r ∷ rs))) (filter there (keys_of_rows (r ∷ rs)))) new
+
+  put_new_keys : (rows : List RunRow) (n : RunRow) → HaveKeys rows → HaveKeys (put_new (Some n) rows)
+  put_new_keys rows n have = go (find_row rows n.key) refl
+    where
+      go : (o : Option RunRow) → find_row rows n.key ≡ o → HaveKeys (cond (is_some o) rows (put_row rows n))
+      go (Some x) at = have
+      go None at = put_keys rows n (new_key rows n.key have at) ∙ have
+
+  extended_asked : (b : Book) (q : Question) (participants : List (List ℕ)) (asker : Asker) → Extended b → Extended (apply m (Asked q participants asker) b)
+  extended_asked b q participants asker before =
+      let n : RunRow = asked_row m q participants asker in
+      let rows_are : put_new (Some n) b.rows ≡ (apply m (Asked q participants asker) b).rows = ap (put_new (Some n)) (sym (asked_same m b.tasks q participants asker b.rows b.rows)) in
+      record {
+        keys = subst HaveKeys rows_are (put_new_keys b.rows n before.keys);
+        young = subst IsYoung rows_are (λ k r at new. from k r new (put_from n b.rows k r at));
+      }
+    where
+      from : (k : RunKey) (r : RunRow) → there k ≡ false → (find_row b.rows k ≡ Some r) ⊎ (((asked_row m q participants asker).key ≡ k) × (asked_row m q participants asker ≡ r)) → is_long_past m r ≡ false
+      from k r new (inl at) = before.young k r at new
+      from k r new (inr is) = subst (λ x. is_long_past m x ≡ false) is.1 refl
+
+  extended_asks : (c : Config) (serials : List ℕ) (d : Draft) → Extended d.book → Extended (make_each (λ b serial. option_and_then (ask c m b) (find_task b.tasks serial)) m serials d).book
+  extended_asks c [] d before = before
+  extended_asks c (serial ∷ serials) d before = extended_asks c serials (make m (wished (find_task d.book.tasks serial)) d) (task (find_task d.book.tasks serial))
+    where
+      wished : Option TaskRow → Option Change
+      wished o = option_and_then (ask c m d.book) o
+
+      one : (t : TaskRow) (o : Option Change) → ask c m d.book t ≡ o → Extended (make m o d).book
+      one t None is = before
+      one t (Some x) is =
+          let g = ask_granted c m d.book t x is in
+          made_keeps Extended m x d before (subst (λ y. Extended (apply m y d.book)) g.is (extended_asked d.book _ _ _ before))
+
+      task : (o : Option TaskRow) → Extended (make m (wished o) d).book
+      task None = before
+      task (Some t) = one t (ask c m d.book t) refl
+
+  -- ---- what goes
+  young_purged : (b : Book) (k : RunKey) → IsYoung b.rows → IsYoung (apply m (Purged k) b).rows
+  young_purged b k young = subst (λ rows. IsYoung (lift_row rows k)) (sym (purged_same m b.tasks k b.rows b.rows)) (λ j r at new. young j r (lift_from k j b.rows r at) new)
+
+  module _ (c : Config) where
+    abbrev gone : Book → RunKey → Option Change
+    gone b k = option_and_then (purge_run c m b) (find_row b.rows k)
+
+    young_made : (k : RunKey) (d : Draft) → IsYoung d.book.rows → IsYoung (make m (gone d.book k) d).book.rows
+    young_made k d young = found (find_row d.book.rows k)
+      where
+        one : (r : RunRow) (o : Option Change) → purge_run c m d.book r ≡ o → IsYoung (make m o d).book.rows
+        one r None is = young
+        one r (Some x) is =
+            let g = purge_granted c m d.book r x is in
+            made_keeps (λ b. IsYoung b.rows) m x d young (subst (λ y. IsYoung (apply m y d.book).rows) g.1 (young_purged d.book r.key young))
+
+        found : (o : Option RunRow) → IsYoung (make m (option_and_then (purge_run c m d.book) o) d).book.rows
+        found None = young
+        found (Some r) = one r (purge_run c m d.book r) refl
+
+    young_stays : (b : Book) (k : RunKey) → IsYoung b.rows → there k ≡ false → gone b k ≡ None
+    young_stays b k young new = go (find_row b.rows k) refl
+      where
+        go : (o : Option RunRow) → find_row b.rows k ≡ o → option_and_then (purge_run c m b) o ≡ None
+        go None at = refl
+        go (Some r) at = ap (λ t. change_if (t && (not (r.key.lead == c.number) || is_led_out b.rows r)) (Purged r.key)) (young k r at new)
+
+    skipped : (ks : List RunKey) (d : Draft) → IsYoung d.book.rows → make_keys (purge_run c m) m (filter there ks) d ≡ make_keys (purge_run c m) m ks d
+    skipped [] d young = refl
+    skipped (k ∷ ks) d young = go (there k) refl (skipped ks)
+      where
+        go : (t : Bool) → there k ≡ t → ((e : Draft) → IsYoung e.book.rows → make_keys (purge_run c m) m (filter there ks) e ≡ make_keys (purge_run c m) m ks e) →
+            make_keys (purge_run c m) m (cond t (k ∷ filter there ks) (filter there ks)) d ≡ make_keys (purge_run c m) m (k ∷ ks) d
+        go true old later = later (make m (gone d.book k) d) (young_made k d young)
+        go false new later = later d young ∙ sym (ap (λ o. make_keys (purge_run c m) m ks (make m o d)) (young_stays d.book k young new))
+
+-- ---- rows that are still and not long past stay
+module _ (c : Config) (m : ℕ) (base : List RunRow) where
+  -- the row stands, as it was
+  abbrev Stand : List RunRow → Type 0
+  Stand rows = (s : RunRow) → find_row base s.key ≡ Some s → is_still c.number s ≡ true → find_row rows s.key ≡ Some s
+
+  -- it stands so, or has gone
+  abbrev StandOrGone : List RunRow → Type 0
+  StandOrGone rows = (s r : RunRow) → find_row base s.key ≡ Some s → is_still c.number s ≡ true → find_row rows s.key ≡ Some r → r ≡ s
+
+  stand_asked : (b : Book) (q : Question) (participants : List (List ℕ)) (asker : Asker) → Stand b.rows → Stand (apply m (Asked q participants asker) b).rows
+  stand_asked b q participants asker stand s at still =
+      put_keeps (Some (asked_row m q participants asker)) _ s.key s (ap (λ rows. find_row rows s.key) (asked_same m b.tasks q participants asker b.rows b.rows) ∙ stand s at still)
+
+  stand_asks : (serials : List ℕ) (d : Draft) → Stand d.book.rows → Stand (make_each (λ b serial. option_and_then (ask c m b) (find_task b.tasks serial)) m serials d).book.rows
+  stand_asks [] d before = before
+  stand_asks (serial ∷ serials) d before = stand_asks serials (make m (wished (find_task d.book.tasks serial)) d) (task (find_task d.book.tasks serial))
+    where
+      wished : Option TaskRow → Option Change
+      wished o = option_and_then (ask c m d.book) o
+
+      one : (t : TaskRow) (o : Option Change) → ask c m d.book t ≡ o → Stand (make m o d).book.rows
+      one t None is = before
+      one t (Some x) is =
+          let g = ask_granted c m d.book t x is in
+          made_keeps (λ b. Stand b.rows) m x d before (subst (λ y. Stand (apply m y d.book).rows) g.is (stand_asked d.book _ _ _ before))
+
+      task : (o : Option TaskRow) → Stand (make m (wished o) d).book.rows
+      task None = before
+      task (Some t) = one t (ask c m d.book t) refl
+
+  gone_purged : (b : Book) (k : RunKey) → StandOrGone b.rows → StandOrGone (apply m (Purged k) b).rows
+  gone_purged b k stand = subst (λ rows. StandOrGone (lift_row rows k)) (sym (purged_same m b.tasks k b.rows b.rows)) (λ s r at still found. stand s r at still (lift_from k s.key b.rows r found))
+
+  gone_made : (k : RunKey) (d : Draft) → StandOrGone d.book.rows → StandOrGone (make m (gone m base c d.book k) d).book.rows
+  gone_made k d stand = found (find_row d.book.rows k)
+    where
+      one : (r : RunRow) (o : Option Change) → purge_run c m d.book r ≡ o → StandOrGone (make m o d).book.rows
+      one r None is = stand
+      one r (Some x) is =
+          let g = purge_granted c m d.book r x is in
+          made_keeps (λ b. StandOrGone b.rows) m x d stand (subst (λ y. StandOrGone (apply m y d.book).rows) g.1 (gone_purged d.book r.key stand))
+
+      found : (o : Option RunRow) → StandOrGone (make m (option_and_then (purge_run c m d.book) o) d).book.rows
+      found None = stand
+      found (Some r) = one r (purge_run c m d.book r) refl
+
+  -- what is neither long past nor live
+  neither : (past live : Bool) → (past || not live) ≡ false → (past ≡ false) × (live ≡ true)
+  neither true live e = cc
+  neither false true e = (refl, refl)
+  neither false false e = cc
+
+  unwished : (b : Book) (s : RunRow) → StandOrGone b.rows → find_row base s.key ≡ Some s → (is_long_past m s || not (is_still c.number s)) ≡ false → gone m base c b s.key ≡ None
+  unwished b s stand at out = go (find_row b.rows s.key) refl
+    where
+      go : (o : Option RunRow) → find_row b.rows s.key ≡ o → option_and_then (purge_run c m b) o ≡ None
+      go None found = refl
+      go (Some r) found =
+          let parts = neither (is_long_past m s) (is_still c.number s) out in
+          let same : r ≡ s = stand s r at parts.1 found in
+          ap (λ t. change_if (t && (not (r.key.lead == c.number) || is_led_out b.rows r)) (Purged r.key)) (ap (is_long_past m) same ∙ parts.0)
+
+  going : (rs : List RunRow) → AllByRecursion (λ s. find_row base s.key ≡ Some s) rs → (d : Draft) → StandOrGone d.book.rows → make_keys (purge_run c m) m (going_keys c.number m rs) d ≡ make_keys (purge_run c m) m (keys_of_rows rs) d
+  going [] all d stand = refl
+  going (s ∷ rs) all d stand = go (is_long_past m s || not (is_still c.number s)) refl (going rs all.1)
+    where
+      go : (t : Bool) → (is_long_past m s || not (is_still c.number s)) ≡ t → ((e : Draft) → StandOrGone e.book.rows → make_keys (purge_run c m) m (going_keys c.number m rs) e ≡ make_keys (purge_run c m) m (keys_of_rows rs) e) →
+          make_keys (purge_run c m) m (keys_of_rows (cond t (s ∷ filter (λ r. is_long_past m r || not (is_still c.number r)) rs) (filter (λ r. is_long_past m r || not (is_still c.number r)) rs))) d ≡ make_keys (purge_run c m) m (keys_of_rows (s ∷ rs)) d
+      go true is later = later (make m (gone m base c d.book s.key) d) (gone_made s.key d stand)
+      go false is later = later d stand ∙ sym (ap (λ o. make_keys (purge_run c m) m (keys_of_rows rs) (make m o d)) (unwished d.book s stand all.0 is))
+
+-- the purges of a turn, where the rows have the keys of these before the asks, and those that were still stand as they were
+pub purges_same : (c : Config) (m : ℕ) (base : List RunRow) → IsAscendingRows base → (d : Draft) → keys_of_rows d.book.rows ≡ keys_of_rows base
+    → ((s : RunRow) → find_row base s.key ≡ Some s → is_still c.number s ≡ true → find_row d.book.rows s.key ≡ Some s)
+    → make_keys (purge_run c m) m (going_keys c.number m base) (make_tasks (ask c m) m d) ≡ make_rows (purge_run c m) m (make_tasks (ask c m) m d)
+purges_same c m base up d same stand =
+    let asked : Draft = make_tasks (ask c m) m d in
+    let all : AllByRecursion (λ s. find_row base s.key ≡ Some s) base = recursion_from_All (λ s. find_row base s.key ≡ Some s) base (all_of_found (λ s. find_row base s.key ≡ Some s) base up (λ r at. at)) in
+    let extended : Extended m base asked.book = extended_asks m base c (map (λ t. t.serial) d.book.tasks) d (extended_first m base up d.book same) in
+    let stood : (s : RunRow) → find_row base s.key ≡ Some s → is_still c.number s ≡ true → find_row asked.book.rows s.key ≡ Some s = stand_asks c m base (map (λ t. t.serial) d.book.tasks) d stand in
+    going c m base base all asked (λ s r at still found. some_same r s (sym found ∙ stood s at still))
+    ∙ (ap (λ ks. make_keys (purge_run c m) m ks asked) (sym extended.keys) ∙ skipped m base c (keys_of_rows asked.book.rows) asked extended.young)
