@@ -1,5 +1,5 @@
 -- What a draft keeps of its parts, as it opens and as changes are made.
-use Rattle.std.proofs.Common.{◌≡◌, ◌≤◌, ◌+◌, ◌-◌, ◌&&◌, ◌++◌, ◌∷◌, ℕ, zero, suc, Bool, true, false, cond, not, nat_le, nat_lt, List, [], Some, None, length, refl, ap, ap₂, sym, subst, ◌∙◌, arith}
+use Rattle.std.proofs.Common.{◌≡◌, ◌==◌, ◌≤◌, ◌+◌, ◌-◌, ◌&&◌, ◌++◌, ◌∷◌, ℕ, zero, suc, Bool, true, false, cond, not, nat_le, nat_lt, List, [], Some, length, refl, ap, ap₂, sym, subst, ◌∙◌, arith}
 use Rattle.std.proofs.lemmas.List.{length-map}
 use Rattle.std.proofs.lemmas.Bool.Decides.{nat_tests}
 use Rattle.std.specs.List.{AllByRecursion}
@@ -20,21 +20,23 @@ use Rattle.host_model.specs.RecordLength.{change_bytes}
 use Rattle.host_model.specs.declared.change.Change.{Change}
 use Rattle.run_states.proofs.Place.{key_is}
 use Rattle.host_model.proofs.SettledBook.{book_settled}
+use Rattle.live_rows.specs.Still.{live_keys}
 use Rattle.row_ledger.specs.Ledger.{most_counted}
 use Rattle.row_ledger.proofs.RowLemmas.{above_other, bytes_cons, bytes_settled}
 use Rattle.host_draft.specs.Draft.{IsDraft, Seen, admits, book_now, with_draft}
-use Rattle.host_draft.specs.Overlay.{below, lapsed_over}
-use Rattle.host_draft.proofs.OverLemmas.{below_own, found_gone, found_marked, found_opened, found_touched}
-use Rattle.host_model.specs.Apply.{put_new}
+use Rattle.host_draft.specs.Overlay.{lapsed_over}
+use Rattle.host_draft.proofs.LiveLemmas.{found_opened}
 
 -- a draft without changes
 pub opened_sound : (number m : ℕ) (b : Book) (epoch count bytes left : ℕ) → b.moment ≤ m → m ≤ MAX_MOMENT → Lawful number b → epoch ≡ length b.epochs → count ≡ length b.rows → bytes ≡ result_bytes b.rows → bytes + left ≤ most_counted
-    → IsDraft number m b (book_now m [] b) (lapsed_over m [] b.rows) [] epoch count bytes left
+    → IsDraft number m b (book_now m [] b) (lapsed_over m b.rows (live_keys number b.rows) []) [] epoch count bytes left
 opened_sound number m b epoch count bytes left later low lawful epochs rows kept fits = record {
   moment = low;
   at = refl;
   lawful = book_settled number b m later low lawful;
-  found = found_opened m b.rows lawful.ascending;
+  found = found_opened number m b.rows;
+  tasks = refl;
+  epochs = refl;
   epoch = epochs;
   count = let same = length-map b.rows (settled_row m) in omega (arith, rows, same);
   bytes = kept ∙ sym (bytes_settled m b.rows);
@@ -48,54 +50,6 @@ apply_last m (d ∷ ds) c b = apply_last m ds c (apply m d b)
 
 pub now_last : (m : ℕ) (cs later : List Change) (c : Change) (b : Book) → later ≡ cs ++ c ∷ [] → book_now m later b ≡ apply m c (book_now m cs b)
 now_last m cs later c b is = ap (λ l. book_now m l b) is ∙ apply_last m cs c (settled m b)
-
--- ---- one change ----
-module _ (number m : ℕ) (began now : Book) (ts : List RunRow) (gone : List RunKey) (epoch count bytes left : ℕ) (sound : IsDraft number m began now ts gone epoch count bytes left) where
-  -- one more copy
-  pub touched_sound : (k : RunKey) → IsDraft number m began now (put_new (below gone began.rows k) ts) gone epoch count bytes left
-  touched_sound k = record {
-    moment = sound.moment;
-    at = sound.at;
-    lawful = sound.lawful;
-    found = λ j. sound.found j ∙ sym (found_touched (below gone began.rows) (below_own gone began.rows) ts k j);
-    epoch = sound.epoch;
-    count = sound.count;
-    bytes = sound.bytes;
-    room = sound.room;
-  }
-
-  -- a row changes
-  pub changed_sound : (c : Change) (f : RunRow → RunRow) → ((r : RunRow) → (f r).key ≡ r.key) → (k : RunKey) (kept rest : ℕ) → Lawful number (apply m c now)
-      → (apply m c now).rows ≡ change_row f now.rows k → (apply m c now).epochs ≡ now.epochs → kept ≡ result_bytes (change_row f now.rows k) → kept + rest ≤ most_counted
-      → IsDraft number m began (apply m c now) (change_row f (put_new (below gone began.rows k) ts) k) gone epoch count kept rest
-  changed_sound c f same k kept rest lawful rows epochs bytes_are fits = record {
-    moment = sound.moment;
-    at = sound.at;
-    lawful = lawful;
-    found = λ j. ap (λ l. find_row l j) rows ∙ found_marked (below gone began.rows) (below_own gone began.rows) f same now.rows ts k sound.found j;
-    epoch = sound.epoch ∙ ap length (sym epochs);
-    count =
-        let same = length-map now.rows (λ r. cond (is_eq (key_cmp r.key k)) (f r) r) in
-        let all = ap length rows in
-        omega (arith, sound.count, same, all);
-    bytes = bytes_are ∙ ap result_bytes (sym rows);
-    room = fits;
-  }
-
-  -- a row goes
-  pub gone_sound : (c : Change) (k : RunKey) (n kept rest : ℕ) → Lawful number (apply m c now) → (apply m c now).rows ≡ lift_row now.rows k → (apply m c now).epochs ≡ now.epochs
-      → n ≡ length (lift_row now.rows k) → kept ≡ result_bytes (lift_row now.rows k) → kept + rest ≤ most_counted
-      → IsDraft number m began (apply m c now) (lift_row ts k) (gone ++ k ∷ []) epoch n kept rest
-  gone_sound c k n kept rest lawful rows epochs fewer bytes_are fits = record {
-    moment = sound.moment;
-    at = sound.at;
-    lawful = lawful;
-    found = λ j. ap (λ l. find_row l j) rows ∙ found_gone now.rows ts gone began.rows k sound.found j;
-    epoch = sound.epoch ∙ ap length (sym epochs);
-    count = fewer ∙ ap length (sym rows);
-    bytes = bytes_are ∙ ap result_bytes (sym rows);
-    room = fits;
-  }
 
 -- ---- what is made ----
 is_place : (n : ℕ) → nat_lt 0 (suc n) ≡ true
@@ -145,6 +99,13 @@ module _ (number m : ℕ) (limits : Limits) (b : Book) (cs : List Change) (place
       ap (λ (x : Seen). with_draft (ended x.draft) x) seen
       ∙ (ap (λ d. with_draft d s) (sym (made_refused m c s.draft fits))
       ∙ ap (λ n. with_draft (make n (Some c) s.draft) s) (sym moment_is))
+
+zero_from : (n : ℕ) → (n == 0) ≡ true → n ≡ 0
+zero_from n e = grind (arith, nat_tests)
+
+-- a draft without place stays as it is
+pub full_shown : (c : Change) (s : Seen) → (s.draft.places == 0) ≡ true → s ≡ with_draft (make s.draft.book.moment (Some c) s.draft) s
+full_shown c s full = sym (ap (λ n. with_draft (make_with s.draft.book.moment c s.draft n) s) (zero_from s.draft.places full))
 
 -- ---- bytes of results ----
 -- a change that leaves each row's results leaves all

@@ -1,17 +1,17 @@
 -- What rows reserve that lie over those of a book: gathered, they are what the rows of now reserve.
-use Rattle.std.specs.Prelude.{find, IsTrue}
-use Rattle.std.specs.List.{AllByRecursion, list_all}
+use Rattle.std.specs.Prelude.{find, IfSome}
+use Rattle.std.specs.List.{AllByRecursion, list_all, range_with_len}
 use Rattle.std.specs.Option.{is_none}
 use Rattle.std.specs.Ordering.{int_cmp, is_eq, is_lt, match_ordering}
 use Rattle.std.specs.declared.cmp.Ordering.{Ordering}
 use Rattle.std.specs.declared.cmp.Ordering.TheVariants.{Less, Equal, Greater}
-use Rattle.std.proofs.Common.{◌≡◌, ◌≢◌, ℕ, ℤ, Bool, true, false, cond, not, ◌&&◌, ◌||◌, ◌++◌, ◌+◌, nat_lt, arith, List, [], ◌∷◌, filter, Option, Some, None, is_some, option_map, unwrap_or, refl, ap, ap₂, sym, subst, take, ◌∙◌}
+use Rattle.std.proofs.Common.{◌≡◌, ◌≢◌, ◌≤◌, ◌<◌, ◌-◌, ℕ, zero, suc, ℤ, Bool, true, false, cond, not, ◌&&◌, ◌||◌, ◌++◌, ◌+◌, nat_lt, arith, List, [], ◌∷◌, filter, Option, Some, None, is_some, option_map, unwrap_or, refl, ap, ap₂, sym, subst, take, ◌∙◌}
 use Rattle.std.proofs.lemmas.Bool.Decides.{nat_tests}
-use Rattle.ps_time.specs.Class.{clash}
+use Rattle.ps_time.specs.Class.{clash, conflicting_classes}
 use Rattle.ps_time.specs.Key.{key_cmp}
 use Rattle.ps_time.specs.Numbers.{most_intervals, on_deck}
-use Rattle.ps_time.specs.Span.{Range, Span, span_of}
-use Rattle.ps_time.specs.Starts.{gathered as gathered_starts, starts_in, tier_of}
+use Rattle.ps_time.specs.Span.{Range, Span, overlap, span_of}
+use Rattle.ps_time.specs.Starts.{gathered as gathered_starts, tier_of}
 use Rattle.ps_time.specs.declared.class.Class.{Class}
 use Rattle.ps_time.specs.declared.key.RunKey.{RunKey}
 use Rattle.plugin_core.specs.TestSpec.{test_class}
@@ -28,10 +28,8 @@ use Rattle.part_core.specs.Reservations.{booking_of, bookings_of, reserved, with
 use Rattle.host_model.specs.FreeStarts.{free_tiers, is_free as is_free_row, is_freeable as is_freeable_row}
 use Rattle.host_model.specs.Lawful.{NoClash}
 use Rattle.host_model.proofs.Keyed.{key_is, key_of}
-use Rattle.host_model.proofs.Placed.{find_row-key}
 use Rattle.row_ledger.proofs.RowLemmas.{each_found}
-use Rattle.host_draft.specs.Overlay.{Takes, bare_bookings, booked, gathered, hides, named, over}
-use Rattle.host_draft.proofs.OverLemmas.{eq_turned}
+use Rattle.host_draft.specs.Overlay.{Takes, bare_bookings, booked, gathered, hides, is_near, named, near_bookings, near_gathered, over, reach_of}
 use Rattle.host_draft.proofs.PickLemmas.{earlier, find_over, is_less, less_order}
 
 -- ---- tests of all
@@ -200,13 +198,6 @@ module _ (now touched : List RunRow) (gone : List RunKey) (book : List RunRow) (
         ∙ (and_turned (list_all (λ r. hides touched gone r.key || holds q r) book) (list_all (holds q) touched)
         ∙ (sym (all_over (holds q)) ∙ sym (rows_all q now))))))
 
-  filter_alike : (f g : ℕ → Bool) → ((x : ℕ) → f x ≡ g x) → (xs : List ℕ) → filter f xs ≡ filter g xs
-  filter_alike f g same [] = refl
-  filter_alike f g same (x ∷ xs) = ap₂ (λ b ys. cond b (x ∷ ys) ys) (same x) (filter_alike f g same xs)
-
-  tier_same : (f g : ℕ → Bool) (w : Range) → ((s : ℕ) → f s ≡ g s) → tier_of f w ≡ tier_of g w
-  tier_same f g w same = ap (λ starts. take most_intervals (gathered_starts starts)) (filter_alike f g same (starts_in w))
-
   -- ---- the tests of starts
   firm_is : (m start : ℕ) (started : Bool) → nat_lt m (firm_from_of start started) ≡ (not started && nat_lt (m + on_deck) start)
   firm_is m start true = grind (arith, nat_tests)
@@ -239,14 +230,6 @@ module _ (now touched : List RunRow) (gone : List RunKey) (book : List RunRow) (
       all_gathered (λ b. not (conflicts_with class (span_of s len) b) || can_preempt priority m b)
       ∙ (rows_all (λ b. not (conflicts_with class (span_of s len) b) || can_preempt priority m b) now
       ∙ all_alike (holds (λ b. not (conflicts_with class (span_of s len) b) || can_preempt priority m b)) (λ r. not (blocks class (span_of s len) r) || yields priority m r) (λ r. way_row class (span_of s len) priority m r (is_booked r) r.interval refl) now)
-
-  -- the starts that are free beside what is gathered
-  pub tiers_over : (class : Class) (len : ℕ) (priority : ℤ) (w : Range) (m : ℕ) (list : List Booking) → list ≡ booked gathered_now [] → free_among class len priority w m list ≡ free_tiers class len priority w m now
-  tiers_over class len priority w m list is =
-      ap (free_among class len priority w m) is
-      ∙ ap₂ (λ a b. record { first = a; second = b })
-      (tier_same (is_free class len (booked gathered_now [])) (is_free_row class len now) w (free_at class len))
-      (tier_same (is_freeable class len priority m (booked gathered_now [])) (is_freeable_row class len priority m now) w (freeable_at class len priority m))
 
   -- ---- each can be taken in
   -- a row of now reserves this
@@ -400,8 +383,95 @@ module _ (now touched : List RunRow) (gone : List RunKey) (book : List RunRow) (
   none_apart [] = tt
   none_apart (b ∷ bs) = (tt, none_apart bs)
 
-  pub takes_gathered : NoClash now → (list : List Booking) → list ≡ gathered_now → Takes list []
-  takes_gathered none list is =
-      let current = both_all Current (bare_bookings touched gone (bookings_of book)) (bookings_of touched) (bare_current book (each_found book below_up)) (touched_current touched (each_found touched above_up)) in
-      let others = joined_others (bare_bookings touched gone (bookings_of book)) (bookings_of touched) (filter_others (λ b. not (hides touched gone b.key)) (bookings_of book) (rows_others book below_up)) (rows_others touched above_up) (cross (bookings_of book)) in
-      subst (λ l. Takes l []) (sym is) (takes none gathered_now [] current tt others (none_apart gathered_now))
+  -- ---- what is near decides
+  near_yes : (a : Bool) → (a && true) ≡ a
+  near_yes true = refl
+  near_yes false = refl
+
+  near_no : (a : Bool) → (a && false) ≡ false
+  near_no true = refl
+  near_no false = refl
+
+  near_twice : (g n : Booking → Bool) (xs : List Booking) → filter (λ b. n b && g b) xs ≡ filter n (filter g xs)
+  near_twice g n [] = refl
+  near_twice g n (x ∷ xs) = elim (g x) as (λ b. cond (n x && b) (x ∷ filter (λ y. n y && g y) xs) (filter (λ y. n y && g y) xs) ≡ filter n (cond b (x ∷ filter g xs) (filter g xs))) [
+    | true ↦ ap₂ (λ t l. cond t (x ∷ l) l) (near_yes (n x)) (near_twice g n xs)
+    | false ↦ ap (λ t. cond t (x ∷ filter (λ y. n y && g y) xs) (filter (λ y. n y && g y) xs)) (near_no (n x)) ∙ near_twice g n xs
+  ]
+
+  near_all : (q g n : Booking → Bool) → ((b : Booking) → n b ≡ false → q b ≡ true) → (xs : List Booking) → list_all q (filter (λ b. n b && g b) xs) ≡ list_all q (filter g xs)
+  near_all q g n far [] = refl
+  near_all q g n far (x ∷ xs) = go (g x) (n x) refl (near_all q g n far xs)
+    where
+      go : (a b : Bool) → n x ≡ b → list_all q (filter (λ y. n y && g y) xs) ≡ list_all q (filter g xs) → list_all q (cond (b && a) (x ∷ filter (λ y. n y && g y) xs) (filter (λ y. n y && g y) xs)) ≡ list_all q (cond a (x ∷ filter g xs) (filter g xs))
+      go false true e later = later
+      go false false e later = later
+      go true true e later = ap (λ c. q x && c) later
+      go true false e later = later ∙ sym (ap (λ c. c && list_all q (filter g xs)) (far x e))
+
+  module _ (class : Class) (reach : Option Span) where
+    abbrev near_now : List Booking
+    near_now = near_gathered class reach touched gone (bookings_of book)
+
+    abbrev bare : Booking → Bool
+    bare b = not (hides touched gone b.key)
+
+    near_is : near_bookings class reach touched gone (bookings_of book) ≡ filter (is_near class reach) (bare_bookings touched gone (bookings_of book))
+    near_is = near_twice bare (is_near class reach) (bookings_of book)
+
+    -- it can be taken in
+    pub takes_near : NoClash now → (list : List Booking) → list ≡ near_now → Takes list []
+    takes_near none list is =
+        let all : List Booking = bare_bookings touched gone (bookings_of book) in
+        let near : List Booking = filter (is_near class reach) all in
+        let own : near_now ≡ near ++ bookings_of touched = ap (λ l. l ++ bookings_of touched) near_is in
+        let current = both_all Current near (bookings_of touched) (filter_all Current (is_near class reach) all (bare_current book (each_found book below_up))) (touched_current touched (each_found touched above_up)) in
+        let others = joined_others near (bookings_of touched) (filter_others (is_near class reach) all (filter_others bare (bookings_of book) (rows_others book below_up))) (rows_others touched above_up)
+        (filter_all (λ x. AllByRecursion (λ c. Other c x) (bookings_of touched)) (is_near class reach) all (cross (bookings_of book))) in
+        subst (λ l. Takes l []) (sym (is ∙ own)) (takes none (near ++ bookings_of touched) [] current tt others (none_apart (near ++ bookings_of touched)))
+
+    -- what lets all through that isn't near is decided by it
+    near_decides : (q : Booking → Bool) → ((b : Booking) → is_near class reach b ≡ false → q b ≡ true) → list_all q (booked near_now []) ≡ list_all q (bookings_of now)
+    near_decides q far =
+        all_booked q near_now []
+        ∙ (and_true q (list_all q near_now)
+        ∙ (all_joined q (near_bookings class reach touched gone (bookings_of book)) (bookings_of touched)
+        ∙ (ap (λ a. a && list_all q (bookings_of touched)) (near_all q bare (is_near class reach) far (bookings_of book))
+        ∙ (sym (all_joined q (bare_bookings touched gone (bookings_of book)) (bookings_of touched))
+        ∙ (sym (and_true q (list_all q gathered_now))
+        ∙ (sym (all_booked q gathered_now []) ∙ all_gathered q))))))
+
+  -- ---- the starts that are free beside it
+  in_reach : (s len first last start end : ℕ) → first ≤ s → s < last + 1 → (nat_lt first end && nat_lt start (last + len + 1)) ≡ false → (nat_lt s end && nat_lt start (s + len)) ≡ false
+  in_reach s len first last start end low high far = grind (arith, nat_tests)
+
+  no_clash_far : (a b c : Bool) → (a && b) ≡ false → (b ≡ false → c ≡ false) → (a && c) ≡ false
+  no_clash_far true b c e far = far e
+  no_clash_far false b c e far = refl
+
+  far_away : (class : Class) (len : ℕ) (w : Range) (reach : Option Span) → IfSome reach (λ i. i ≡ reach_of len w) → (s : ℕ) → w.first ≤ s → s < w.last + 1 → (b : Booking) → is_near class reach b ≡ false → conflicts_with class (span_of s len) b ≡ false
+  far_away class len w None is s low high b far = cc
+  far_away class len w (Some i) is s low high b far =
+      no_clash_far (conflicting_classes class b.class) (overlap (reach_of len w) b.interval) (overlap (span_of s len) b.interval) (ap (λ j. conflicts_with class j b) (sym is) ∙ far)
+      (in_reach s len w.first w.last b.interval.start b.interval.end low high)
+
+  starts_alike : (f g : ℕ → Bool) (n a : ℕ) → ((s : ℕ) → a ≤ s → s < a + n → f s ≡ g s) → filter f (range_with_len a n) ≡ filter g (range_with_len a n)
+  starts_alike f g zero a same = refl
+  starts_alike f g (suc n) a same =
+      let rest = starts_alike f g n (a + 1) (λ s le lt. same s (omega arith) (omega arith)) in
+      ap₂ (λ b l. cond b (a ∷ l) l) (same a (omega arith) (omega arith)) rest
+
+  tier_within : (f g : ℕ → Bool) (w : Range) → ((s : ℕ) → w.first ≤ s → s < w.last + 1 → f s ≡ g s) → tier_of f w ≡ tier_of g w
+  tier_within f g w same = ap (λ starts. take most_intervals (gathered_starts starts)) (starts_alike f g (w.last + 1 - w.first) w.first (λ s le lt. same s le (omega arith)))
+
+  pub tiers_near : (class : Class) (reach : Option Span) (len : ℕ) (priority : ℤ) (w : Range) (m : ℕ) → IfSome reach (λ i. i ≡ reach_of len w) → (list : List Booking) → list ≡ booked (near_gathered class reach touched gone (bookings_of book)) []
+      → free_among class len priority w m list ≡ free_tiers class len priority w m now
+  tiers_near class reach len priority w m covers list is =
+      ap (free_among class len priority w m) is
+      ∙ ap₂ (λ a b. record { first = a; second = b })
+      (tier_within (is_free class len (booked (near_now class reach) [])) (is_free_row class len now) w (λ s low high.
+      near_decides class reach (λ b. not (conflicts_with class (span_of s len) b)) (λ b far. ap not (far_away class len w reach covers s low high b far))
+      ∙ (sym (all_gathered (λ b. not (conflicts_with class (span_of s len) b))) ∙ free_at class len s)))
+      (tier_within (is_freeable class len priority m (booked (near_now class reach) [])) (is_freeable_row class len priority m now) w (λ s low high.
+      near_decides class reach (λ b. not (conflicts_with class (span_of s len) b) || can_preempt priority m b) (λ b far. ap (λ t. not t || can_preempt priority m b) (far_away class len w reach covers s low high b far))
+      ∙ (sym (all_gathered (λ b. not (conflicts_with class (span_of s len) b) || can_preempt priority m b)) ∙ freeable_at class len priority m s)))

@@ -1,5 +1,12 @@
+pub mod CountLemmas
 pub mod DraftLemmas
 pub mod FreeLemmas
+pub mod HostingLemmas
+pub mod KindLemmas
+pub mod LiveLemmas
+pub mod MakeLemmas
 pub mod OverLemmas
 pub mod PickLemmas
+pub mod PlanLemmas
 pub mod ReadLemmas
+pub mod WayLemmas

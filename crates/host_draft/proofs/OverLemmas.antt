@@ -1,6 +1,5 @@
 -- Which row a key finds: one that lies over the book's, or the book's.
-use Rattle.std.proofs.Common.{◌≡◌, ◌<◌, All, ℕ, Bool, true, false, cond, not, ◌++◌, ◌&&◌, ◌||◌, List, [], ◌∷◌, Option, Some, None, option_map, is_some, refl, ap, ap₂, sym, subst, ◌∙◌}
-use Rattle.std.specs.List.{AllByRecursion, list_any}
+use Rattle.std.proofs.Common.{◌≡◌, ℕ, Bool, true, false, cond, filter, ◌++◌, ◌||◌, List, [], ◌∷◌, Option, Some, None, option_map, is_some, refl, ap, ap₂, sym, subst, ◌∙◌}
 use Rattle.std.specs.Ordering.{is_eq, ordering_reverse}
 use Rattle.std.specs.declared.cmp.Ordering.{Ordering}
 use Rattle.std.specs.declared.cmp.Ordering.TheVariants.{Less, Equal, Greater}
@@ -9,15 +8,16 @@ use Rattle.ps_time.specs.declared.key.RunKey.{RunKey}
 use Rattle.ps_time.proofs.KeyLemmas.{key_cmp_total}
 use Rattle.run_states.specs.declared.row.RunRow.{RunRow}
 use Rattle.run_states.specs.declared.why.Closing.{Closing}
-use Rattle.run_states.specs.Life.{first, closed_by, lapse_of, settled_row, settled_rows}
-use Rattle.run_states.specs.Rows.{find_row, put_row, lift_row, change_row, IsAscendingRows}
-use Rattle.run_states.proofs.Place.{above_none, find_lifted, key_is}
+use Rattle.run_states.specs.Life.{first, closed_by, lapse_of, settled_row}
+use Rattle.run_states.specs.Rows.{find_row, put_row, lift_row, change_row}
+use Rattle.run_states.proofs.Place.{find_lifted, key_is}
 use Rattle.host_book.specs.Reservations.{lapses}
 use Rattle.host_model.specs.Apply.{put_new}
+use Rattle.host_model.specs.Book.{keys_of_rows}
 use Rattle.host_model.proofs.Keyed
 use Rattle.host_model.proofs.Placed.{find_row-key, lift_from, lift_keeps}
 use Rattle.host_model.proofs.Standing.{find_row-map}
-use Rattle.host_draft.specs.Overlay.{below, lapsed_over, named, over}
+use Rattle.host_draft.specs.Overlay.{below, lapsed_copy, lapsed_over, named, over}
 
 -- ---- first ----
 pub first_none : {A : Type 0} (o : Option A) → first o None ≡ o
@@ -74,38 +74,6 @@ settled_key m r = closed_key (lapse_of m r) r
 
 pub new_settled : (m : ℕ) (r : RunRow) (ts : List RunRow) → find_row ts r.key ≡ None → put_new (Some (settled_row m r)) ts ≡ put_row ts (settled_row m r)
 new_settled m r ts none = ap (λ o. cond (is_some o) ts (put_row ts (settled_row m r))) (ap (find_row ts) (settled_key m r) ∙ none)
-
-abbrev lapsed_copy : ℕ → Option RunRow → Option RunRow
-lapsed_copy m None = None
-lapsed_copy m (Some r) = cond (lapses m r) (Some (settled_row m r)) None
-
-found_lapsed : (m : ℕ) (rows : List RunRow) → IsAscendingRows rows → (ts : List RunRow) (k : RunKey) → find_row (lapsed_over m ts rows) k ≡ first (find_row ts k) (lapsed_copy m (find_row rows k))
-found_lapsed m [] up ts k = sym (first_none (find_row ts k))
-found_lapsed m (r ∷ rs) up ts k =
-    found_lapsed m rs up.1 (cond (lapses m r) (put_new (Some (settled_row m r)) ts) ts) k ∙ go (lapses m r) refl (is_eq (key_cmp r.key k)) refl
-  where
-    go : (l : Bool) → lapses m r ≡ l → (b : Bool) → is_eq (key_cmp r.key k) ≡ b
-        → first (find_row (cond l (put_new (Some (settled_row m r)) ts) ts) k) (lapsed_copy m (find_row rs k)) ≡ first (find_row ts k) (lapsed_copy m (cond b (Some r) (find_row rs k)))
-    go false e false h = refl
-    go false e true h =
-        ap (λ o. first (find_row ts k) (lapsed_copy m o)) (above_none r.key rs up.0 k (sym (key_is r.key k h)))
-        ∙ sym (ap (λ x. first (find_row ts k) (cond x (Some (settled_row m r)) None)) e)
-    go true e b h =
-        ap (λ o. first o (lapsed_copy m (find_row rs k))) (found_new (settled_row m r) ts k ∙ ap (λ x. first (find_row ts k) (cond x (Some (settled_row m r)) None)) (ap (λ j. is_eq (key_cmp j k)) (settled_key m r) ∙ h))
-        ∙ (first_assoc (find_row ts k) (cond b (Some (settled_row m r)) None) (lapsed_copy m (find_row rs k)) ∙ last b)
-      where
-        last : (b : Bool) → first (find_row ts k) (first (cond b (Some (settled_row m r)) None) (lapsed_copy m (find_row rs k))) ≡ first (find_row ts k) (lapsed_copy m (cond b (Some r) (find_row rs k)))
-        last true = sym (ap (λ x. first (find_row ts k) (cond x (Some (settled_row m r)) None)) e)
-        last false = refl
-
--- as the book settles
-pub found_opened : (m : ℕ) (rows : List RunRow) → IsAscendingRows rows → (k : RunKey) → find_row (settled_rows m rows) k ≡ over (lapsed_over m [] rows) [] rows k
-found_opened m rows up k =
-    find_row-map (settled_row m) (settled_key m) rows k ∙ (copy (find_row rows k) ∙ sym (ap (λ o. first o (find_row rows k)) (found_lapsed m rows up [] k)))
-  where
-    copy : (o : Option RunRow) → option_map (settled_row m) o ≡ first (lapsed_copy m o) o
-    copy None = refl
-    copy (Some r) = elim (lapse_of m r) as (λ o. Some (closed_by o r) ≡ first (cond (is_some o) (Some (closed_by o r)) None) (Some r)) [ None ↦ refl | Some c ↦ refl ]
 
 -- ---- copies of rows that lie below ----
 same_either : {A : Type 0} (b : Bool) (x : A) → cond b x x ≡ x
@@ -177,6 +145,64 @@ module _ (under : RunKey → Option RunRow) (own : (k : RunKey) (r : RunRow) →
             ∙ (other (first (find_row ts k) (under k))
             ∙ sym (ap₂ (λ b x. first (option_map (λ r. cond b (f r) r) (first (find_row ts k) (cond x (under j) None))) (under k)) e turn
             ∙ (ap (λ o. first o (under k)) (other (first (find_row ts k) None)) ∙ ap (λ o. first o (under k)) (first_none (find_row ts k)))))
+
+-- ---- lapsed rows of some keys
+module _ (m : ℕ) (book : List RunRow) where
+  abbrev lapsed_at : RunKey → Option RunRow
+  lapsed_at k = lapsed_copy m (find_row book k)
+
+  lapsed_own : (k : RunKey) (r : RunRow) → lapsed_at k ≡ Some r → r.key ≡ k
+  lapsed_own k r e = go (find_row book k) refl e
+    where
+      one : (x : RunRow) → find_row book k ≡ Some x → (b : Bool) → cond b (Some (settled_row m x)) None ≡ Some r → r.key ≡ k
+      one x at true is = let same : settled_row m x ≡ r = cc in ap (λ y. y.key) (sym same) ∙ (settled_key m x ∙ find_row-key book k x at)
+      one x at false is = cc
+
+      go : (o : Option RunRow) → find_row book k ≡ o → lapsed_copy m o ≡ Some r → r.key ≡ k
+      go None at is = cc
+      go (Some x) at is = one x at (lapses m x) is
+
+  one_of : (j k : RunKey) (n : Bool) (b : Bool) → is_eq (key_cmp j k) ≡ b → first (cond b (lapsed_at j) None) (cond n (lapsed_at k) None) ≡ cond (b || n) (lapsed_at k) None
+  one_of j k n false e = refl
+  one_of j k n true e = ap (λ i. first (lapsed_at i) (cond n (lapsed_at k) None)) (key_is j k e) ∙ twice (lapsed_at k) n
+    where
+      twice : (o : Option RunRow) (n : Bool) → first o (cond n o None) ≡ o
+      twice (Some r) n = refl
+      twice None true = refl
+      twice None false = refl
+
+  pub found_lapsed : (ks : List RunKey) (ts : List RunRow) (k : RunKey) → find_row (lapsed_over m book ks ts) k ≡ first (find_row ts k) (cond (named k ks) (lapsed_at k) None)
+  found_lapsed [] ts k = sym (first_none (find_row ts k))
+  found_lapsed (j ∷ js) ts k =
+      found_lapsed js (put_new (lapsed_at j) ts) k
+      ∙ (ap (λ o. first o (cond (named k js) (lapsed_at k) None)) (new_at lapsed_at lapsed_own ts j k)
+      ∙ (first_assoc (find_row ts k) (cond (is_eq (key_cmp j k)) (lapsed_at j) None) (cond (named k js) (lapsed_at k) None)
+      ∙ ap (first (find_row ts k)) (one_of j k (named k js) (is_eq (key_cmp j k)) refl)))
+
+-- ---- keys of rows that pass a test
+-- the key of a row that is found and passes is among them
+pub named_passing : (p : RunRow → Bool) (rows : List RunRow) (j : RunKey) (r : RunRow) → find_row rows j ≡ Some r → p r ≡ true → named j (keys_of_rows (filter p rows)) ≡ true
+named_passing p [] j r at is = cc
+named_passing p (x ∷ xs) j r at is = go (is_eq (key_cmp x.key j)) refl at (named_passing p xs j r)
+  where
+    rest : List RunKey
+    rest = keys_of_rows (filter p xs)
+
+    here : (b : Bool) → is_eq (key_cmp x.key j) ≡ true → b ≡ true → named j (keys_of_rows (cond b (x ∷ filter p xs) (filter p xs))) ≡ true
+    here true same on = ap (λ t. t || named j (keys_of_rows (filter p xs))) same
+    here false same on = cc
+
+    later : (b : Bool) → named j (keys_of_rows (filter p xs)) ≡ true → named j (keys_of_rows (cond b (x ∷ filter p xs) (filter p xs))) ≡ true
+    later true on = either (is_eq (key_cmp x.key j)) on
+      where
+        either : (t : Bool) → named j (keys_of_rows (filter p xs)) ≡ true → (t || named j (keys_of_rows (filter p xs))) ≡ true
+        either true on = refl
+        either false on = on
+    later false on = on
+
+    go : (b : Bool) → is_eq (key_cmp x.key j) ≡ b → cond b (Some x) (find_row xs j) ≡ Some r → (find_row xs j ≡ Some r → p r ≡ true → named j (keys_of_rows (filter p xs)) ≡ true) → named j (keys_of_rows (filter p (x ∷ xs))) ≡ true
+    go true same at ih = let own : r ≡ x = cc in here (p x) same (subst (λ y. p y ≡ true) own is)
+    go false same at ih = later (p x) (ih at is)
 
 -- what lies below has its key
 pub below_own : (gone : List RunKey) (book : List RunRow) (k : RunKey) (r : RunRow) → below gone book k ≡ Some r → r.key ≡ k

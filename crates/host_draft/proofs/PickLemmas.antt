@@ -343,7 +343,7 @@ key_passing p t (r ∷ rs) = go (p r) (key_passing p t rs)
     go true later = one (t r.key) later
     go false later = later
 
-find_passing : (p t : RunRow → Bool) (rows : List RunRow) → find t (filter p rows) ≡ find (λ r. p r && t r) rows
+pub find_passing : (p t : RunRow → Bool) (rows : List RunRow) → find t (filter p rows) ≡ find (λ r. p r && t r) rows
 find_passing p t [] = refl
 find_passing p t (r ∷ rs) = elim (p r) as (λ b. find t (cond b (r ∷ filter p rs) (filter p rs)) ≡ cond (b && t r) (Some r) (find (λ x. p x && t x) rs)) [
   | true ↦ ap (cond (t r) (Some r)) (find_passing p t rs)
@@ -389,7 +389,7 @@ module _ (class : Class) (i : Span) (r : RunRow) where
   against_at true (Some s) e f = (refl, sym (ap₂ (λ b x. b && clashes class i (test_class r.test) x) e f))
 
   -- the row is in the way of a run exactly where what it reserves is
-  against : Agrees (blocks class i) (conflicts_with class i) r (booking_of r)
+  pub against : Agrees (blocks class i) (conflicts_with class i) r (booking_of r)
   against = against_at (is_booked r) r.interval refl refl
 
 module _ (p : RunRow → Bool) (q : Booking → Bool) (each : (r : RunRow) → Agrees p q r (booking_of r)) where
@@ -401,7 +401,7 @@ module _ (p : RunRow → Bool) (q : Booking → Bool) (each : (r : RunRow) → A
   kept_one r rs (Some b) false same is later = ap (λ t. keys_of (cond t (b ∷ filter q (bookings_of rs)) (filter q (bookings_of rs)))) (same.1 ∙ is) ∙ later
 
   -- the same keys pass
-  kept_keys : (rows : List RunRow) → keys_of (filter q (bookings_of rows)) ≡ keys_of_rows (filter p rows)
+  pub kept_keys : (rows : List RunRow) → keys_of (filter q (bookings_of rows)) ≡ keys_of_rows (filter p rows)
   kept_keys [] = refl
   kept_keys (r ∷ rs) = kept_one r rs (booking_of r) (p r) (each r) refl (kept_keys rs)
 

@@ -1,10 +1,8 @@
 -- What is read of a draft is what its rows say.
 use Rattle.std.specs.Prelude.{IfSome, find}
 use Rattle.std.specs.List.{last_or, list_any}
-use Rattle.std.specs.Ordering.{is_lt}
-use Rattle.std.proofs.Common.{◌≡◌, ◌≤◌, ◌&&◌, ◌||◌, ℕ, ℤ, Bool, true, false, cond, not, List, [], ◌∷◌, filter, Option, Some, None, option_map, is_some, refl, ap, ap₂, sym, subst, ◌∙◌}
-use Rattle.ps_time.specs.Key.{key_cmp}
-use Rattle.ps_time.specs.Span.{Range}
+use Rattle.std.proofs.Common.{◌≡◌, ◌&&◌, ◌||◌, ℕ, ℤ, Bool, true, false, cond, not, List, [], ◌∷◌, filter, Option, Some, None, option_map, is_some, refl, ap, ap₂, sym, ◌∙◌}
+use Rattle.ps_time.specs.Span.{Range, Span}
 use Rattle.ps_time.specs.declared.class.Class.{Class}
 use Rattle.ps_time.specs.declared.key.RunKey.{RunKey}
 use Rattle.run_states.specs.Life.{HasMoments}
@@ -21,9 +19,9 @@ use Rattle.host_model.specs.Lawful.{Lawful}
 use Rattle.host_model.proofs.RowLemmas.{found_of_all}
 use Rattle.host_book.proofs.MomentLemmas.{book_moments}
 use Rattle.host_draft.specs.Draft.{IsDraft}
-use Rattle.host_draft.specs.Overlay.{Takes, booked, gathered, hides, later, meets, meets_below}
+use Rattle.host_draft.specs.Overlay.{Takes, booked, hides, later, meets, meets_below, near_gathered, reach_of}
 use Rattle.host_draft.specs.declared.overlay.Sought.{Sought}
-use Rattle.host_draft.proofs.FreeLemmas.{takes_gathered, tiers_over}
+use Rattle.host_draft.proofs.FreeLemmas.{takes_near, tiers_near}
 use Rattle.host_draft.proofs.PickLemmas.{earlier, find_over, greater_order, is_greater, is_less, last_over, less_order, sought_over}
 
 -- the later row is the one that comes first among descending keys
@@ -64,14 +62,15 @@ module _ (number m : ℕ) (began now : Book) (touched : List RunRow) (gone : Lis
       ∙ sym (last_over now.rows touched gone began.rows sound.lawful.ascending up lawful.ascending sound.found (is_of_task lead serial)))
 
   -- what is gathered can be taken in
-  pub read_takes : (bookings list : List Booking) → bookings ≡ bookings_of began.rows → list ≡ gathered touched gone bookings → Takes list []
-  read_takes bookings list index is =
-      takes_gathered now.rows touched gone began.rows sound.lawful.ascending up lawful.ascending sound.found sound.lawful.no_clash list (is ∙ ap (gathered touched gone) index)
+  pub read_takes : (class : Class) (reach : Option Span) (bookings list : List Booking) → bookings ≡ bookings_of began.rows → list ≡ near_gathered class reach touched gone bookings → Takes list []
+  read_takes class reach bookings list index is =
+      takes_near now.rows touched gone began.rows sound.lawful.ascending up lawful.ascending sound.found class reach sound.lawful.no_clash list (is ∙ ap (near_gathered class reach touched gone) index)
 
-  pub read_tiers : (class : Class) (len : ℕ) (priority : ℤ) (w : Range) (bookings list made : List Booking) → bookings ≡ bookings_of began.rows → list ≡ gathered touched gone bookings → made ≡ booked list []
+  pub read_tiers : (class : Class) (reach : Option Span) (len : ℕ) (priority : ℤ) (w : Range) → IfSome reach (λ i. i ≡ reach_of len w)
+      → (bookings list made : List Booking) → bookings ≡ bookings_of began.rows → list ≡ near_gathered class reach touched gone bookings → made ≡ booked list []
       → free_among class len priority w m made ≡ free_tiers class len priority w now.moment now.rows
-  read_tiers class len priority w bookings list made index is made_is =
-      tiers_over now.rows touched gone began.rows sound.lawful.ascending up lawful.ascending sound.found class len priority w m made (made_is ∙ ap (λ l. booked l []) (is ∙ ap (gathered touched gone) index))
+  read_tiers class reach len priority w covers bookings list made index is made_is =
+      tiers_near now.rows touched gone began.rows sound.lawful.ascending up lawful.ascending sound.found class reach len priority w m covers made (made_is ∙ ap (λ l. booked l []) (is ∙ ap (near_gathered class reach touched gone) index))
       ∙ ap (λ n. free_tiers class len priority w n now.rows) (sym sound.at)
 
   -- some row passes

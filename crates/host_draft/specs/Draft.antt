@@ -47,6 +47,9 @@ pub record IsDraft (number m : ℕ) (began now : Book) (touched : List RunRow) (
   pub lawful : Lawful number now
   -- the row of each key
   pub found : (k : RunKey) → find_row now.rows k ≡ over touched gone began.rows k
+  -- no change that is read on touches these
+  pub tasks : now.tasks ≡ began.tasks
+  pub epochs : now.epochs ≡ began.epochs
   pub epoch : latest ≡ length now.epochs
   pub count : many ≡ length now.rows
   pub bytes : kept ≡ result_bytes now.rows

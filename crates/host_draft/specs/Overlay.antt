@@ -1,8 +1,10 @@
 -- Rows that lie over those of a book: copies of the ones that lapsed or were changed, and keys of the ones that went.
-use Rattle.std.specs.Prelude.{◌≡◌, ◌++◌, filter, ◌&&◌, ◌||◌, Bool, List, None, Option, Some, [], ◌∷◌, if◌then◌else◌, is_some, not, true, ℕ, ℤ}
+use Rattle.std.specs.Prelude.{◌≡◌, ◌+◌, ◌++◌, filter, ◌&&◌, ◌||◌, Bool, List, None, Option, Some, [], ◌∷◌, if◌then◌else◌, is_some, not, true, ℕ, ℤ}
 use Rattle.std.specs.List.{list_any}
 use Rattle.std.specs.Ordering.{is_eq, is_lt}
 use Rattle.ps_time.specs.Key.{key_cmp}
+use Rattle.ps_time.specs.Span.{Range, Span}
+use Rattle.ps_time.specs.declared.class.Class.{Class}
 use Rattle.ps_time.specs.declared.key.RunKey.{RunKey}
 use Rattle.run_states.specs.Conflict.{in_conflict}
 use Rattle.run_states.specs.Life.{first, settled_row}
@@ -11,7 +13,7 @@ use Rattle.run_states.specs.Rows.{find_row}
 use Rattle.run_states.specs.declared.row.RunRow.{RunRow}
 use Rattle.host_book.specs.Reservations.{lapses}
 use Rattle.host_model.specs.Apply.{put_new}
-use Rattle.host_timeline.specs.Booking.{conflicting, is_after}
+use Rattle.host_timeline.specs.Booking.{conflicting, conflicts_with, is_after}
 use Rattle.host_timeline.specs.Timeline.{find_booking, with_booking}
 use Rattle.host_timeline.specs.declared.booking.Booking.{Booking}
 use Rattle.part_core.specs.Reservations.{bookings_of}
@@ -33,10 +35,15 @@ over touched gone book k = first (find_row touched k) (below gone book k)
 abbrev pub hides : List RunRow → List RunKey → RunKey → Bool
 hides touched gone k = is_some (find_row touched k) || named k gone
 
--- copies of the rows that lapse by m, closed, beside those that are there
-abbrev pub lapsed_over : ℕ → List RunRow → List RunRow → List RunRow
-lapsed_over m touched [] = touched
-lapsed_over m touched (r ∷ rs) = lapsed_over m (if lapses m r then put_new (Some (settled_row m r)) touched else touched) rs
+-- the copy, closed, of a row that lapses by m
+abbrev pub lapsed_copy : ℕ → Option RunRow → Option RunRow
+lapsed_copy m None = None
+lapsed_copy m (Some r) = if lapses m r then Some (settled_row m r) else None
+
+-- those of the book's rows of these keys, beside the copies that are there
+abbrev pub lapsed_over : ℕ → List RunRow → List RunKey → List RunRow → List RunRow
+lapsed_over m book [] touched = touched
+lapsed_over m book (k ∷ ks) touched = lapsed_over m book ks (put_new (lapsed_copy m (find_row book k)) touched)
 
 -- ---- which row is asked for
 -- the row stands firm against a run of this priority, if there is one
@@ -81,3 +88,21 @@ Takes (b ∷ bs) taken = (find_booking taken b.key ≡ None) × (conflicting b.c
 -- what the rows of now reserve, in some order
 abbrev pub gathered : List RunRow → List RunKey → List Booking → List Booking
 gathered touched gone bookings = bare_bookings touched gone bookings ++ bookings_of touched
+
+-- ---- what is near of that
+-- the seconds that runs of this length take which start in the window
+abbrev pub reach_of : ℕ → Range → Span
+reach_of len w = record { start = w.first; end = w.last + len + 1 }
+
+-- the booking may be in the way of a run of this class within the interval, if there is one
+abbrev pub is_near : Class → Option Span → Booking → Bool
+is_near class None b = true
+is_near class (Some i) b = conflicts_with class i b
+
+-- the book's reservations of rows that are as they were, where these are near
+abbrev pub near_bookings : Class → Option Span → List RunRow → List RunKey → List Booking → List Booking
+near_bookings class reach touched gone bookings = filter (λ b. is_near class reach b && not (hides touched gone b.key)) bookings
+
+-- those, and what the copies reserve
+abbrev pub near_gathered : Class → Option Span → List RunRow → List RunKey → List Booking → List Booking
+near_gathered class reach touched gone bookings = near_bookings class reach touched gone bookings ++ bookings_of touched

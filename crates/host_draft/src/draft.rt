@@ -2,11 +2,14 @@
 ghost use Rattle.std.specs.Prelude.{◌≡◌, ◌≤◌, [], IfOk};
 ghost use Rattle.ps_time.specs.declared.moment.TheConstants.{MAX_MOMENT};
 ghost use Rattle.limit_apply.specs.Limits.{Config as LimitsSeen};
-ghost use Rattle.host_draft.specs.Draft.{opened};
+ghost use Rattle.live_rows.specs.Still.{live_keys};
+ghost use Rattle.host_draft.specs.Draft.{is_full, opened};
 
+use crate::log::Log;
 use crate::overlay::lapsed;
 use host_book::book::HostBook;
 use host_model::change::Change;
+use host_model::task_row::TaskRow;
 use limit_apply::limits::Limits;
 use ps_time::items::Items;
 use ps_time::key::RunKey;
@@ -39,11 +42,7 @@ pub struct Draft<'a> {
     pub(crate) count: usize,
     // of the results that the rows keep now
     pub(crate) bytes: u64,
-    pub(crate) changes: Items<Change>,
-    // for how many more changes there is place
-    pub(crate) places: usize,
-    // and how many bytes they may take
-    pub(crate) left: u64,
+    pub(crate) log: Log,
 }
 
 impl<'a> Model for Draft<'a> {
@@ -54,15 +53,16 @@ impl<'a> Model for Draft<'a> {
     ghost view = { λ d. record {
       number = d.book.now.number;
       limits = d.limits.now;
-      draft = record { book = book_now d.moment d.changes d.book.now.book; changes = d.changes; places = d.places; left = d.left };
+      draft = record { book = book_now d.moment d.log.changes d.book.now.book; changes = d.log.changes; places = d.log.places; left = d.log.left };
     } };
 
-    ghost invariant = { λ d. IsDraft d.book.now.number d.moment d.book.now.book (book_now d.moment d.changes d.book.now.book) d.touched.list d.gone.items d.epoch d.count d.bytes d.left };
+    ghost invariant = { λ d. IsDraft d.book.now.number d.moment d.book.now.book (book_now d.moment d.log.changes d.book.now.book) d.touched.list d.gone.items d.epoch d.count d.bytes d.log.left };
 }
 
 impl<'a> Draft<'a> {
     /// Of the book as it settles at the moment, in seconds since 1970 UTC, without changes; `first` are the limits of
-    /// the configuration, which hold where none were set. Copies the rows that have lapsed by then, and no others.
+    /// the configuration, which hold where none were set. Looks at the live rows alone, and copies those of them that have
+    /// lapsed by then.
     pub fn new(
         alloc: Global,
         book: &'a HostBook,
@@ -80,7 +80,7 @@ impl<'a> Draft<'a> {
         if u64::MAX - MOST_CHANGE_BYTES < bytes {
             return Err(Memory);
         }
-        let touched = lapsed(alloc, book.rows().list(), moment)?;
+        let touched = lapsed(alloc, book.live(), book.rows(), moment)?;
         Ok(Draft {
             book,
             moment,
@@ -90,9 +90,42 @@ impl<'a> Draft<'a> {
             gone: Vec::new(alloc),
             count: book.rows().list().len(),
             bytes,
-            changes: Items::new(alloc),
-            places: MOST_CHANGES,
-            left: MOST_CHANGE_BYTES,
+            log: Log::new(alloc, MOST_CHANGES, MOST_CHANGE_BYTES),
         })
+    }
+
+    /// The changes so far, in order.
+    pub fn changes(&self) -> &[Change]
+        ensures { result.now ≡ self.now.draft.changes }
+    {
+        self.log.changes()
+    }
+
+    /// Takes the changes out.
+    pub fn into_changes(self) -> Items<Change>
+        ensures { result ≡ self.entry.draft.changes }
+    {
+        self.log.into_changes()
+    }
+
+    /// Whether the step makes no more changes.
+    pub fn is_full(&self) -> bool
+        ensures { result ≡ is_full self.now.draft }
+    {
+        self.log.is_full()
+    }
+
+    /// The tasks, with the serials 1, 2, 3 and so on; they stay as they are while the draft changes.
+    pub fn tasks(&self) -> &'a [TaskRow]
+        ensures { result.now ≡ self.now.draft.book.tasks }
+    {
+        self.book.tasks()
+    }
+
+    /// The limits that were set, numbered from 1; they stay as they are while the draft changes.
+    pub fn epochs(&self) -> &'a [Limits]
+        ensures { result.now ≡ self.now.draft.book.epochs }
+    {
+        self.book.epochs()
     }
 }

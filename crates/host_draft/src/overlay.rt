@@ -10,11 +10,14 @@ ghost use Rattle.run_states.specs.Preemption.{starts_after, yields};
 ghost use Rattle.run_states.specs.Rows.{find_row, IsAscendingRows};
 ghost use Rattle.host_model.specs.Apply.{put_new};
 ghost use Rattle.host_timeline.specs.Booking.{conflicting_after, is_after, keys_of, lesser_of};
-ghost use Rattle.host_draft.specs.Overlay.{hard_below, below, hides, is_hard, lapsed_over, later, meets, meets_below, named, over};
+ghost use Rattle.row_ledger.specs.Ledger.{is_live_at};
+ghost use Rattle.host_draft.specs.Overlay.{hard_below, below, hides, is_hard, lapsed_copy, lapsed_over, later, meets, meets_below, named, over};
 
 use host_timeline::timeline::Timeline;
+use live_rows::still::is_still;
 use ps_time::class::Class;
 use ps_time::interval::Interval;
+use ps_time::items::Items;
 use ps_time::key::RunKey;
 use ps_time::memory::Memory;
 use ps_time::moment::{Moment, ON_DECK};
@@ -33,18 +36,40 @@ pub(crate) struct Sought {
     pub(crate) priority: Option<i16>,
 }
 
-/// Copies of the rows that lapse by the moment, closed.
-pub(crate) fn lapsed(alloc: Global, rows: &[RunRow], moment: Moment) -> Result<Rows, Memory>
-    requires { All HasMoments rows.now }
-    ensures { IfOk result (λ made. made.list ≡ lapsed_over moment [] rows.now) }
+/// Copies of those of the book's rows of these keys that lapse by the moment, closed.
+pub(crate) fn lapsed(
+    alloc: Global,
+    keys: &[RunKey],
+    book: &Rows,
+    moment: Moment,
+) -> Result<Rows, Memory>
+    requires { All HasMoments book.now.list }
+    ensures { IfOk result (λ made. made.list ≡ lapsed_over moment book.now.list keys.now []) }
 {
     let mut made = Rows::new(alloc);
-    for row in rows {
-        if row.lapse(moment).is_some() {
-            put_settled(alloc, &mut made, row, moment)?;
-        }
+    for key in keys {
+        put_lapsed(alloc, &mut made, book, *key, moment)?;
     }
     Ok(made)
+}
+
+fn put_lapsed(
+    alloc: Global,
+    touched: &mut Rows,
+    book: &Rows,
+    key: RunKey,
+    moment: Moment,
+) -> Result<(), Memory>
+    requires { All HasMoments book.now.list }
+    ensures { OnOk result (touched.new.list ≡ put_new (lapsed_copy moment (find_row book.now.list key)) touched.old.list) }
+{
+    let Some(row) = book.find(key) else {
+        return Ok(());
+    };
+    if row.lapse(moment).is_none() {
+        return Ok(());
+    }
+    put_settled(alloc, touched, row, moment)
 }
 
 fn put_settled(
@@ -146,7 +171,7 @@ fn meets(row: &RunRow, sought: &Sought, moment: Moment) -> bool
         && is_hard(row, sought.priority, moment)
 }
 
-fn is_after(low: Option<RunKey>, key: RunKey) -> bool
+pub(crate) fn is_after(low: Option<RunKey>, key: RunKey) -> bool
     ensures { result ≡ is_after low key }
 {
     match low {

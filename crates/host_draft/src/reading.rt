@@ -3,7 +3,7 @@ ghost use Rattle.std.specs.Prelude.{◌≡◌, find, option_map};
 ghost use Rattle.host_draft.specs.Overlay.{meets};
 
 use crate::draft::Draft;
-use crate::gather::{bookings_over, timeline_of};
+use crate::gather::{bookings_over, reach, timeline_of};
 use crate::overlay::{Sought, find_over, first_below, first_sought, last_bare, later, lesser_of};
 use lead_core::leading::Leading;
 use limit_apply::limits::Limits;
@@ -97,11 +97,14 @@ impl<'a> Reading for Draft<'a> {
         window: Window,
     ) -> Result<Tiers, Memory> {
         let _ = self.book.rows();
+        let reach = reach(length, &window);
         let bookings = bookings_over(
             alloc,
             self.book.timeline().bookings(),
             &self.touched,
             self.gone.as_slice(),
+            class,
+            &reach,
         )?;
         let timeline = timeline_of(alloc, bookings.as_slice())?;
         timeline.free(alloc, class, length, priority, window, self.moment)

@@ -1,5 +1,5 @@
 use Rattle.std.specs.Prelude.{find}
-use Rattle.std.proofs.Common.{◌≡◌, ◌∙◌, ◌∷◌, ◌<◌, [], List, None, Some, cond, length, refl, sym, ap, ap₂, arith}
+use Rattle.std.proofs.Common.{◌≡◌, ◌∙◌, ◌∷◌, ◌<◌, [], List, Some, cond, length, sym, ap, arith}
 use Rattle.ps_time.specs.declared.key.RunKey.{RunKey}
 use Rattle.host_timeline.specs.Booking.{conflicting_after, key_and, keys_of}
 use Rattle.host_draft.specs.Overlay.{meets_below}
