@@ -1,0 +1,7 @@
+//! A turn of a host: all that is due at a moment, group by group, over a draft of its book.
+#![tactic(auto)]
+
+pub mod due;
+mod groups;
+pub mod turn;
+mod wishes;

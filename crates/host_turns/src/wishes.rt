@@ -1,0 +1,140 @@
+//! What a turn wishes for at a key, a task, read off its draft.
+ghost use Rattle.std.specs.Prelude.{◌≡◌, IfOk, option_and_then};
+ghost use Rattle.std.specs.Option.{option_copied};
+ghost use Rattle.run_states.specs.Rows.{find_row};
+ghost use Rattle.host_model.specs.Book.{find_task};
+ghost use Rattle.host_model.specs.Ending.{end_run};
+ghost use Rattle.host_model.specs.Merging.{merge_run};
+ghost use Rattle.host_model.specs.Plan.{plan_run};
+ghost use Rattle.host_model.specs.Purging.{purge_run};
+ghost use Rattle.host_model.specs.Starting.{start_run};
+ghost use Rattle.host_turns.specs.Turns.{IsLiveTurn, IsTurn, wish_of};
+
+use crate::due::Due;
+use host_draft::draft::Draft;
+use host_model::change::Change;
+use host_model::config::Config;
+use host_model::task_row::TaskRow;
+use host_wishes::ending::end_run;
+use host_wishes::merging::merge_run;
+use host_wishes::purging::purge_run;
+use host_wishes::starting::start_run;
+use lead_core::planning::plan_run;
+use part_core::reading::Reading;
+use ps_time::key::RunKey;
+use ps_time::memory::Memory;
+use std::alloc::Global;
+
+/// What a turn goes by, beside its draft.
+#[derive(Clone, Copy)]
+pub(crate) struct Turn<'a> {
+    pub(crate) config: &'a Config,
+    // of the host: no change of a turn touches them
+    pub(crate) tasks: &'a [TaskRow],
+    // the keys of all rows that weren't still, ascending
+    pub(crate) live: &'a [RunKey],
+}
+
+impl<'a> Turn<'a> {
+    // What is due of the run of the key.
+    pub(crate) fn wish(
+        &self,
+        alloc: Global,
+        draft: &Draft<'_>,
+        due: Due,
+        key: RunKey,
+    ) -> Result<Option<Change>, Memory>
+        requires { IsLiveTurn self.now.config.now self.now.tasks.now self.now.live.now draft.now }
+        ensures { IfOk result (λ wish. wish ≡ option_and_then (wish_of due self.now.config.now draft.now.draft.book.moment draft.now.draft.book) (find_row draft.now.draft.book.rows key)) }
+    {
+        match due {
+            Due::End => end_at(alloc, draft, self.config, self.tasks, key),
+            Due::Merge => merge_at(alloc, draft, self.config, self.tasks, key),
+            Due::Start => Ok(start_at(draft, self.config, self.tasks, self.live, key)),
+            Due::Plan => plan_at(alloc, draft, self.config, self.tasks, key),
+        }
+    }
+}
+
+fn end_at(
+    alloc: Global,
+    draft: &Draft<'_>,
+    config: &Config,
+    tasks: &[TaskRow],
+    key: RunKey,
+) -> Result<Option<Change>, Memory>
+    requires { IsTurn config.now tasks.now draft.now }
+    ensures { IfOk result (λ wish. wish ≡ option_and_then (end_run config.now draft.now.draft.book.moment draft.now.draft.book) (find_row draft.now.draft.book.rows key)) }
+{
+    match draft.find(key) {
+        Some(row) => end_run(alloc, config, row, draft.moment()),
+        None => Ok(None),
+    }
+}
+
+fn merge_at(
+    alloc: Global,
+    draft: &Draft<'_>,
+    config: &Config,
+    tasks: &[TaskRow],
+    key: RunKey,
+) -> Result<Option<Change>, Memory>
+    requires { IsTurn config.now tasks.now draft.now }
+    ensures { IfOk result (λ wish. wish ≡ option_and_then (merge_run config.now draft.now.draft.book.moment draft.now.draft.book) (find_row draft.now.draft.book.rows key)) }
+{
+    match draft.find(key) {
+        Some(row) => merge_run(alloc, config, row, draft.moment()),
+        None => Ok(None),
+    }
+}
+
+fn start_at(
+    draft: &Draft<'_>,
+    config: &Config,
+    tasks: &[TaskRow],
+    live: &[RunKey],
+    key: RunKey,
+) -> Option<Change>
+    requires { IsLiveTurn config.now tasks.now live.now draft.now }
+    ensures { result ≡ option_and_then (start_run draft.now.draft.book.moment draft.now.draft.book) (find_row draft.now.draft.book.rows key) }
+{
+    match draft.find(key) {
+        Some(row) => start_run(draft, live, row),
+        None => None,
+    }
+}
+
+fn plan_at(
+    alloc: Global,
+    draft: &Draft<'_>,
+    config: &Config,
+    tasks: &[TaskRow],
+    key: RunKey,
+) -> Result<Option<Change>, Memory>
+    requires { IsTurn config.now tasks.now draft.now }
+    ensures { IfOk result (λ wish. wish ≡ option_and_then (plan_run config.now draft.now.draft.book.moment draft.now.draft.book) (find_row draft.now.draft.book.rows key)) }
+{
+    plan_run(alloc, draft, config, find_task(tasks, key.task), key)
+}
+
+fn find_task(tasks: &[TaskRow], serial: u32) -> Option<&TaskRow>
+    ensures { option_copied result ≡ find_task tasks.now serial }
+{
+    tasks.iter().find(|task| task.serial == serial)
+}
+
+/// Whether the row of the key is long past.
+pub(crate) fn purge_at(
+    draft: &Draft<'_>,
+    config: &Config,
+    tasks: &[TaskRow],
+    key: RunKey,
+) -> Option<Change>
+    requires { IsTurn config.now tasks.now draft.now }
+    ensures { result ≡ option_and_then (purge_run config.now draft.now.draft.book.moment draft.now.draft.book) (find_row draft.now.draft.book.rows key) }
+{
+    match draft.find(key) {
+        Some(row) => purge_run(draft, config, row),
+        None => None,
+    }
+}
