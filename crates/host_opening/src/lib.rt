@@ -1,0 +1,4 @@
+//! What changes as a host opens.
+#![tactic(auto)]
+
+pub mod opening;

@@ -1,0 +1,4 @@
+//! What a step of a host comes to, over its book in memory.
+#![tactic(auto)]
+
+pub mod decide;
