@@ -19,7 +19,8 @@ use run_states::row::RunRow;
 use std::alloc::Global;
 use task_spec::task::Archive;
 
-fn find_task(tasks: &[TaskRow], serial: u32) -> Option<&TaskRow>
+/// The task of the serial, if there is one.
+pub fn find_task(tasks: &[TaskRow], serial: u32) -> Option<&TaskRow>
     ensures { option_copied result ≡ find_task tasks.now serial }
 {
     tasks.iter().find(|task| task.serial == serial)
@@ -40,7 +41,8 @@ fn has_lead(number: u16, tasks: &[TaskRow], row: &RunRow) -> bool
     }
 }
 
-fn archives_of(tasks: &[TaskRow], key: RunKey) -> &[Archive]
+/// The archives of the run's task; a run of no task has none.
+pub fn archives_of(tasks: &[TaskRow], key: RunKey) -> &[Archive]
     ensures archives { result.now ≡ archives_of tasks.now key }
     ensures policies { All IsReadTask tasks.now → All (λ (a : Entry). IsPolicy a.policy) result.now }
 {
@@ -59,7 +61,8 @@ fn has_states(number: u16, archives: &[Archive], row: &RunRow) -> bool
     }
 }
 
-fn is_state_of(archive: &Archive, state: &ArchiveState) -> bool
+/// Whether the state is one that an archive with this policy comes to.
+pub fn is_state_of(archive: &Archive, state: &ArchiveState) -> bool
     requires { IsPolicy archive.now.policy }
     ensures { IsTrue result ↔ IsStateOf archive.now.policy state.now }
 {

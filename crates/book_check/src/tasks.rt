@@ -9,7 +9,8 @@ ghost use Rattle.book_check.specs.Known.{IsReadTask};
 use host_model::task_row::TaskRow;
 use ps_time::moment::Moment;
 
-fn is_lawful_task(moment: Moment, task: &TaskRow) -> bool
+/// Whether no moment of the task is after this one.
+pub fn is_lawful_task(moment: Moment, task: &TaskRow) -> bool
     requires { IsReadTask task.now }
     ensures { IsTrue result ↔ IsLawfulTask moment task.now }
 {

@@ -1,0 +1,4 @@
+pub mod Follows
+pub mod ReadChange
+pub mod Suits
+pub mod Way

@@ -1,0 +1,24 @@
+use Rattle.std.proofs.Common.{◌≡◌, ℕ, List, get_or, subst, sym, arith}
+use Rattle.kept_host.specs.Stands.{Leads}
+use Rattle.kept_host.proofs.ListLemmas.{goes_on, one_more, stops}
+use Rattle.kept_host.proofs.restore.follow.Goals as goal
+
+pub returns-then-not-branch-clause-refused : goal.returns-then-not-branch-clause-refused
+returns-then-not-branch-clause-refused c =
+    let records : List (List ℕ) = c.args.records.now in
+    let bytes : List ℕ = c.as_slice.result.now in
+    let i : ℕ = c.loop-index.index in
+    let is : bytes ≡ get_or records i bytes = subst (λ (x : List ℕ). x ≡ get_or records i x) (sym c.as_slice.ensures) c.index-records-index.is in
+    stops c.args.second c.args.number records i bytes (omega (arith, c.loop-index-test.true)) is c.loop-index.book.book (Leads c.args.second c.args.number c.args.from.book records) c.loop-index.invariant.leads (c.in_ok-take_bytes.ensures.refused c.if-not-branch.true)
+
+pub loop-index-preserved : goal.loop-index-preserved
+loop-index-preserved c =
+    let records : List (List ℕ) = c.args.records.now in
+    let bytes : List ℕ = c.as_slice.result.now in
+    let i : ℕ = c.loop-index.index in
+    let is : bytes ≡ get_or records i bytes = subst (λ (x : List ℕ). x ≡ get_or records i x) (sym c.as_slice.ensures) c.index-records-index.is in
+    record {
+      number = c.take_bytes.ensures.number;
+      front = one_more c.args.second c.args.number records i bytes (omega (arith, c.loop-index-test.true)) is c.loop-index.book.book c.args.from.book c.take_bytes.new.book.book c.loop-index.invariant.front (c.in_ok-take_bytes.ensures.taken c.if-not-branch.false);
+      leads = goes_on c.args.second c.args.number records i bytes (omega (arith, c.loop-index-test.true)) is c.loop-index.book.book (Leads c.args.second c.args.number c.args.from.book records) c.loop-index.invariant.leads c.take_bytes.new.book.book (c.in_ok-take_bytes.ensures.taken c.if-not-branch.false);
+    }

@@ -1,0 +1,6 @@
+//! A host's book as a journal keeps it: a snapshot, and records behind it.
+#![tactic(auto)]
+
+pub mod record;
+pub mod restore;
+pub mod snapshot;

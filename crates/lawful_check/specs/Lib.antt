@@ -1,0 +1,2 @@
+pub mod NewKey
+pub mod ReadBook
