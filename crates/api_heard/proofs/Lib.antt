@@ -1,0 +1,4 @@
+mod DenialLemmas
+mod FlatLemmas
+mod HeardLemmas
+mod ToldLemmas

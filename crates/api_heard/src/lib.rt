@@ -1,0 +1,4 @@
+//! What is replied to an order is heard as it was meant.
+#![tactic(auto)]
+
+pub mod hear;

@@ -1,0 +1,5 @@
+pub mod BodyLemmas
+pub mod KeyLemmas
+mod MeantLemmas
+mod PathLemmas
+mod WholeLemmas

@@ -1,0 +1,15 @@
+use Rattle.host_model.specs.declared.order.OrderBody.TheVariants.{Confirm}
+use Rattle.api_order.proofs.MeantLemmas.{confirm_meant, of_same}
+use Rattle.api_order.specs.Meant.{IsMeant}
+use Rattle.api_order.specs.Ordered.{mark_for, request_by}
+use Rattle.api_order.proofs.request.confirm.Goals as goal
+
+pub returns-clause-request : goal.returns-clause-request
+returns-clause-request c = rw (c.in_ok-path.ensures.text, c.new.ensures) at c.ask.ensures
+
+pub returns-clause-meant : goal.returns-clause-meant
+returns-clause-meant c =
+    let self = c.args.config.now in
+    let peer = c.args.peer.now in
+    let made = rw (c.in_ok-path.ensures.text, c.new.ensures) at c.ask.ensures in
+    of_same (IsMeant self peer c.args.key Confirm) c.ask.result (request_by (mark_for self peer) c.args.key Confirm) made (confirm_meant self peer c.args.key c.in_ok-path.ensures.reads)

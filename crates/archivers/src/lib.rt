@@ -1,0 +1,5 @@
+//! The archivers that need nothing but themselves.
+#![tactic(auto)]
+
+pub mod bitbucket;
+pub mod failer;
