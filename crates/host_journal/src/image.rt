@@ -49,6 +49,34 @@ impl SnapshotImage {
         Ok(())
     }
 
+    /// Its buffer, for a writer of bytes: what lies before the image, and then its bytes.
+    pub fn into_buffer(self) -> Vec<u8>
+        ensures front { 12 ≤ length result.items }
+        ensures bytes { drop 12 result.items ≡ self.bytes }
+        ensures room { self.room ≤ vec_capacity result }
+    {
+        let SnapshotImage { bytes } = self;
+        bytes
+    }
+
+    /// The image that a buffer holds to which bytes were added.
+    pub fn of_buffer(buffer: Vec<u8>) -> SnapshotImage
+        requires { 12 ≤ length buffer.items }
+        ensures bytes { result.bytes ≡ drop 12 buffer.items }
+        ensures room { vec_capacity buffer ≤ result.room }
+    {
+        SnapshotImage { bytes: buffer }
+    }
+
+    /// Makes room for what is written behind it.
+    pub fn reserve_end(&mut self) -> Result<(), Memory>
+        ensures room { OnOk result (length self.new.bytes + 13 ≤ self.new.room) }
+        ensures same { self.new.bytes ≡ self.old.bytes }
+    {
+        self.bytes.reserve(1)?;
+        Ok(())
+    }
+
     /// How many bytes it has.
     pub fn len(&self) -> usize
         ensures { result ≡ length self.now.bytes }
