@@ -1,14 +1,14 @@
 -- What the disks of a kept machine stand for: after a call, and at every moment of it, from the clauses of the journal's calls.
-use Rattle.std.proofs.Common.{◌≡◌, ◌⊎◌, inl, inr, ⊎_elim, ℕ, Bool, true, false, List, [], ◌∷◌, ◌++◌, Option, Some, Result, Ok, Err, refl, sym, ◌∙◌, ap, subst, arith}
+use Rattle.std.proofs.Common.{◌≡◌, ◌⊎◌, ◌≤◌, IfOk, inl, inr, ⊎_elim, ℕ, Bool, true, false, List, [], ◌∷◌, ◌++◌, Option, None, Some, Result, Ok, Err, refl, sym, ◌∙◌, ap, subst, arith}
 use Rattle.host_journal.specs.Calls.{IsRead}
 use Rattle.host_journal.specs.Moments.{Shows, LiesBeside, Adds, AddsOnly, LeftIn, IsNear}
 use Rattle.host_journal.specs.Pair.{pair_of}
-use Rattle.host_journal.specs.State.{State, stored, has_record, which, with_record, with_room, snapshot_of, IsAt, EachImage, EachSince, KeepsPlace, SameButRoom, first_disk, second_disk}
+use Rattle.host_journal.specs.State.{State, stored, has_record, opened_as, which, with_record, with_room, snapshot_of, IsAt, IsOurs, EachImage, EachSince, KeepsPlace, SameButRoom, first_disk, second_disk}
 use Rattle.host_journal.specs.declared.pending.Pending.{Pending}
 use Rattle.host_journal.specs.declared.reading.Counted.{Counted}
 use Rattle.host_journal.specs.declared.reading.DiskPlace.{DiskPlace}
-use Rattle.host_journal.proofs.MomentLemmas.{beside_record, near_record, near_snapshot, ours_at, run_more, run_on, run_pair, run_since}
-use Rattle.machine_keep.specs.Kept.{IsMade, IsUnsure, StandsAround, StandsFor, caught}
+use Rattle.host_journal.proofs.MomentLemmas.{beside_record, fits_first, fits_second, near_record, near_snapshot, ours_at, run_more, run_on, run_pair, run_since, since_begin}
+use Rattle.machine_keep.specs.Kept.{EachFrom, IsMade, IsMigrating, IsUnsure, StandsAround, StandsBut, StandsEither, StandsFor, caught}
 
 -- with the record of a step the disks stand for the state after it
 module _ {S T : Type 0} (stands : List (List ℕ) → S → Type 0) (bytes : T → List ℕ) (follows : S → T → Type 0) (after : S → T → S)
@@ -31,6 +31,20 @@ module _ {S T : Type 0} (stands : List (List ℕ) → S → Type 0) (bytes : T �
       subst (StandsFor stands (after s step)) (sym (unsure.found ∙ ap (λ (b : Bool). which (bytes step) b unsure.before) is)) (with_step s step unsure.before can unsure.stood)
   found_out s step pending pair false can is unsure =
       subst (StandsFor stands s) (sym (unsure.found ∙ ap (λ (b : Bool). which (bytes step) b unsure.before) is)) unsure.stood
+
+-- with what may be set the disks stand for the state with it, but for a step that is unsure
+module _ {S T F : Type 0} (stands : List (List ℕ) → S → Type 0) (bytes : T → List ℕ) (may_set : F → F → Type 0) (fixed : S → F) (with_fixed : F → S → S)
+    (set : (list : List (List ℕ)) (f : F) (s : S) → may_set (fixed s) f → stands list s → stands list (with_fixed f s)) where
+  set_pair : (f : F) (s : S) (pair : Result Counted DiskPlace) → may_set (fixed s) f → StandsFor stands s pair → StandsFor stands (with_fixed f s) pair
+  set_pair f s (Ok k) can stood = set k.list f s can stood
+  set_pair f s (Err place) can stood = stood
+
+  set_but : (f : F) (s : S) (pending : Pending) (pair : Result Counted DiskPlace) (unsure : Option T) → may_set (fixed s) f → StandsBut stands bytes s pending pair unsure → StandsBut stands bytes (with_fixed f s) pending pair unsure
+  set_but f s pending pair None can stood = set_pair f s pair can stood
+  set_but f s pending pair (Some step) can stood = record { before = stood.before; stood = set_pair f s stood.before can stood.stood; found = stood.found }
+
+  pub configured : (f : F) (s new : S) (pending : Pending) (pair : Result Counted DiskPlace) (unsure : Option T) → new ≡ with_fixed f s → may_set (fixed s) f → StandsBut stands bytes s pending pair unsure → StandsBut stands bytes new pending pair unsure
+  configured f s new pending pair unsure became can stood = subst (λ (x : S). StandsBut stands bytes x pending pair unsure) (sym became) (set_but f s pending pair unsure can stood)
 
 -- At every moment, where nothing was done.
 module _ {D S : Type 0} (moment : D → ℕ) (left_since : D → ℕ → List ℕ → Type 0) (may_leave : D → List ℕ → Type 0)
@@ -103,6 +117,24 @@ module _ {D S : Type 0} (seen : D → List ℕ) (moment : D → ℕ) (left_since
         → Adds moment left_since turned new (Snapped turned) → EachSince moment left_since old new (λ pair. StandsFor stands now pair ⊎ StandsFor stands later pair)
     since_snapshot turned new adds is kept alone more = each_since new (made_snapshot turned new adds is kept alone more)
 
+-- a snapshot alone
+pub made_alone : {D S : Type 0} (seen : D → List ℕ) (moment : D → ℕ) (left_since : D → ℕ → List ℕ → Type 0) (stands : List (List ℕ) → S → Type 0) (later : S) (image : List ℕ) (old new : State D)
+    → IsAt old (stored seen old) → stands (image ∷ []) later → Adds moment left_since old new (λ second c. LiesBeside (stored seen old) second c ⊎ Shows (snapshot_of image old) second c)
+    → Adds moment left_since old new (LeftIn (stored seen old) (IsMade stands (stored seen old) later))
+made_alone seen moment left_since stands later image old new at alone adds =
+    run_more moment left_since old new (λ second c. LiesBeside (stored seen old) second c ⊎ Shows (snapshot_of image old) second c) (LeftIn (stored seen old) (IsMade stands (stored seen old) later)) adds (λ second c. ⊎_elim
+    (λ beside. inl (inr beside))
+    (λ shows. inr (snapshot_of image old, (alone, near_snapshot image old old (stored seen old) at refl refl), shows)))
+
+-- what an opening found is one of ours
+ours_opened : {D : Type 0} (s : State D) (list : List (List ℕ)) (pair : Result Counted DiskPlace) → pair ≡ opened_as s list → IsOurs pair
+ours_opened s list pair is = (record { second = s.second; generation = s.generation; start = s.start; end = s.end; list = list }, is)
+
+-- of a result that is Ok
+pub ok_both : {A E : Type 0} (P Q R : A → Type 0) → ((a : A) → P a → Q a → R a) → (r : Result A E) → IfOk r P → IfOk r Q → IfOk r R
+ok_both P Q R f (Ok a) p q = f a p q
+ok_both P Q R f (Err e) p q = tt
+
 -- Where the call began after a fault.
 module _ {D : Type 0} (seen : D → List ℕ) (may_leave : D → List ℕ → Type 0) (moment : D → ℕ) (left_since : D → ℕ → List ℕ → Type 0) (only_now : (disk : D) (c : List ℕ) → left_since disk (moment disk) c → may_leave disk c) where
   -- an image of a disk that was only synced and read could have been left before
@@ -112,14 +144,59 @@ module _ {D : Type 0} (seen : D → List ℕ) (may_leave : D → List ℕ → Ty
   was : (old mid new : D) (Q : List ℕ → Type 0) → IsRead seen may_leave moment left_since old mid → AddsOnly moment left_since mid new Q → (c : List ℕ) → left_since new (moment old) c → may_leave old c ⊎ Q c
   was old mid new Q read adds c left = ⊎_elim (λ past. inl (only_read old mid read c past)) (λ q. inr q) (adds.each (moment old) c read.moments.later left)
 
-  pub recovered : (old mid new : State D) (from : Result Counted DiskPlace) (Made : Result Counted DiskPlace → Type 0) → ((pair : Result Counted DiskPlace) → Made pair → IsNear from pair)
-      → IsRead seen may_leave moment left_since (first_disk old) (first_disk mid) → IsRead seen may_leave moment left_since (second_disk old) (second_disk mid) → Adds moment left_since mid new (LeftIn from Made)
-      → (c d : List ℕ) → left_since (first_disk new) (moment (first_disk old)) c → left_since (second_disk new) (moment (second_disk old)) d
-      → (may_leave (first_disk old) c ⊎ may_leave (second_disk old) d) ⊎ ((pair_of c d ≡ from) ⊎ Made (pair_of c d))
-  recovered old mid new from Made near one two adds c d left left_too =
+  pub recovered : (first second : D) (mid : State D) (first_now second_now : D) (from : Result Counted DiskPlace) (Made : Result Counted DiskPlace → Type 0) → ((pair : Result Counted DiskPlace) → Made pair → IsNear from pair)
+      → IsRead seen may_leave moment left_since first (first_disk mid) → IsRead seen may_leave moment left_since second (second_disk mid)
+      → AddsOnly moment left_since (first_disk mid) first_now (LeftIn from Made false) → AddsOnly moment left_since (second_disk mid) second_now (LeftIn from Made true)
+      → EachFrom may_leave moment left_since first second first_now second_now (λ pair. (pair ≡ from) ⊎ Made pair)
+  recovered first second mid first_now second_now from Made near one two adds adds_too c d left left_too =
       ⊎_elim (λ now. inl (inl now)) (λ q. ⊎_elim (λ now. inl (inr now)) (λ r. inr (run_pair from Made near c d q r))
-      (was (second_disk old) (second_disk mid) (second_disk new) (LeftIn from Made true) two adds.second d left_too))
-      (was (first_disk old) (first_disk mid) (first_disk new) (LeftIn from Made false) one adds.first c left)
+      (was second (second_disk mid) second_now (LeftIn from Made true) two adds_too d left_too))
+      (was first (first_disk mid) first_now (LeftIn from Made false) one adds c left)
+
+  -- of an opening that gave a machine, and of one that didn't
+  module _ {S : Type 0} (stands stood : List (List ℕ) → S → Type 0) (first second : D) (mid : State D)
+      (one : IsRead seen may_leave moment left_since first (first_disk mid)) (two : IsRead seen may_leave moment left_since second (second_disk mid)) where
+    pub opened : (new : State D) (s : S) → Adds moment left_since mid new (LeftIn (stored seen mid) (IsMade stands (stored seen mid) s)) → StandsEither stands stood s (stored seen mid)
+        → EachFrom may_leave moment left_since first second (first_disk new) (second_disk new) (StandsEither stands stood s)
+    opened new s adds either c d left left_too =
+        ⊎_elim (λ before. inl before) (λ made. inr (⊎_elim (λ is. subst (StandsEither stands stood s) (sym is) either) (λ is. inl is.0) made))
+        (recovered first second mid (first_disk new) (second_disk new) (stored seen mid) (IsMade stands (stored seen mid) s) (λ pair made. made.1) one two adds.first adds.second c d left left_too)
+
+    pub not_opened : (first_now second_now : D) → stored seen mid ≡ pair_of (seen first) (seen second)
+        → ((first_now ≡ first_disk mid) × (second_now ≡ second_disk mid)) ⊎ IsMigrating seen moment left_since stands stood mid first_now second_now
+        → EachFrom may_leave moment left_since first second first_now second_now (λ pair. (s : S) × (StandsEither stands stood s (pair_of (seen first) (seen second)) × StandsEither stands stood s pair))
+    not_opened first_now second_now is (inl same) c d left left_too = inl (inl (only_read first (first_disk mid) one c (subst (λ (disk : D). left_since disk (moment first) c) same.0 left)))
+    not_opened first_now second_now is (inr m) c d left left_too =
+        ⊎_elim (λ before. inl before)
+        (λ made. inr (m.state, (subst (StandsEither stands stood m.state) is m.either, ⊎_elim (λ at. subst (StandsEither stands stood m.state) (sym at) m.either) (λ it. inl it.0) made)))
+        (recovered first second mid first_now second_now (stored seen mid) (IsMade stands (stored seen mid) m.state) (λ pair made. made.1) one two m.adds_first m.adds_second c d left left_too)
+
+    -- what is left of the disks that come back
+    pub left_so : (reads_now : (disk : D) → may_leave disk (seen disk)) (counts_now : (disk : D) (t : ℕ) (c : List ℕ) → t ≤ moment disk → may_leave disk c → left_since disk t c)
+        (list : List (List ℕ)) (first_now second_now : D) → stored seen mid ≡ pair_of (seen first) (seen second) → pair_of (seen first) (seen second) ≡ opened_as mid list → EachImage may_leave mid (λ pair. pair ≡ pair_of (seen first) (seen second))
+        → ((first_now ≡ first_disk mid) × (second_now ≡ second_disk mid)) ⊎ IsMigrating seen moment left_since stands stood mid first_now second_now
+        → (c d : List ℕ) → may_leave first_now c → may_leave second_now d
+        → (may_leave first c × may_leave second d) ⊎ ((s : S) × (StandsEither stands stood s (pair_of (seen first) (seen second)) × StandsEither stands stood s (pair_of c d)))
+    left_so reads_now counts_now list first_now second_now is opened_it each (inl same) c d now now_too =
+        inl (one.images c (subst (λ (disk : D). may_leave disk c) same.0 now), two.images d (subst (λ (disk : D). may_leave disk d) same.1 now_too))
+    left_so reads_now counts_now list first_now second_now is opened_it each (inr m) c d now now_too =
+        let ours = ours_opened mid list (stored seen mid) (is ∙ opened_it) in
+        let each_it : EachImage may_leave mid (λ pair. pair ≡ stored seen mid) = λ a b left left_too. each a b left left_too ∙ sym is in
+        let first_left : LeftIn (stored seen mid) (IsMade stands (stored seen mid) m.state) false c = ⊎_elim (λ before. inl (fits_first seen may_leave reads_now mid (stored seen mid) ours each_it c before)) (λ q. q)
+        (since_begin moment left_since may_leave only_now (first_disk mid) first_now (LeftIn (stored seen mid) (IsMade stands (stored seen mid) m.state) false) m.adds_first c (counts_now first_now (moment (first_disk mid)) c m.adds_first.later now)) in
+        let second_left : LeftIn (stored seen mid) (IsMade stands (stored seen mid) m.state) true d = ⊎_elim (λ before. inl (fits_second seen may_leave reads_now mid (stored seen mid) ours each_it d before)) (λ q. q)
+        (since_begin moment left_since may_leave only_now (second_disk mid) second_now (LeftIn (stored seen mid) (IsMade stands (stored seen mid) m.state) true) m.adds_second d (counts_now second_now (moment (second_disk mid)) d m.adds_second.later now_too)) in
+        inr (
+          m.state,
+          (
+            subst (StandsEither stands stood m.state) is m.either,
+            ⊎_elim (λ at. subst (StandsEither stands stood m.state) (sym at) m.either) (λ it. inl it.0) (run_pair (stored seen mid) (IsMade stands (stored seen mid) m.state) (λ pair made. made.1) c d first_left second_left),
+          ),
+        )
+
+  -- two disks that were only synced and read
+  pub refused : (first second first_now second_now : D) (P : Result Counted DiskPlace → Type 0) → IsRead seen may_leave moment left_since first first_now → EachFrom may_leave moment left_since first second first_now second_now P
+  refused first second first_now second_now P read c d left left_too = inl (inl (only_read first first_now read c left))
 
 -- a run that only made room adds nothing
 pub adds_none : {D : Type 0} (moment : D → ℕ) (left_since : D → ℕ → List ℕ → Type 0) (old mid : State D) (Q : Bool → List ℕ → Type 0) → SameButRoom old mid → Adds moment left_since old mid Q

@@ -1,21 +1,27 @@
 -- What the disks of a kept machine stand for.
-use Rattle.std.specs.Prelude.{◌≡◌, ◌⊎◌, ℕ, Bool, List, None, Option, Some, Result, Ok, Err, ◌+◌, ◌-◌, ◌*◌, ◌≤◌, if◌then◌else◌, max, nat_lt}
-use Rattle.host_journal.specs.Moments.{IsNear}
-use Rattle.host_journal.specs.State.{State, has_record, which}
+use Rattle.std.specs.Prelude.{◌≡◌, ◌⊎◌, ℕ, Bool, true, false, List, None, Option, Some, Result, Ok, Err, ◌-◌, ◌*◌, ◌≤◌, if◌then◌else◌, max, nat_lt}
+use Rattle.host_journal.specs.Moments.{AddsOnly, IsNear, LeftIn}
+use Rattle.host_journal.specs.Pair.{pair_of}
+use Rattle.host_journal.specs.State.{State, first_disk, has_record, second_disk, stored, which}
 use Rattle.host_journal.specs.declared.pending.Pending.{Pending}
 use Rattle.host_journal.specs.declared.reading.Counted.{Counted}
 use Rattle.host_journal.specs.declared.reading.DiskPlace.{DiskPlace}
 
--- a machine, its journal, and the step of an append that failed
+-- a machine, its journal, the step of an append that failed, and how many snapshots were put off
 pub record Kept (M D T : Type 0) : Type 0 where
   pub machine : M
   pub journal : State D
   pub unsure : Option T
+  pub put_off : ℕ
 
 -- two disks stand for a list that stands for the state
 abbrev pub StandsFor : {S : Type 0} → (List (List ℕ) → S → Type 0) → S → Result Counted DiskPlace → Type 0
 StandsFor stands s (Ok k) = stands k.list s
 StandsFor stands s (Err place) = ⊥
+
+-- in one of two forms
+abbrev pub StandsEither : {S : Type 0} → (List (List ℕ) → S → Type 0) → (List (List ℕ) → S → Type 0) → S → Result Counted DiskPlace → Type 0
+StandsEither stands stood s pair = StandsFor stands s pair ⊎ StandsFor stood s pair
 
 -- after an append failed they stand for the state without the step, or with its record too
 pub record IsUnsure {S T : Type 0} (stands : List (List ℕ) → S → Type 0) (bytes : T → List ℕ) (s : S) (step : T) (pending : Pending) (pair : Result Counted DiskPlace) : Type 0 where
@@ -38,9 +44,9 @@ abbrev pub caught : {S T : Type 0} → (S → T → S) → S → Option T → Bo
 caught after s None stood = s
 caught after s (Some step) stood = if stood then after s step else s
 
--- the bytes of records, with one more of so many, are more than 1 MiB and than twice those of the snapshot
-abbrev pub is_many : ℕ → ℕ → ℕ → Bool
-is_many records snapshot bytes = nat_lt (max (2 * snapshot) 1_048_576) (records + bytes + 5)
+-- the bytes of records are more than 1 MiB and than twice those of the snapshot
+abbrev pub is_many : ℕ → ℕ → Bool
+is_many records snapshot = nat_lt (max (2 * snapshot) 1_048_576) records
 
 -- the bytes of a journal's records are at most 1 MiB, or twice those of its snapshot
 abbrev pub HasFew : {D : Type 0} → State D → Type 0
@@ -53,3 +59,16 @@ StandsAround {S} {C} {R} {T} stands answers after s call pair = StandsFor stands
 -- they stand for the later state, with at most one snapshot more
 abbrev pub IsMade : {S : Type 0} → (List (List ℕ) → S → Type 0) → Result Counted DiskPlace → S → Result Counted DiskPlace → Type 0
 IsMade stands from later pair = StandsFor stands later pair × IsNear from pair
+
+-- Of what was left of two disks since they were handed in, each at a moment of its own: one of them could have been left as they
+-- were handed in, or what the two stand for has P.
+abbrev pub EachFrom : {D : Type 0} → (D → List ℕ → Type 0) → (D → ℕ) → (D → ℕ → List ℕ → Type 0) → D → D → D → D → (Result Counted DiskPlace → Type 0) → Type 0
+EachFrom may_leave moment left_since first second first_now second_now P =
+    (c d : List ℕ) → left_since first_now (moment first) c → left_since second_now (moment second) d → (may_leave first c ⊎ may_leave second d) ⊎ P (pair_of c d)
+
+-- two disks of a journal, while a snapshot of a state for which they stand is put on them
+pub record IsMigrating {D S : Type 0} (seen : D → List ℕ) (moment : D → ℕ) (left_since : D → ℕ → List ℕ → Type 0) (stands stood : List (List ℕ) → S → Type 0) (from : State D) (first second : D) : Type 0 where
+  pub state : S
+  pub either : StandsEither stands stood state (stored seen from)
+  pub adds_first : AddsOnly moment left_since (first_disk from) first (LeftIn (stored seen from) (IsMade stands (stored seen from) state) false)
+  pub adds_second : AddsOnly moment left_since (second_disk from) second (LeftIn (stored seen from) (IsMade stands (stored seen from) state) true)

@@ -1,5 +1,5 @@
 //! A machine that is kept.
-ghost use Rattle.std.specs.Prelude.{◌≡◌, ◌⊎◌, ◌+◌, ◌-◌, ◌≤◌, ◌<◌, ◌^◌, ℕ, List, Option, Some, None, Err, IsSome, IsTrue, IfOk, IfSome, OnOk, OnErr, false, length};
+ghost use Rattle.std.specs.Prelude.{◌≡◌, ◌⊎◌, ◌+◌, ◌-◌, ◌≤◌, ℕ, List, Option, Some, None, Err, IsSome, IsTrue, IfOk, IfSome, OnOk, OnErr, false, length};
 ghost use Rattle.ps_disks.specs.MemoryDisk.{armed, armed_number};
 ghost use Rattle.ps_ports.specs.Causes.{Rose};
 ghost use Rattle.host_journal.specs.Calls.{IsRead};
@@ -11,6 +11,7 @@ ghost use Rattle.machine_keep.specs.declared.fault.StepFault.TheVariants.{Disk a
 
 use crate::fault::StepFault;
 use crate::machine::{Decided, Machine};
+use crate::snapshot::put_snapshot;
 use host_journal::fault::DiskFault;
 use host_journal::journal::Journal;
 use ps_disks::disk::Disk;
@@ -28,6 +29,7 @@ pub struct Keep<M: Machine, D: Disk> {
     journal: Journal<D>,
     // of an append that failed
     unsure: Option<M::Step>,
+    put_off: u64,
 }
 
 impl<M: Machine, D: Disk> Model for Keep<M, D> {
@@ -37,7 +39,7 @@ impl<M: Machine, D: Disk> Model for Keep<M, D> {
 
     ghost Value = { Kept M D M.Step };
 
-    ghost view = { λ k. record { machine = k.machine; journal = k.journal; unsure = k.unsure } };
+    ghost view = { λ k. record { machine = k.machine; journal = k.journal; unsure = k.unsure; put_off = k.put_off } };
 
     ghost invariant = { λ k. (IsTrue (is_ready k.journal.pending) → k.unsure ≡ None)
         × (IfSome k.unsure (λ step. M.follows (M.state k.machine) step × M.has_room k.machine step)
@@ -51,11 +53,13 @@ impl<M: Machine, D: Disk> Keep<M, D> {
         requires stands { D.premise → StandsFor M.stands_for (M.state machine) (stored D.seen journal) }
         ensures machine { result.machine ≡ machine }
         ensures journal { result.journal ≡ journal }
+        ensures put_off { result.put_off ≡ 0 }
     {
         Keep {
             machine,
             journal,
             unsure: None,
+            put_off: 0,
         }
     }
 
@@ -64,6 +68,27 @@ impl<M: Machine, D: Disk> Keep<M, D> {
         ensures { result.now ≡ self.now.machine }
     {
         &self.machine
+    }
+
+    /// How many snapshots were put off since it was opened: those that were due, and for which memory was wanting, that had
+    /// more than 4,294,967,295 bytes, or that were due in the last generation of a journal. Nothing is lost by one; the
+    /// records grow, and the next step tries again. It stands still at its greatest value.
+    pub fn put_off(&self) -> u64
+        ensures { result ≡ self.now.put_off }
+    {
+        self.put_off
+    }
+
+    /// Sets an origin again, as a configuration. What is kept, and what is not yet known after a fault, stays. Takes no
+    /// memory.
+    pub fn configure(&mut self, origin: M::Origin)
+        requires { M.may_set (M.fixed (M.state self.old.machine)) (M.fixed_of origin) }
+        ensures state { M.state self.new.machine ≡ M.with_fixed (M.fixed_of origin) (M.state self.old.machine) }
+        ensures journal { self.new.journal ≡ self.old.journal }
+        ensures unsure { self.new.unsure ≡ self.old.unsure }
+        ensures put_off { self.new.put_off ≡ self.old.put_off }
+    {
+        self.machine.configure(origin);
     }
 
     /// What is known of a kept machine whose last call met no fault. Does nothing.
@@ -78,7 +103,7 @@ impl<M: Machine, D: Disk> Keep<M, D> {
 
     /// Makes one step, and keeps what it changes before it is answered. After a fault it first finds out what stands.
     pub fn apply(&mut self, alloc: Global, call: M::Call) -> Result<M::Reply, StepFault>
-        requires { M.may_ask call }
+        requires { M.may_ask (M.fixed (M.state self.old.machine)) call }
         // The answer and the step are those of the state that stands as the call begins.
         ensures done { D.premise → IfOk result (λ reply.
             (step : Option M.Step) × M.answers (caught M.after (M.state self.old.machine) self.old.unsure (has_record self.old.journal.pending (stored D.seen self.old.journal))) call reply step
@@ -96,9 +121,11 @@ impl<M: Machine, D: Disk> Keep<M, D> {
             → (c d : List ℕ) → D.left_since (first_disk self.new.journal) (D.moment (first_disk self.old.journal)) c → D.left_since (second_disk self.new.journal) (D.moment (second_disk self.old.journal)) d
             → (D.may_leave (first_disk self.old.journal) c ⊎ D.may_leave (second_disk self.old.journal) d)
             ⊎ StandsAround M.stands_for M.answers M.after (caught M.after (M.state self.old.machine) self.old.unsure (has_record self.old.journal.pending (stored D.seen self.old.journal))) call (pair_of c d) }
-        // A step leaves few records, up to the last generation.
+        // A step leaves few records, or a snapshot that was put off is counted.
         ensures few { D.premise → OnOk result ((M.state self.new.machine ≡ caught M.after (M.state self.old.machine) self.old.unsure (has_record self.old.journal.pending (stored D.seen self.old.journal)))
-            ⊎ (HasFew self.new.journal ⊎ (self.new.journal.generation ≡ 2 ^ 64 - 1))) }
+            ⊎ (HasFew self.new.journal ⊎ Rose self.old.put_off self.new.put_off)) }
+        // Whatever it comes to.
+        ensures fixed { M.fixed (M.state self.new.machine) ≡ M.fixed (M.state self.old.machine) }
         ensures calm { (result ≡ Err disk_fault → ⊥) → (D.disk_faults (first_disk self.new.journal) ≡ D.disk_faults (first_disk self.old.journal)) × (D.disk_faults (second_disk self.new.journal) ≡ D.disk_faults (second_disk self.old.journal)) }
         ensures cause { result ≡ Err disk_fault → Rose (D.disk_faults (first_disk self.old.journal)) (D.disk_faults (first_disk self.new.journal)) ⊎ Rose (D.disk_faults (second_disk self.old.journal)) (D.disk_faults (second_disk self.new.journal)) }
     {
@@ -117,6 +144,8 @@ impl<M: Machine, D: Disk> Keep<M, D> {
         ensures state { D.premise → OnOk result (M.state self.new.machine ≡ caught M.after (M.state self.old.machine) self.old.unsure (has_record self.old.journal.pending (stored D.seen self.old.journal))) }
         ensures stored { D.premise → stored D.seen self.new.journal ≡ stored D.seen self.old.journal }
         ensures still { IsTrue (is_ready self.old.journal.pending) → self.new ≡ self.old }
+        ensures fixed { M.fixed (M.state self.new.machine) ≡ M.fixed (M.state self.old.machine) }
+        ensures put_off { self.new.put_off ≡ self.old.put_off }
         ensures first { D.premise → is_ready self.old.journal.pending ≡ false → IsRead D.seen D.may_leave D.moment D.left_since (first_disk self.old.journal) (first_disk self.new.journal) }
         ensures second { D.premise → is_ready self.old.journal.pending ≡ false → IsRead D.seen D.may_leave D.moment D.left_since (second_disk self.old.journal) (second_disk self.new.journal) }
         ensures calm { OnOk result ((D.disk_faults (first_disk self.new.journal) ≡ D.disk_faults (first_disk self.old.journal)) × (D.disk_faults (second_disk self.new.journal) ≡ D.disk_faults (second_disk self.old.journal))) }
@@ -150,7 +179,8 @@ impl<M: Machine, D: Disk> Keep<M, D> {
             (λ pair. StandsFor M.stands_for (M.state self.old.machine) pair ⊎ ((step : M.Step) × ((decided.step ≡ Some step) × StandsFor M.stands_for (M.after (M.state self.old.machine) step) pair))) }
         ensures adds { D.premise → Adds D.moment D.left_since self.old.journal self.new.journal
             (LeftIn (stored D.seen self.old.journal) (λ pair. (step : M.Step) × ((decided.step ≡ Some step) × IsMade M.stands_for (stored D.seen self.old.journal) (M.after (M.state self.old.machine) step) pair))) }
-        ensures few { OnOk result (IsSome decided.step → HasFew self.new.journal ⊎ (self.new.journal.generation ≡ 2 ^ 64 - 1)) }
+        ensures few { OnOk result (IsSome decided.step → HasFew self.new.journal ⊎ Rose self.old.put_off self.new.put_off) }
+        ensures fixed { M.fixed (M.state self.new.machine) ≡ M.fixed (M.state self.old.machine) }
         ensures calm { (result ≡ Err disk_fault → ⊥) → (D.disk_faults (first_disk self.new.journal) ≡ D.disk_faults (first_disk self.old.journal)) × (D.disk_faults (second_disk self.new.journal) ≡ D.disk_faults (second_disk self.old.journal)) }
         ensures cause { result ≡ Err disk_fault → Rose (D.disk_faults (first_disk self.old.journal)) (D.disk_faults (first_disk self.new.journal)) ⊎ Rose (D.disk_faults (second_disk self.old.journal)) (D.disk_faults (second_disk self.new.journal)) }
     {
@@ -167,7 +197,7 @@ impl<M: Machine, D: Disk> Keep<M, D> {
         }
     }
 
-    // Takes all memory, writes the record, takes the step in, and makes a snapshot where the records are many.
+    // Takes all memory that the step needs, writes its record, takes it in, and makes a snapshot where the records are many.
     fn keep(&mut self, alloc: Global, step: M::Step) -> Result<(), StepFault>
         requires ready { IsTrue (is_ready self.old.journal.pending) }
         requires follows { M.follows (M.state self.old.machine) step }
@@ -180,19 +210,16 @@ impl<M: Machine, D: Disk> Keep<M, D> {
             (λ pair. StandsFor M.stands_for (M.state self.old.machine) pair ⊎ StandsFor M.stands_for (M.after (M.state self.old.machine) step) pair) }
         ensures adds { D.premise → Adds D.moment D.left_since self.old.journal self.new.journal
             (LeftIn (stored D.seen self.old.journal) (IsMade M.stands_for (stored D.seen self.old.journal) (M.after (M.state self.old.machine) step))) }
-        ensures few { OnOk result (HasFew self.new.journal ⊎ (self.new.journal.generation ≡ 2 ^ 64 - 1)) }
+        ensures few { OnOk result (HasFew self.new.journal ⊎ Rose self.old.put_off self.new.put_off) }
+        ensures fixed { M.fixed (M.state self.new.machine) ≡ M.fixed (M.state self.old.machine) }
         ensures calm { (result ≡ Err disk_fault → ⊥) → (D.disk_faults (first_disk self.new.journal) ≡ D.disk_faults (first_disk self.old.journal)) × (D.disk_faults (second_disk self.new.journal) ≡ D.disk_faults (second_disk self.old.journal)) }
         ensures cause { result ≡ Err disk_fault → Rose (D.disk_faults (first_disk self.old.journal)) (D.disk_faults (first_disk self.new.journal)) ⊎ Rose (D.disk_faults (second_disk self.old.journal)) (D.disk_faults (second_disk self.new.journal)) }
     {
         self.known();
         let bytes = self.machine.write_record(alloc, &step)?;
-        let image = self.image_room(&step, bytes.len());
-        self.journal.reserve(image.unwrap_or(0).max(bytes.len()))?;
+        self.journal.reserve(bytes.len())?;
         self.put(step, &bytes)?;
-        if image.is_none() {
-            return Ok(());
-        }
-        self.snapshot()?;
+        self.shorten(alloc)?;
         Ok(())
     }
 
@@ -210,6 +237,8 @@ impl<M: Machine, D: Disk> Keep<M, D> {
             (λ second c. Shows (stored D.seen self.old.journal) second c ⊎ Shows (with_record (M.record_of step) (stored D.seen self.old.journal)) second c) }
         ensures kept { KeepsPlace self.old.journal self.new.journal }
         ensures end { OnOk result (self.new.journal.end ≡ self.old.journal.end + 5 + length bytes.now) }
+        ensures fixed { M.fixed (M.state self.new.machine) ≡ M.fixed (M.state self.old.machine) }
+        ensures put_off { self.new.put_off ≡ self.old.put_off }
         ensures calm { OnOk result ((D.disk_faults (first_disk self.new.journal) ≡ D.disk_faults (first_disk self.old.journal)) × (D.disk_faults (second_disk self.new.journal) ≡ D.disk_faults (second_disk self.old.journal))) }
         ensures ready { OnOk result (IsTrue (is_ready self.new.journal.pending)) }
         ensures cause { OnErr result (Rose (D.disk_faults (first_disk self.old.journal)) (D.disk_faults (first_disk self.new.journal)) ⊎ Rose (D.disk_faults (second_disk self.old.journal)) (D.disk_faults (second_disk self.new.journal))) }
@@ -220,46 +249,38 @@ impl<M: Machine, D: Disk> Keep<M, D> {
         Ok(())
     }
 
-    // How much room a snapshot wants, where one is due behind a record of so many bytes.
-    fn image_room(&self, step: &M::Step, bytes: usize) -> Option<usize>
-        requires { M.follows (M.state self.now.machine) step.now }
-        ensures enough { IfSome result (λ room. length (M.image_of (M.after (M.state self.now.machine) step.now)) ≤ room) }
-        ensures bound { IfSome result (λ room. room ≤ 4294967295) }
-        ensures generation { IfSome result (λ room. self.now.journal.generation < 2 ^ 64 - 1) }
-        ensures due { result ≡ None → (is_many (self.now.journal.end - self.now.journal.start) (self.now.journal.start - 21) bytes ≡ false) ⊎ (self.now.journal.generation ≡ 2 ^ 64 - 1) }
-    {
-        if !self.has_many_records(bytes) || self.journal.generation() == u64::MAX {
-            return None;
-        }
-        Some(self.machine.image_bound(step))
-    }
-
-    // Whether the records, with one more of so many bytes, take more than 1 MiB and than twice the snapshot.
-    fn has_many_records(&self, bytes: usize) -> bool
-        ensures { result ≡ is_many (self.now.journal.end - self.now.journal.start) (self.now.journal.start - 21) bytes }
-    {
-        let records = u128::from(self.journal.record_bytes()) + bytes as u128 + 5;
-        let most = 2 * u128::from(self.journal.snapshot_bytes());
-        records > most.max(FEW_RECORD_BYTES)
-    }
-
-    // Puts a snapshot of the machine in place of all records.
-    fn snapshot(&mut self) -> Result<(), DiskFault>
+    // Puts a snapshot in place of the records where these are many, or puts it off.
+    fn shorten(&mut self, alloc: Global) -> Result<(), DiskFault>
         requires ready { IsTrue (is_ready self.old.journal.pending) }
-        requires room { length (M.image_of (M.state self.old.machine)) + 13 ≤ self.old.journal.room }
-        requires bound { length (M.image_of (M.state self.old.machine)) ≤ 4294967295 }
-        requires generation { self.old.journal.generation < 2 ^ 64 - 1 }
         ensures machine { self.new.machine ≡ self.old.machine }
-        ensures empty { OnOk result (self.new.journal.end ≡ self.new.journal.start) }
-        ensures calm { OnOk result ((D.disk_faults (first_disk self.new.journal) ≡ D.disk_faults (first_disk self.old.journal)) × (D.disk_faults (second_disk self.new.journal) ≡ D.disk_faults (second_disk self.old.journal))) }
+        ensures few { OnOk result (HasFew self.new.journal ⊎ Rose self.old.put_off self.new.put_off) }
         ensures ready { OnOk result (IsTrue (is_ready self.new.journal.pending)) }
         ensures adds { D.premise → Adds D.moment D.left_since self.old.journal self.new.journal
             (λ second c. LiesBeside (stored D.seen self.old.journal) second c ⊎ Shows (snapshot_of (M.image_of (M.state self.old.machine)) self.old.journal) second c) }
+        ensures calm { OnOk result ((D.disk_faults (first_disk self.new.journal) ≡ D.disk_faults (first_disk self.old.journal)) × (D.disk_faults (second_disk self.new.journal) ≡ D.disk_faults (second_disk self.old.journal))) }
         ensures cause { OnErr result (Rose (D.disk_faults (first_disk self.old.journal)) (D.disk_faults (first_disk self.new.journal)) ⊎ Rose (D.disk_faults (second_disk self.old.journal)) (D.disk_faults (second_disk self.new.journal))) }
     {
-        let mut image = self.journal.begin_image();
-        let _written = self.machine.write_image(&mut image);
-        self.journal.snapshot(image)
+        self.known();
+        if !self.has_many_records() {
+            return Ok(());
+        }
+        match put_snapshot(alloc, &self.machine, &mut self.journal) {
+            Ok(()) => Ok(()),
+            Err(StepFault::Disk) => Err(DiskFault),
+            Err(StepFault::Memory) => {
+                self.put_off = self.put_off.saturating_add(1);
+                Ok(())
+            }
+        }
+    }
+
+    // Whether the records take more than 1 MiB and than twice the snapshot.
+    fn has_many_records(&self) -> bool
+        ensures { result ≡ is_many (self.now.journal.end - self.now.journal.start) (self.now.journal.start - 21) }
+    {
+        let records = u128::from(self.journal.record_bytes());
+        let most = 2 * u128::from(self.journal.snapshot_bytes());
+        records > most.max(FEW_RECORD_BYTES)
     }
 }
 
@@ -273,6 +294,7 @@ impl<M: Machine + Drop, D: Disk> Keep<M, D> {
             machine: _,
             journal,
             unsure: _,
+            put_off: _,
         } = self;
         journal.into_disks()
     }
@@ -283,6 +305,7 @@ impl<M: Machine> Keep<M, MemoryDisk> {
     pub fn fail_at(&mut self, call: Option<u64>)
         ensures machine { self.new.machine ≡ self.old.machine }
         ensures unsure { self.new.unsure ≡ self.old.unsure }
+        ensures put_off { self.new.put_off ≡ self.old.put_off }
         ensures counting { self.new.journal.counting ≡ armed self.old.journal.counting (armed_number call) }
         ensures other { self.new.journal.other ≡ armed self.old.journal.other (armed_number call) }
     {
@@ -335,7 +358,8 @@ fn append<S: Drop, D: Disk>(
 fn settle<M: Machine>(machine: &mut M, step: M::Step, stood: bool)
     requires follows { M.follows (M.state machine.old) step }
     requires room { M.has_room machine.old step }
-    ensures { M.state machine.new ≡ caught M.after (M.state machine.old) (Some step) stood }
+    ensures state { M.state machine.new ≡ caught M.after (M.state machine.old) (Some step) stood }
+    ensures fixed { M.fixed (M.state machine.new) ≡ M.fixed (M.state machine.old) }
 {
     if stood {
         machine.take(step);

@@ -6,3 +6,4 @@ pub mod fault;
 pub mod keep;
 pub mod machine;
 mod open;
+mod snapshot;

@@ -1,6 +1,6 @@
 //! A machine whose steps can be kept.
 ghost use Rattle.machine_keep.specs.declared.machine.RestoreFault.TheVariants.{NotARecord};
-ghost use Rattle.std.specs.Prelude.{◌≡◌, ◌+◌, ◌<◌, ◌≤◌, Err, ◌++◌, ◌∷◌, [], ℕ, List, Option, IfOk, IfSome, IsOk, OnOk, length};
+ghost use Rattle.std.specs.Prelude.{◌≡◌, ◌⊎◌, ◌<◌, ◌≤◌, Err, ◌++◌, ◌∷◌, [], ℕ, List, Option, IfOk, IfSome, IsFalse, IsTrue, length};
 
 use host_journal::image::SnapshotImage;
 use ps_time::items::Items;
@@ -15,6 +15,24 @@ pub enum RestoreFault {
     Memory,
 }
 
+impl From<Memory> for RestoreFault {
+    ghost use Rattle.machine_keep.specs.declared.machine.RestoreFault.TheVariants.{Memory as no_memory};
+    ghost use Rattle.std.specs.Prelude.{◌≡◌};
+
+    ghost from_gives = { λ _ fault. fault ≡ no_memory };
+
+    fn from(_memory: Memory) -> RestoreFault {
+        RestoreFault::Memory
+    }
+}
+
+/// A machine for which a list stands, and whether the list is in the earlier form, which is only read.
+#[derive(Drop)]
+pub struct Restored<M> {
+    pub machine: M,
+    pub is_earlier: bool,
+}
+
 /// What a call comes to: its reply, and the step that it makes, if there is one.
 #[derive(Drop)]
 pub struct Decided<R, S> {
@@ -24,7 +42,7 @@ pub struct Decided<R, S> {
 
 /// A state that changes in steps, each of which can be written as a record.
 pub trait Machine: Sized {
-    /// What a machine is made of beside its list.
+    /// What a machine is made of beside its list, and what may be set again later, as a configuration.
     type Origin: Drop;
 
     /// What is asked.
@@ -41,11 +59,18 @@ pub trait Machine: Sized {
 
     ghost state: { Self → State };
 
-    // The list, a snapshot and then records, stands for the state.
+    // What every step leaves as it is, and what of it an origin brings.
+    ghost Fixed: { Type 0 };
+
+    ghost fixed: { State → Fixed };
+
+    ghost fixed_of: { Self.Origin → Fixed };
+
+    // The list, a snapshot and then records, stands for the state: in the form that is written, and in the earlier
+    // one, which is only read.
     ghost stands_for: { List (List ℕ) → State → Type 0 };
 
-    // The state is one of a machine that was made of this.
-    ghost comes_from: { Self.Origin → State → Type 0 };
+    ghost stood_for: { List (List ℕ) → State → Type 0 };
 
     // The bytes of a state's snapshot, and of a step's record.
     ghost image_of: { State → List ℕ };
@@ -53,7 +78,12 @@ pub trait Machine: Sized {
     ghost record_of: { Self.Step → List ℕ };
 
     // The call may be made.
-    ghost may_ask: { Self.Call → Type 0 };
+    ghost may_ask: { Fixed → Self.Call → Type 0 };
+
+    // The second may be set where the first stands, and the state with it.
+    ghost may_set: { Fixed → Fixed → Type 0 };
+
+    ghost with_fixed: { Fixed → State → State };
 
     // What a call is answered in a state, and the step that it makes.
     ghost answers: { State → Self.Call → Self.Reply → Option Self.Step → Type 0 };
@@ -73,10 +103,18 @@ pub trait Machine: Sized {
         alloc: Global,
         origin: Self::Origin,
         list: &[Items<u8>],
-    ) -> Result<Self, RestoreFault>
-        ensures stands { IfOk result (λ machine. stands_for list.now (state machine)) }
-        ensures origin { IfOk result (λ machine. comes_from origin (state machine)) }
-        ensures refused { (index : ℕ) → result ≡ Err (NotARecord index) → index < length list.now × ((s : State) → stands_for list.now s → ⊥) };
+    ) -> Result<Restored<Self>, RestoreFault>
+        ensures stands { IfOk result (λ r. IsFalse r.is_earlier → stands_for list.now (state r.machine)) }
+        ensures stood { IfOk result (λ r. IsTrue r.is_earlier → stood_for list.now (state r.machine)) }
+        ensures fixed { IfOk result (λ r. fixed (state r.machine) ≡ fixed_of origin) }
+        ensures refused { (index : ℕ) → result ≡ Err (NotARecord index) → index < length list.now
+            × ((s : State) → fixed s ≡ fixed_of origin → stands_for list.now s ⊎ stood_for list.now s → ⊥) };
+
+    /// Sets an origin again. Takes no memory.
+    fn configure(&mut self, origin: Self::Origin)
+        requires { may_set (fixed (state self.old)) (fixed_of origin) }
+        ensures state { state self.new ≡ with_fixed (fixed_of origin) (state self.old) }
+        ensures room { (step : Self.Step) → has_room self.old step → has_room self.new step };
 
     /// What the call comes to. Makes room for its step, and takes nothing in. A record has at most 8,388,608 bytes.
     fn decide(
@@ -84,7 +122,7 @@ pub trait Machine: Sized {
         alloc: Global,
         call: Self::Call,
     ) -> Result<Decided<Self::Reply, Self::Step>, Memory>
-        requires { may_ask call }
+        requires { may_ask (fixed (state self.old)) call }
         ensures same { state self.new ≡ state self.old }
         ensures answer { IfOk result (λ d. answers (state self.old) call d.reply d.step) }
         ensures follows { IfOk result (λ d. IfSome d.step (λ step. follows (state self.old) step)) }
@@ -101,21 +139,25 @@ pub trait Machine: Sized {
     fn write_record(&self, alloc: Global, step: &Self::Step) -> Result<Vec<u8>, Memory>
         ensures { IfOk result (λ bytes. bytes.items ≡ record_of step.now) };
 
-    /// At least as many bytes as the snapshot of the state after the step has; no snapshot has more than 2^32 - 1.
-    fn image_bound(&self, step: &Self::Step) -> usize
-        requires { follows (state self.now) step.now }
-        ensures enough { length (image_of (after (state self.now) step.now)) ≤ result }
-        ensures bound { result ≤ 4294967295 };
+    /// About how many bytes the snapshot of the state has. So much room is made before it is written; no more is
+    /// promised.
+    fn image_guess(&self) -> usize;
 
-    /// Writes a snapshot of the state. Takes no memory where the image has room for it.
-    fn write_image(&self, snapshot: &mut SnapshotImage) -> Result<(), Memory>
-        ensures written { OnOk result (snapshot.new.bytes ≡ snapshot.old.bytes ++ image_of (state self.now)) }
-        ensures fits { length snapshot.old.bytes + length (image_of (state self.now)) + 12 ≤ snapshot.old.room → IsOk result }
-        ensures room { snapshot.old.room ≤ snapshot.new.room };
+    /// Writes a snapshot of the state behind what an image holds.
+    fn write_image(&self, alloc: Global, image: SnapshotImage) -> Result<SnapshotImage, Memory>
+        ensures { IfOk result (λ made. made.bytes ≡ image.bytes ++ image_of (state self.now)) };
 
     // A snapshot alone stands for its state.
     ghost stands_alone: { (s : State) → stands_for (image_of s ∷ []) s };
 
     // With the record of a step behind it a list stands for the state after the step.
     ghost stands_more: { (list : List (List ℕ)) (s : State) (step : Self.Step) → stands_for list s → follows s step → stands_for (list ++ record_of step ∷ []) (after s step) };
+
+    // A step leaves what is fixed.
+    ghost fixed_after: { (s : State) (step : Self.Step) → follows s step → fixed (after s step) ≡ fixed s };
+
+    // A list stands for a state, and a step may follow it, also with what may be set.
+    ghost stands_set: { (list : List (List ℕ)) (f : Fixed) (s : State) → may_set (fixed s) f → stands_for list s → stands_for list (with_fixed f s) };
+
+    ghost follows_set: { (f : Fixed) (s : State) (step : Self.Step) → may_set (fixed s) f → follows s step → follows (with_fixed f s) step };
 }

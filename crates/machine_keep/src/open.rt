@@ -1,14 +1,18 @@
 //! Opening a machine that is kept.
-ghost use Rattle.std.specs.Prelude.{◌≡◌, ◌⊎◌, ◌+◌, ◌<◌, ◌^◌, ℕ, IsTrue, IfOk, IfErr, length, take};
+ghost use Rattle.std.specs.Prelude.{◌≡◌, ◌⊎◌, ◌+◌, ◌<◌, ◌^◌, ℕ, List, IsFalse, IsTrue, IfOk, IfErr, length, take};
 ghost use Rattle.ps_ports.specs.Causes.{Rose};
 ghost use Rattle.host_journal.specs.Calls.{IsRead};
 ghost use Rattle.host_journal.specs.Format.{record_bytes};
+ghost use Rattle.host_journal.specs.Moments.{Adds, LeftIn};
 ghost use Rattle.host_journal.specs.Pair.{pair_of};
 ghost use Rattle.host_journal.specs.State.{is_ready, stored, opened_as, EachImage, first_disk, second_disk};
-ghost use Rattle.machine_keep.specs.Kept.{StandsFor};
+ghost use Rattle.machine_keep.specs.declared.fault.StepFault.TheVariants.{Disk as disk_fault, Memory as no_memory};
+ghost use Rattle.machine_keep.specs.Kept.{EachFrom, IsMade, IsMigrating, StandsEither, StandsFor};
 
+use crate::fault::StepFault;
 use crate::keep::Keep;
-use crate::machine::{Machine, RestoreFault};
+use crate::machine::{Machine, RestoreFault, Restored};
+use crate::snapshot::put_snapshot;
 use host_journal::fault::{OpenFault, OpenReason};
 use host_journal::journal::Journal;
 use host_journal::reading::{DiskPlace, item_place};
@@ -16,25 +20,33 @@ use ps_disks::disk::Disk;
 use ps_time::items::Items;
 use std::alloc::Global;
 
-impl<M: Machine, D: Disk> Keep<M, D> {
-    /// The machine for which two disks stand. Makes sure of each disk before it reads it, and writes nothing.
+impl<M: Machine + Drop, D: Disk> Keep<M, D> {
+    /// The machine for which two disks stand. Makes sure of each disk before it reads it. Where their list is in the earlier
+    /// form, a snapshot in the form that is written takes its place; else nothing is written. Where there is no memory for that
+    /// snapshot, it has too many bytes, or the journal is in its last generation, the answer is `OpenReason::Memory`.
     pub fn open(
         alloc: Global,
         origin: M::Origin,
         first: D,
         second: D,
     ) -> Result<Keep<M, D>, OpenFault<D>>
-        ensures stands { D.premise → IfOk result (λ keep. StandsFor M.stands_for (M.state keep.machine) (pair_of (D.seen first) (D.seen second))) }
-        ensures origin { IfOk result (λ keep. M.comes_from origin (M.state keep.machine)) }
+        ensures stands { D.premise → IfOk result (λ keep. StandsEither M.stands_for M.stood_for (M.state keep.machine) (pair_of (D.seen first) (D.seen second))) }
+        ensures fixed { IfOk result (λ keep. M.fixed (M.state keep.machine) ≡ M.fixed_of origin) }
         ensures ready { IfOk result (λ keep. IsTrue (is_ready keep.journal.pending)) }
         ensures durable { D.premise → IfOk result (λ keep. EachImage D.may_leave keep.journal (StandsFor M.stands_for (M.state keep.machine))) }
-        // Until it is done, and where it isn't, each image is one that a crash could have left before.
-        ensures read_first { D.premise → IfOk result (λ keep. IsRead D.seen D.may_leave D.moment D.left_since first (first_disk keep.journal)) }
-        ensures read_second { D.premise → IfOk result (λ keep. IsRead D.seen D.may_leave D.moment D.left_since second (second_disk keep.journal)) }
-        ensures refused_first { D.premise → IfErr result (λ f. IsRead D.seen D.may_leave D.moment D.left_since first f.first) }
-        ensures refused_second { D.premise → IfErr result (λ f. IsRead D.seen D.may_leave D.moment D.left_since second f.second) }
-        // Only where the disks stand for no state.
-        ensures nothing { D.premise → IfErr result (λ f. (place : _) → f.reason ≡ OpenReason.NotAJournal place → (s : M.State) → StandsFor M.stands_for s (pair_of (D.seen first) (D.seen second)) → ⊥) }
+        // At every moment since the disks were handed in.
+        ensures any_moment { D.premise → IfOk result (λ keep. EachFrom D.may_leave D.moment D.left_since first second (first_disk keep.journal) (second_disk keep.journal)
+            (StandsEither M.stands_for M.stood_for (M.state keep.machine))) }
+        ensures any_moment_err { D.premise → IfErr result (λ f. EachFrom D.may_leave D.moment D.left_since first second f.first f.second
+            (λ pair. (s : M.State) × (StandsEither M.stands_for M.stood_for s (pair_of (D.seen first) (D.seen second)) × StandsEither M.stands_for M.stood_for s pair))) }
+        // And what a crash leaves then: of both what it could have left before, or what stands for a state for which they stood.
+        ensures left { D.premise → IfErr result (λ f. (c d : List ℕ) → D.may_leave f.first c → D.may_leave f.second d → (D.may_leave first c × D.may_leave second d)
+            ⊎ ((s : M.State) × (StandsEither M.stands_for M.stood_for s (pair_of (D.seen first) (D.seen second)) × StandsEither M.stands_for M.stood_for s (pair_of c d)))) }
+        // Where no fault is told, a refusal wrote nothing.
+        ensures refused_first { D.premise → IfErr result (λ f. (f.reason ≡ OpenReason.DiskFault → ⊥) → IsRead D.seen D.may_leave D.moment D.left_since first f.first) }
+        ensures refused_second { D.premise → IfErr result (λ f. (f.reason ≡ OpenReason.DiskFault → ⊥) → IsRead D.seen D.may_leave D.moment D.left_since second f.second) }
+        // Only where the disks stand for no state of that origin.
+        ensures nothing { D.premise → IfErr result (λ f. (place : _) → f.reason ≡ OpenReason.NotAJournal place → (s : M.State) → M.fixed s ≡ M.fixed_of origin → StandsEither M.stands_for M.stood_for s (pair_of (D.seen first) (D.seen second)) → ⊥) }
         ensures fault { IfErr result (λ f. f.reason ≡ OpenReason.DiskFault → Rose (D.disk_faults first) (D.disk_faults f.first) ⊎ Rose (D.disk_faults second) (D.disk_faults f.second)) }
     {
         match Journal::open(alloc, first, second) {
@@ -56,16 +68,19 @@ impl<M: Machine, D: Disk> Keep<M, D> {
         requires ready { IsTrue (is_ready journal.pending) }
         requires list { D.premise → stored D.seen journal ≡ opened_as journal list }
         requires places { (n : ℕ) → n < length list → 21 + record_bytes (take n list) < 2 ^ 64 }
-        ensures journal { IfOk result (λ keep. keep.journal ≡ journal) }
-        ensures origin { IfOk result (λ keep. M.comes_from origin (M.state keep.machine)) }
-        ensures stands { IfOk result (λ keep. M.stands_for list (M.state keep.machine)) }
-        ensures first { IfErr result (λ f. f.first ≡ first_disk journal) }
-        ensures second { IfErr result (λ f. f.second ≡ second_disk journal) }
-        ensures nothing { D.premise → IfErr result (λ f. (place : _) → f.reason ≡ OpenReason.NotAJournal place → (s : M.State) → StandsFor M.stands_for s (stored D.seen journal) → ⊥) }
-        ensures no_fault { IfErr result (λ f. f.reason ≡ OpenReason.DiskFault → ⊥) }
+        ensures fixed { IfOk result (λ keep. M.fixed (M.state keep.machine) ≡ M.fixed_of origin) }
+        ensures stands { D.premise → IfOk result (λ keep. StandsEither M.stands_for M.stood_for (M.state keep.machine) (stored D.seen journal)) }
+        ensures ready { IfOk result (λ keep. IsTrue (is_ready keep.journal.pending)) }
+        ensures durable { D.premise → IfOk result (λ keep. EachImage D.may_leave keep.journal (StandsFor M.stands_for (M.state keep.machine))) }
+        ensures adds { D.premise → IfOk result (λ keep. Adds D.moment D.left_since journal keep.journal
+            (LeftIn (stored D.seen journal) (IsMade M.stands_for (stored D.seen journal) (M.state keep.machine)))) }
+        ensures refused { IfErr result (λ f. (f.reason ≡ OpenReason.DiskFault → ⊥) → (f.first ≡ first_disk journal) × (f.second ≡ second_disk journal)) }
+        ensures left { D.premise → IfErr result (λ f. ((f.first ≡ first_disk journal) × (f.second ≡ second_disk journal)) ⊎ IsMigrating D.seen D.moment D.left_since M.stands_for M.stood_for journal f.first f.second) }
+        ensures nothing { D.premise → IfErr result (λ f. (place : _) → f.reason ≡ OpenReason.NotAJournal place → (s : M.State) → M.fixed s ≡ M.fixed_of origin → StandsEither M.stands_for M.stood_for s (stored D.seen journal) → ⊥) }
+        ensures fault { IfErr result (λ f. f.reason ≡ OpenReason.DiskFault → Rose (D.disk_faults (first_disk journal)) (D.disk_faults f.first) ⊎ Rose (D.disk_faults (second_disk journal)) (D.disk_faults f.second)) }
     {
         match M::restore(alloc, origin, list.as_slice()) {
-            Ok(machine) => Ok(Keep::over(machine, journal)),
+            Ok(restored) => Keep::of_restored(alloc, journal, restored),
             Err(RestoreFault::NotARecord(index)) => {
                 let at = DiskPlace {
                     disk: journal.counting_disk(),
@@ -75,6 +90,53 @@ impl<M: Machine, D: Disk> Keep<M, D> {
             }
             Err(RestoreFault::Memory) => Err(refused(journal, OpenReason::Memory)),
         }
+    }
+
+    // A machine over its journal, which gets a snapshot of it where its list is in the earlier form.
+    fn of_restored(
+        alloc: Global,
+        journal: Journal<D>,
+        restored: Restored<M>,
+    ) -> Result<Keep<M, D>, OpenFault<D>>
+        requires ready { IsTrue (is_ready journal.pending) }
+        requires now { D.premise → IsFalse restored.is_earlier → StandsFor M.stands_for (M.state restored.machine) (stored D.seen journal) }
+        requires earlier { D.premise → IsTrue restored.is_earlier → StandsFor M.stood_for (M.state restored.machine) (stored D.seen journal) }
+        ensures machine { IfOk result (λ keep. keep.machine ≡ restored.machine) }
+        ensures ready { IfOk result (λ keep. IsTrue (is_ready keep.journal.pending)) }
+        ensures durable { D.premise → IfOk result (λ keep. EachImage D.may_leave keep.journal (StandsFor M.stands_for (M.state keep.machine))) }
+        ensures adds { D.premise → IfOk result (λ keep. Adds D.moment D.left_since journal keep.journal
+            (LeftIn (stored D.seen journal) (IsMade M.stands_for (stored D.seen journal) (M.state keep.machine)))) }
+        ensures refused { IfErr result (λ f. (f.reason ≡ OpenReason.DiskFault → ⊥) → (f.first ≡ first_disk journal) × (f.second ≡ second_disk journal)) }
+        ensures left { D.premise → IfErr result (λ f. IsMigrating D.seen D.moment D.left_since M.stands_for M.stood_for journal f.first f.second) }
+        ensures no_place { IfErr result (λ f. (place : _) → f.reason ≡ OpenReason.NotAJournal place → ⊥) }
+        ensures fault { IfErr result (λ f. f.reason ≡ OpenReason.DiskFault → Rose (D.disk_faults (first_disk journal)) (D.disk_faults f.first) ⊎ Rose (D.disk_faults (second_disk journal)) (D.disk_faults f.second)) }
+    {
+        let Restored {
+            machine,
+            is_earlier,
+        } = restored;
+        let mut journal = journal;
+        journal.known();
+        if is_earlier {
+            if let Err(fault) = put_snapshot(alloc, &machine, &mut journal) {
+                drop(machine);
+                return Err(refused(journal, reason_of(fault)));
+            }
+        }
+        let keep = Keep::over(machine, journal);
+        keep.known();
+        Ok(keep)
+    }
+}
+
+fn reason_of(fault: StepFault) -> OpenReason
+    ensures disk { result ≡ OpenReason.DiskFault → fault ≡ disk_fault }
+    ensures memory { (result ≡ OpenReason.DiskFault → ⊥) → fault ≡ no_memory }
+    ensures no_place { (place : _) → result ≡ OpenReason.NotAJournal place → ⊥ }
+{
+    match fault {
+        StepFault::Disk => OpenReason::DiskFault,
+        StepFault::Memory => OpenReason::Memory,
     }
 }
 

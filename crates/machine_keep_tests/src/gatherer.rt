@@ -1,44 +1,57 @@
 //! A machine that gathers bytes.
-ghost use Rattle.std.specs.Prelude.{◌≡◌, ◌<◌, ◌++◌, IfOk, IsSome, OnOk, length};
-ghost use Rattle.machine_keep_tests.specs.Gathered.{joined, unless_full};
+ghost use Rattle.std.specs.Prelude.{◌≡◌, ◌≤◌, ◌++◌, IfOk, IfSome, OnOk, length};
+ghost use Rattle.machine_keep_tests.specs.Gathered.{front_of, joined, mark_of, room_in, unless_full};
 
 use host_journal::image::SnapshotImage;
-use machine_keep::machine::{Decided, Machine, RestoreFault};
+use machine_keep::machine::{Decided, Machine, RestoreFault, Restored};
 use ps_time::items::Items;
 use ps_time::memory::Memory;
 use std::alloc::Global;
 
-/// How many bytes are gathered at most.
-pub const MOST_BYTES: usize = 1_000;
+/// How many bytes are gathered at once, at most.
+pub const MOST_AT_ONCE: usize = 65_536;
 
-/// The bytes that were gathered. A byte is asked to be gathered, or none; the answer is how many there were. With 1,000 bytes it is full.
+/// The first byte of a snapshot that is written, and that of an earlier one.
+const WRITTEN: u8 = 2;
+
+const EARLIER: u8 = 1;
+
+/// The bytes that were gathered, and how many there may be, which is what it is made with. Bytes are asked to be gathered, or
+/// none; the answer is how many there were. What has no place isn't gathered.
 #[derive(Drop)]
 pub struct Gatherer {
     pub bytes: Vec<u8>,
+    pub most: usize,
 }
 
 impl Gatherer {
-    // With all the bytes of a list.
-    fn of_list(alloc: Global, list: &[Items<u8>]) -> Result<Gatherer, Memory>
-        ensures { IfOk result (λ gatherer. gatherer.bytes.items ≡ joined list.now) }
+    // With the bytes of a snapshot behind its mark, and of records.
+    fn of_list(
+        alloc: Global,
+        most: usize,
+        front: &[u8],
+        records: &[Items<u8>],
+    ) -> Result<Gatherer, Memory>
+        ensures bytes { IfOk result (λ gatherer. gatherer.bytes.items ≡ front.now ++ joined records.now) }
+        ensures most { IfOk result (λ gatherer. gatherer.most ≡ most) }
     {
         let mut bytes = Vec::new(alloc);
-        put_all(&mut bytes, list)?;
-        Ok(Gatherer { bytes })
+        bytes.extend_from_slice(front)?;
+        put_all(&mut bytes, records)?;
+        Ok(Gatherer { bytes, most })
     }
-}
 
-impl Gatherer {
-    // A byte that is asked for, where there is a place for it.
-    fn wanted(&self, call: Option<u8>) -> Option<u8>
-        ensures step { result ≡ unless_full self.now.bytes.items call }
-        ensures place { IsSome result → length self.now.bytes.items < 1000 }
+    // The bytes that are asked for, where there is a place for them.
+    fn wanted(&self, call: Option<Items<u8>>) -> Option<Items<u8>>
+        ensures step { result ≡ unless_full (record { bytes = self.now.bytes.items; most = self.now.most }) call }
+        ensures place { IfSome result (λ chunk. length chunk ≤ room_in (record { bytes = self.now.bytes.items; most = self.now.most })) }
     {
-        if self.bytes.len() < MOST_BYTES {
-            call
-        } else {
-            None
+        let chunk = call?;
+        if chunk.len() > self.most.saturating_sub(self.bytes.len()).min(MOST_AT_ONCE) {
+            drop(chunk);
+            return None;
         }
+        Some(chunk)
     }
 }
 
@@ -52,75 +65,126 @@ fn put_all(bytes: &mut Vec<u8>, list: &[Items<u8>]) -> Result<(), Memory>
     Ok(())
 }
 
+// Its mark, and what lies behind it.
+fn parts_of(snapshot: &[u8]) -> (u8, &[u8])
+    ensures mark { result.0 ≡ mark_of snapshot.now }
+    ensures front { result.1.now ≡ front_of snapshot.now }
+{
+    match snapshot {
+        [] => (WRITTEN, snapshot),
+        [mark, front @ ..] => (*mark, front),
+    }
+}
+
 impl Machine for Gatherer {
-    ghost use Rattle.std.specs.Prelude.{◌≡◌, ◌∷◌, ◌++◌, [], ℕ, List, length, vec_len, vec_capacity, ◌<◌};
-    ghost use Rattle.machine_keep_tests.specs.Gathered.{joined, unless_full, with_byte};
-    ghost use Rattle.machine_keep_tests.specs.JoinLemmas.{alone, with_record};
+    ghost use Rattle.std.specs.Prelude.{◌≡◌, ◌≤◌, ◌+◌, ◌∷◌, ℕ, length, refl, vec_len, vec_capacity};
+    ghost use Rattle.machine_keep_tests.specs.Gathered.{Gathered, Holds, room_in, unless_full, with_chunk};
+    ghost use Rattle.machine_keep_tests.specs.JoinLemmas.{alone, with_most, with_record};
 
-    type Origin = ();
+    type Origin = usize;
 
-    type Call = Option<u8>;
+    type Call = Option<Items<u8>>;
 
     type Reply = usize;
 
-    type Step = u8;
+    type Step = Items<u8>;
 
-    ghost State = { List ℕ };
+    ghost State = { Gathered };
 
-    ghost state = { λ g. g.bytes.items };
+    ghost state = { λ g. record { bytes = g.bytes.items; most = g.most } };
 
-    ghost stands_for = { λ list bytes. joined list ≡ bytes };
+    ghost Fixed = { ℕ };
 
-    ghost comes_from = { λ origin bytes. Unit {0} };
+    ghost fixed = { λ s. s.most };
 
-    ghost image_of = { λ bytes. bytes };
+    ghost fixed_of = { λ origin. origin };
 
-    ghost record_of = { λ byte. byte ∷ [] };
+    ghost stands_for = { λ list s. Holds 2 list s.bytes };
 
-    ghost may_ask = { λ call. Unit {0} };
+    ghost stood_for = { λ list s. Holds 1 list s.bytes };
 
-    ghost answers = { λ bytes call reply step. (reply ≡ length bytes) × (step ≡ unless_full bytes call) };
+    ghost image_of = { λ s. 2 ∷ s.bytes };
 
-    ghost follows = { λ bytes byte. length bytes < 1000 };
+    ghost record_of = { λ chunk. chunk };
 
-    ghost after = { with_byte };
+    ghost may_ask = { λ most call. Unit {0} };
 
-    ghost has_room = { λ g byte. vec_len g.bytes < vec_capacity g.bytes };
+    // There may be more from then on.
+    ghost may_set = { λ from to. from ≤ to };
 
-    fn restore(alloc: Global, _origin: (), list: &[Items<u8>]) -> Result<Gatherer, RestoreFault> {
-        match Gatherer::of_list(alloc, list) {
-            Ok(gatherer) => Ok(gatherer),
-            Err(Memory) => Err(RestoreFault::Memory),
+    ghost with_fixed = { λ most s. record { bytes = s.bytes; most = most } };
+
+    ghost answers = { λ s call reply step. (reply ≡ length s.bytes) × (step ≡ unless_full s call) };
+
+    ghost follows = { λ s chunk. length chunk ≤ room_in s };
+
+    ghost after = { with_chunk };
+
+    ghost has_room = { λ g chunk. vec_len g.bytes + length chunk ≤ vec_capacity g.bytes };
+
+    fn restore(
+        alloc: Global,
+        origin: usize,
+        list: &[Items<u8>],
+    ) -> Result<Restored<Gatherer>, RestoreFault> {
+        let Some((snapshot, records)) = list.split_first() else {
+            return Err(RestoreFault::Memory);
+        };
+        let (mark, front) = parts_of(snapshot.as_slice());
+        if mark != WRITTEN && mark != EARLIER {
+            return Err(RestoreFault::NotARecord(0));
         }
+        let machine = Gatherer::of_list(alloc, origin, front, records)?;
+        Ok(Restored {
+            machine,
+            is_earlier: mark == EARLIER,
+        })
     }
 
-    fn decide(&mut self, alloc: Global, call: Option<u8>) -> Result<Decided<usize, u8>, Memory> {
-        self.bytes.reserve(1)?;
+    fn configure(&mut self, origin: usize) {
+        self.most = origin;
+    }
+
+    fn decide(
+        &mut self,
+        alloc: Global,
+        call: Option<Items<u8>>,
+    ) -> Result<Decided<usize, Items<u8>>, Memory> {
+        self.bytes.reserve(MOST_AT_ONCE)?;
         Ok(Decided {
             reply: self.bytes.len(),
             step: self.wanted(call),
         })
     }
 
-    fn take(&mut self, step: u8) {
-        let _pushed = self.bytes.push(step);
+    fn take(&mut self, step: Items<u8>) {
+        let _put = self.bytes.extend_from_slice(step.as_slice());
     }
 
-    fn write_record(&self, alloc: Global, step: &u8) -> Result<Vec<u8>, Memory> {
+    fn write_record(&self, alloc: Global, step: &Items<u8>) -> Result<Vec<u8>, Memory> {
         let mut bytes = Vec::new(alloc);
-        bytes.push(*step)?;
+        bytes.extend_from_slice(step.as_slice())?;
         Ok(bytes)
     }
 
-    fn image_bound(&self, _step: &u8) -> usize {
+    fn image_guess(&self) -> usize {
         self.bytes.len().saturating_add(1)
     }
 
-    fn write_image(&self, snapshot: &mut SnapshotImage) -> Result<(), Memory> {
-        snapshot.write(self.bytes.as_slice())
+    fn write_image(&self, _alloc: Global, image: SnapshotImage) -> Result<SnapshotImage, Memory> {
+        let mut buffer = image.into_buffer();
+        buffer.push(WRITTEN)?;
+        buffer.extend_from_slice(self.bytes.as_slice())?;
+        Ok(SnapshotImage::of_buffer(buffer))
     }
 
     ghost stands_alone = { alone };
 
-    ghost stands_more = { λ list bytes byte is can. with_record list bytes (byte ∷ []) is };
+    ghost stands_more = { λ list s chunk is can. with_record list s.bytes chunk is };
+
+    ghost fixed_after = { λ s chunk can. refl };
+
+    ghost stands_set = { λ list most s can is. is };
+
+    ghost follows_set = { with_most };
 }

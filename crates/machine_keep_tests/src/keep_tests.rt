@@ -1,33 +1,12 @@
 //! A gatherer, kept: what its steps do to the disks, what a fault leaves, what the disks stand for.
+ghost use Rattle.std.specs.Prelude.{◌≡◌, IfOk, IfSome};
 
-use crate::gatherer::Gatherer;
+use crate::disks::{Kept, Pair, asked, has_bytes, new_keep};
 use machine_keep::fault::StepFault;
-use machine_keep::keep::Keep;
 use ps_disks::image::Image;
-use ps_disks::memory_disk::MemoryDisk;
-use ps_disks::rack::{FRESH_FIRST, FRESH_SECOND};
 use ps_time::memory::Memory;
-use std::alloc::{AllocError, Global};
+use std::alloc::Global;
 use std::test::Fail;
-
-type Pair = (MemoryDisk, MemoryDisk);
-
-type Kept = Keep<Gatherer, MemoryDisk>;
-
-fn new_pair(alloc: Global) -> Result<Pair, AllocError> {
-    let first = MemoryDisk::new(alloc, FRESH_FIRST.to_vec(alloc)?, Vec::new(alloc));
-    let second = MemoryDisk::new(alloc, FRESH_SECOND.to_vec(alloc)?, Vec::new(alloc));
-    Ok((first, second))
-}
-
-// The gatherer for which the disks stand.
-fn opened(alloc: Global, pair: Pair) -> Option<Kept> {
-    Keep::open(alloc, (), pair.0, pair.1).ok()
-}
-
-fn new_keep(alloc: Global) -> Result<Option<Kept>, AllocError> {
-    Ok(opened(alloc, new_pair(alloc)?))
-}
 
 // A byte, or none; the answer, and how many calls the first disk has had since the step before.
 static STEPS: [(Option<u8>, usize, u64); 5] = [
@@ -38,23 +17,28 @@ static STEPS: [(Option<u8>, usize, u64); 5] = [
     (None, 3, 0),
 ];
 
-fn steps_so(alloc: Global, keep: &mut Kept, steps: &[(Option<u8>, usize, u64)]) -> bool {
-    for (call, reply, calls) in steps {
+fn steps_so(
+    alloc: Global,
+    keep: &mut Kept,
+    steps: &[(Option<u8>, usize, u64)],
+) -> Result<bool, Memory> {
+    for (byte, reply, calls) in steps {
         let before = keep.calls();
-        if keep.apply(alloc, *call) != Ok(*reply) {
-            return false;
+        let call = asked(alloc, *byte)?;
+        if keep.apply(alloc, call) != Ok(*reply) {
+            return Ok(false);
         }
         let now = keep.calls();
         if now.0.saturating_sub(before.0) != *calls || now.1 != before.1 {
-            return false;
+            return Ok(false);
         }
     }
-    true
+    Ok(true)
 }
 
 fn each_step(alloc: Global) -> Result<bool, Memory> {
-    match new_keep(alloc)? {
-        Some(mut keep) => Ok(steps_so(alloc, &mut keep, &STEPS)),
+    match new_keep(alloc, 1_000)? {
+        Some(mut keep) => steps_so(alloc, &mut keep, &STEPS),
         None => Ok(false),
     }
 }
@@ -68,27 +52,36 @@ fn a_change_makes_four_calls_and_a_reading_none(rt: HostRuntime) -> Result<(), F
 // The call of a disk that fails while a byte is gathered, and whether the byte is kept then.
 static FAULTS: [(u64, bool); 4] = [(1, false), (2, false), (3, false), (4, true)];
 
-// A byte is gathered while this call fails. The next step finds out whether it is kept, and so does an opening.
-fn is_found_out(alloc: Global, call: u64, kept: bool) -> Result<bool, Memory> {
-    let Some(mut keep) = new_keep(alloc)? else {
-        return Ok(false);
+// The bytes then.
+fn kept_bytes(kept: bool) -> &'static [u8] {
+    if kept { &[5] } else { &[] }
+}
+
+// A byte is gathered while this call fails, where there is a place for one.
+fn failed(alloc: Global, call: u64) -> Result<Option<Kept>, Memory>
+    ensures { IfOk result (λ o. IfSome o (λ keep. keep.machine.most ≡ 1)) }
+{
+    let Some(mut keep) = new_keep(alloc, 1)? else {
+        return Ok(None);
     };
     keep.fail_at(Some(call));
-    if keep.apply(alloc, Some(5)) != Err(StepFault::Disk) {
-        return Ok(false);
+    let five = asked(alloc, Some(5))?;
+    if keep.apply(alloc, five) != Err(StepFault::Disk) {
+        return Ok(None);
     }
     keep.fail_at(None);
+    Ok(Some(keep))
+}
+
+// The next step finds out whether it is kept, and so does an opening.
+fn is_found_out(alloc: Global, call: u64, kept: bool) -> Result<bool, Memory> {
+    let Some(mut keep) = failed(alloc, call)? else {
+        return Ok(false);
+    };
     if keep.apply(alloc, None) != Ok(usize::from(kept)) {
         return Ok(false);
     }
-    Ok(has_bytes(alloc, keep.into_disks(), usize::from(kept)))
-}
-
-fn has_bytes(alloc: Global, pair: Pair, count: usize) -> bool {
-    match opened(alloc, pair) {
-        Some(keep) => keep.machine().bytes.len() == count,
-        None => false,
-    }
+    Ok(has_bytes(alloc, keep.into_disks(), kept_bytes(kept)))
 }
 
 fn each_found_out(alloc: Global, faults: &[(u64, bool)]) -> Result<bool, Memory> {
@@ -106,16 +99,45 @@ fn the_step_after_a_fault_finds_out_what_is_kept(rt: HostRuntime) -> Result<(), 
     Ok(())
 }
 
+// After the fault there may be two bytes: so one more has a place, whether the first is kept or not.
+fn goes_on_with_more(alloc: Global, call: u64, kept: bool) -> Result<bool, Memory> {
+    let Some(mut keep) = failed(alloc, call)? else {
+        return Ok(false);
+    };
+    keep.configure(2);
+    let six = asked(alloc, Some(6))?;
+    if keep.apply(alloc, six) != Ok(usize::from(kept)) {
+        return Ok(false);
+    }
+    Ok(has_bytes(alloc, keep.into_disks(), if kept { &[5, 6] } else { &[6] }))
+}
+
+fn each_goes_on(alloc: Global, faults: &[(u64, bool)]) -> Result<bool, Memory> {
+    for (call, kept) in faults {
+        if !goes_on_with_more(alloc, *call, *kept)? {
+            return Ok(false);
+        }
+    }
+    Ok(true)
+}
+
+#[test]
+fn what_is_set_after_a_fault_holds_for_the_next_step(rt: HostRuntime) -> Result<(), Fail> {
+    assert!(rt; each_goes_on(rt.alloc(), &FAULTS)?);
+    Ok(())
+}
+
 // The calls of the first disk that a crash lets stand of those since a byte was gathered, and whether the byte is kept: from
 // the sync behind its open gate on.
 static CRASHES: [(u64, bool); 5] = [(0, false), (1, false), (2, false), (3, false), (4, true)];
 
 fn crashed_after(alloc: Global, calls: u64) -> Result<Option<Pair>, Memory> {
-    let Some(mut keep) = new_keep(alloc)? else {
+    let Some(mut keep) = new_keep(alloc, 1_000)? else {
         return Ok(None);
     };
     let before = keep.calls().0;
-    if keep.apply(alloc, Some(5)) != Ok(0) {
+    let five = asked(alloc, Some(5))?;
+    if keep.apply(alloc, five) != Ok(0) {
         return Ok(None);
     }
     let (first, second) = keep.into_disks();
@@ -128,7 +150,7 @@ fn each_crash(alloc: Global, crashes: &[(u64, bool)]) -> Result<bool, Memory> {
         let Some(pair) = crashed_after(alloc, *calls)? else {
             return Ok(false);
         };
-        if !has_bytes(alloc, pair, usize::from(*kept)) {
+        if !has_bytes(alloc, pair, kept_bytes(*kept)) {
             return Ok(false);
         }
     }

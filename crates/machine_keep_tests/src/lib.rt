@@ -1,6 +1,11 @@
-//! A machine that gathers bytes, and kept on disks in memory: its steps, faults of the disks, crashes.
+//! A machine that gathers bytes, and kept on disks in memory: its steps, faults of the disks, crashes, lists in an earlier form,
+//! snapshots that are put off.
 #![tactic(auto)]
 
+#[cfg(test)]
+mod disks;
 pub mod gatherer;
 #[cfg(test)]
 mod keep_tests;
+#[cfg(test)]
+mod snapshot_tests;

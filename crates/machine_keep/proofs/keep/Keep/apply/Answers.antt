@@ -33,9 +33,9 @@ returns-in_err-reply-clause-recovers g c p failed b d left left_too =
     ⊎_elim (λ before. inl before)
     (λ made. inr (subst (λ s. StandsAround stands g.M.Machine.answers g.M.Machine.after s c.args.call (pair_of b d)) same
     (around stands g.M.Machine.answers g.M.Machine.after now c.args.call c.in_ok-decided.decided.reply c.in_ok-decided.decided.step (stored g.D.Disk.seen c.self.inside.journal) stood answered (pair_of b d) made)))
-    (recovered g.D.Disk.seen g.D.Disk.may_leave g.D.Disk.moment g.D.Disk.left_since (λ disk bytes now. g.met.D.Disk.only_now disk bytes p now) c.args.self.now.journal c.self.inside.journal c.keep_decided.new.self.journal
+    (recovered g.D.Disk.seen g.D.Disk.may_leave g.D.Disk.moment g.D.Disk.left_since (λ disk bytes now. g.met.D.Disk.only_now disk bytes p now) (first_disk c.args.self.now.journal) (second_disk c.args.self.now.journal) c.self.inside.journal (first_disk c.keep_decided.new.self.journal) (second_disk c.keep_decided.new.self.journal)
     (stored g.D.Disk.seen c.self.inside.journal) (λ pair. (step : g.row.M-Step.Denot) × ((c.in_ok-decided.decided.step ≡ Some step) × IsMade stands (stored g.D.Disk.seen c.self.inside.journal) (g.M.Machine.after now step) pair))
-    (λ pair made. made.1.1.1) one two (c.keep_decided.ensures.adds p) b d left left_too)
+    (λ pair made. made.1.1.1) one two (c.keep_decided.ensures.adds p).first (c.keep_decided.ensures.adds p).second b d left left_too)
 
 pub returns-clause-recovers : goal.returns-clause-recovers
 returns-clause-recovers g c p failed b d left left_too =
@@ -50,6 +50,6 @@ returns-clause-recovers g c p failed b d left left_too =
     ⊎_elim (λ before. inl before)
     (λ made. inr (subst (λ s. StandsAround stands g.M.Machine.answers g.M.Machine.after s c.args.call (pair_of b d)) same
     (around stands g.M.Machine.answers g.M.Machine.after now c.args.call c.in_ok-decided.decided.reply c.in_ok-decided.decided.step (stored g.D.Disk.seen c.self.inside.journal) stood answered (pair_of b d) made)))
-    (recovered g.D.Disk.seen g.D.Disk.may_leave g.D.Disk.moment g.D.Disk.left_since (λ disk bytes now. g.met.D.Disk.only_now disk bytes p now) c.args.self.now.journal c.self.inside.journal c.keep_decided.new.self.journal
+    (recovered g.D.Disk.seen g.D.Disk.may_leave g.D.Disk.moment g.D.Disk.left_since (λ disk bytes now. g.met.D.Disk.only_now disk bytes p now) (first_disk c.args.self.now.journal) (second_disk c.args.self.now.journal) c.self.inside.journal (first_disk c.keep_decided.new.self.journal) (second_disk c.keep_decided.new.self.journal)
     (stored g.D.Disk.seen c.self.inside.journal) (λ pair. (step : g.row.M-Step.Denot) × ((c.in_ok-decided.decided.step ≡ Some step) × IsMade stands (stored g.D.Disk.seen c.self.inside.journal) (g.M.Machine.after now step) pair))
-    (λ pair made. made.1.1.1) one two (c.keep_decided.ensures.adds p) b d left left_too)
+    (λ pair made. made.1.1.1) one two (c.keep_decided.ensures.adds p).first (c.keep_decided.ensures.adds p).second b d left left_too)

@@ -1,10 +1,39 @@
 use Rattle.std.proofs.Common.{◌≡◌, IfErr, subst}
+use Rattle.std.proofs.lemmas.Result.{IfErr-weaker}
+use Rattle.host_journal.specs.Moments.{Adds, LeftIn}
+use Rattle.host_journal.specs.State.{first_disk, second_disk, stored}
 use Rattle.host_journal.specs.declared.fault.OpenReason.{OpenReason}
 use Rattle.host_journal.specs.declared.reading.DiskPlace.{DiskPlace}
-use Rattle.machine_keep.specs.Kept.{StandsFor}
+use Rattle.machine_keep.specs.Kept.{EachFrom, IsMade, StandsEither}
+use Rattle.machine_keep.proofs.KeepLemmas.{left_so, not_opened, ok_both, opened}
 use Rattle.machine_keep.proofs.keep.Keep.open.Goals as goal
 
 pub returns-in-Ok-clause-nothing : goal.returns-in-Ok-clause-nothing
 returns-in-Ok-clause-nothing g c p =
-    subst (λ pair. IfErr c.of_list.result (λ f. (place : DiskPlace) → f.reason ≡ OpenReason.NotAJournal place → (s : g.M.Machine.State) → StandsFor g.M.Machine.stands_for s pair → ⊥))
+    subst (λ pair. IfErr c.of_list.result (λ f. (place : DiskPlace) → f.reason ≡ OpenReason.NotAJournal place → (s : g.M.Machine.State) → g.M.Machine.fixed s ≡ g.M.Machine.fixed_of c.args.origin → StandsEither g.M.Machine.stands_for g.M.Machine.stood_for s pair → ⊥))
     (c.in-Ok.ensures.stored p) (c.of_list.ensures.nothing p)
+
+pub returns-in-Ok-clause-any_moment : goal.returns-in-Ok-clause-any_moment
+returns-in-Ok-clause-any_moment g c p =
+    let from = stored g.D.Disk.seen c.in-Ok.journal in
+    ok_both (λ keep. Adds g.D.Disk.moment g.D.Disk.left_since c.in-Ok.journal keep.journal (LeftIn from (IsMade g.M.Machine.stands_for from (g.M.Machine.state keep.machine))))
+    (λ keep. StandsEither g.M.Machine.stands_for g.M.Machine.stood_for (g.M.Machine.state keep.machine) from)
+    (λ keep. EachFrom g.D.Disk.may_leave g.D.Disk.moment g.D.Disk.left_since c.args.first c.args.second (first_disk keep.journal) (second_disk keep.journal) (StandsEither g.M.Machine.stands_for g.M.Machine.stood_for (g.M.Machine.state keep.machine)))
+    (λ keep adds either. opened g.D.Disk.seen g.D.Disk.may_leave g.D.Disk.moment g.D.Disk.left_since (λ disk bytes now. g.met.D.Disk.only_now disk bytes p now) g.M.Machine.stands_for g.M.Machine.stood_for
+    c.args.first c.args.second c.in-Ok.journal (c.in-Ok.ensures.read_first p) (c.in-Ok.ensures.read_second p) keep.journal (g.M.Machine.state keep.machine) adds either)
+    c.of_list.result (c.of_list.ensures.adds p) (c.of_list.ensures.stands p)
+
+pub returns-in-Ok-clause-any_moment_err : goal.returns-in-Ok-clause-any_moment_err
+returns-in-Ok-clause-any_moment_err g c p =
+    IfErr-weaker c.of_list.result _ _
+    (λ f left. not_opened g.D.Disk.seen g.D.Disk.may_leave g.D.Disk.moment g.D.Disk.left_since (λ disk bytes now. g.met.D.Disk.only_now disk bytes p now) g.M.Machine.stands_for g.M.Machine.stood_for
+    c.args.first c.args.second c.in-Ok.journal (c.in-Ok.ensures.read_first p) (c.in-Ok.ensures.read_second p) f.first f.second (c.in-Ok.ensures.stored p) left)
+    (c.of_list.ensures.left p)
+
+pub returns-in-Ok-clause-left : goal.returns-in-Ok-clause-left
+returns-in-Ok-clause-left g c p =
+    IfErr-weaker c.of_list.result _ _
+    (λ f left. left_so g.D.Disk.seen g.D.Disk.may_leave g.D.Disk.moment g.D.Disk.left_since (λ disk bytes now. g.met.D.Disk.only_now disk bytes p now) g.M.Machine.stands_for g.M.Machine.stood_for
+    c.args.first c.args.second c.in-Ok.journal (c.in-Ok.ensures.read_first p) (c.in-Ok.ensures.read_second p) (λ disk. g.met.D.Disk.reads_now disk p) (λ disk t bytes le now. g.met.D.Disk.counts_now disk t bytes p le now)
+    c.in-Ok.list f.first f.second (c.in-Ok.ensures.stored p) (c.in-Ok.ensures.list p) (c.in-Ok.ensures.durable p) left)
+    (c.of_list.ensures.left p)

@@ -1,0 +1,34 @@
+use Rattle.std.proofs.Common.{false, inr, refl, subst, sym, true}
+use Rattle.host_journal.specs.Moments.{Adds, AddsOnly, LeftIn}
+use Rattle.host_journal.specs.State.{first_disk, second_disk, stored}
+use Rattle.machine_keep.specs.Kept.{IsMade}
+use Rattle.machine_keep.proofs.KeepLemmas.{adds_none, made_alone}
+use Rattle.machine_keep.proofs.keep.Keep.of_restored.Goals.{then-is_earlier+in_default, else-is_earlier}
+use Rattle.machine_keep.proofs.keep.Keep.of_restored.Goals as goal
+
+pub returns-in-Err-clause-left : goal.returns-in-Err-clause-left
+returns-in-Err-clause-left g c p =
+    let from = stored g.D.Disk.seen c.args.journal in
+    let now = g.M.Machine.state c.args.restored.machine in
+    let made = made_alone g.D.Disk.seen g.D.Disk.moment g.D.Disk.left_since g.M.Machine.stands_for now (g.M.Machine.image_of now) c.args.journal c.put_snapshot.new.journal
+    (c.known.ensures.place p c.requires.ready) (g.met.M.Machine.stands_alone now) (c.put_snapshot.ensures.adds p) in
+    record {
+      state = now;
+      either = inr (c.requires.earlier p c.if-is_earlier.true);
+      adds_first = subst (λ disk. AddsOnly g.D.Disk.moment g.D.Disk.left_since (first_disk c.args.journal) disk (LeftIn from (IsMade g.M.Machine.stands_for from now) false)) (sym c.refused.ensures.first) made.first;
+      adds_second = subst (λ disk. AddsOnly g.D.Disk.moment g.D.Disk.left_since (second_disk c.args.journal) disk (LeftIn from (IsMade g.M.Machine.stands_for from now) true)) (sym c.refused.ensures.second) made.second;
+    }
+
+pub returns-clause-adds : goal.returns-clause-adds
+returns-clause-adds g c p =
+    let from = stored g.D.Disk.seen c.args.journal in
+    let now = g.M.Machine.state c.args.restored.machine in
+    subst (λ m. Adds g.D.Disk.moment g.D.Disk.left_since c.args.journal c.over-keep.result.journal (LeftIn from (IsMade g.M.Machine.stands_for from (g.M.Machine.state m)))) (sym c.over-keep.ensures.machine)
+    (subst (λ j. Adds g.D.Disk.moment g.D.Disk.left_since c.args.journal j (LeftIn from (IsMade g.M.Machine.stands_for from now))) (sym c.over-keep.ensures.journal)
+    (elim c.if-is_earlier.branch [
+      | then-is_earlier+in_default w ↦ subst (λ j. Adds g.D.Disk.moment g.D.Disk.left_since c.args.journal j (LeftIn from (IsMade g.M.Machine.stands_for from now))) (sym w.journal-is)
+          (made_alone g.D.Disk.seen g.D.Disk.moment g.D.Disk.left_since g.M.Machine.stands_for now (g.M.Machine.image_of now) c.args.journal w.put_snapshot.new.journal
+          (c.known.ensures.place p c.requires.ready) (g.met.M.Machine.stands_alone now) (w.put_snapshot.ensures.adds p))
+      | else-is_earlier w ↦ subst (λ j. Adds g.D.Disk.moment g.D.Disk.left_since c.args.journal j (LeftIn from (IsMade g.M.Machine.stands_for from now))) (sym w.journal-is)
+          (adds_none g.D.Disk.moment g.D.Disk.left_since c.args.journal c.args.journal (LeftIn from (IsMade g.M.Machine.stands_for from now)) refl)
+    ]))

@@ -1,0 +1,64 @@
+//! A snapshot of a machine, put in place of a journal's records.
+ghost use Rattle.std.specs.Prelude.{◌≡◌, ◌⊎◌, ◌+◌, ◌≤◌, Err, IfOk, IsTrue, OnErr, OnOk, length};
+ghost use Rattle.ps_ports.specs.Causes.{Rose};
+ghost use Rattle.host_journal.specs.Moments.{Adds, LiesBeside, Shows};
+ghost use Rattle.host_journal.specs.State.{is_ready, stored, snapshot_of, SameButRoom, first_disk, second_disk};
+ghost use Rattle.machine_keep.specs.Kept.{StandsFor};
+ghost use Rattle.machine_keep.specs.declared.fault.StepFault.TheVariants.{Disk as disk_fault, Memory as no_memory};
+
+use crate::fault::StepFault;
+use crate::machine::Machine;
+use host_journal::image::SnapshotImage;
+use host_journal::journal::Journal;
+use ps_disks::disk::Disk;
+use ps_time::memory::Memory;
+use std::alloc::Global;
+
+/// No snapshot has more bytes.
+const MOST_IMAGE_BYTES: usize = 4_294_967_295;
+
+/// Puts a snapshot of the machine in place of all records. `StepFault::Memory` puts it off, and leaves all but the room: memory
+/// for it was wanting, it has too many bytes, or the journal is in its last generation.
+pub fn put_snapshot<M: Machine, D: Disk>(
+    alloc: Global,
+    machine: &M,
+    journal: &mut Journal<D>,
+) -> Result<(), StepFault>
+    requires ready { IsTrue (is_ready journal.old.pending) }
+    ensures written { D.premise → OnOk result (StandsFor M.stands_for (M.state machine.now) (stored D.seen journal.new)) }
+    ensures stands { D.premise → StandsFor M.stands_for (M.state machine.now) (stored D.seen journal.old) → StandsFor M.stands_for (M.state machine.now) (stored D.seen journal.new) }
+    ensures adds { D.premise → Adds D.moment D.left_since journal.old journal.new
+        (λ second c. LiesBeside (stored D.seen journal.old) second c ⊎ Shows (snapshot_of (M.image_of (M.state machine.now)) journal.old) second c) }
+    ensures empty { OnOk result (journal.new.end ≡ journal.new.start) }
+    ensures ready { OnOk result (IsTrue (is_ready journal.new.pending)) }
+    ensures put_off { result ≡ Err no_memory → SameButRoom journal.old journal.new }
+    ensures calm { (result ≡ Err disk_fault → ⊥) → (D.disk_faults (first_disk journal.new) ≡ D.disk_faults (first_disk journal.old)) × (D.disk_faults (second_disk journal.new) ≡ D.disk_faults (second_disk journal.old)) }
+    ensures cause { result ≡ Err disk_fault → Rose (D.disk_faults (first_disk journal.old)) (D.disk_faults (first_disk journal.new)) ⊎ Rose (D.disk_faults (second_disk journal.old)) (D.disk_faults (second_disk journal.new)) }
+{
+    if journal.generation() == u64::MAX {
+        return Err(StepFault::Memory);
+    }
+    let image = image_in(alloc, machine, journal)?;
+    journal.snapshot(image)?;
+    Ok(())
+}
+
+// The machine's snapshot in the journal's own buffer, with room for what is written behind it.
+fn image_in<M: Machine, D: Disk>(
+    alloc: Global,
+    machine: &M,
+    journal: &mut Journal<D>,
+) -> Result<SnapshotImage, Memory>
+    ensures bytes { IfOk result (λ image. image.bytes ≡ M.image_of (M.state machine.now)) }
+    ensures room { IfOk result (λ image. length image.bytes + 13 ≤ image.room) }
+    ensures bound { IfOk result (λ image. length image.bytes ≤ 4294967295) }
+    ensures same { SameButRoom journal.old journal.new }
+{
+    journal.reserve(machine.image_guess())?;
+    let mut image = machine.write_image(alloc, journal.begin_image())?;
+    image.reserve_end()?;
+    if image.len() > MOST_IMAGE_BYTES {
+        return Err(Memory);
+    }
+    Ok(image)
+}
