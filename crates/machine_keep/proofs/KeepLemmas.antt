@@ -8,7 +8,7 @@ use Rattle.host_journal.specs.declared.pending.Pending.{Pending}
 use Rattle.host_journal.specs.declared.reading.Counted.{Counted}
 use Rattle.host_journal.specs.declared.reading.DiskPlace.{DiskPlace}
 use Rattle.host_journal.proofs.MomentLemmas.{beside_record, fits_first, fits_second, near_record, near_snapshot, ours_at, run_more, run_on, run_pair, run_since, since_begin}
-use Rattle.machine_keep.specs.Kept.{EachFrom, IsMade, IsMigrating, IsUnsure, StandsAround, StandsBut, StandsEither, StandsFor, caught}
+use Rattle.machine_keep.specs.Kept.{EachFrom, IsMade, IsMigrating, IsUnsure, Snapped, StandsAround, StandsBut, StandsEither, StandsFor, caught}
 
 -- with the record of a step the disks stand for the state after it
 module _ {S T : Type 0} (stands : List (List ℕ) → S → Type 0) (bytes : T → List ℕ) (follows : S → T → Type 0) (after : S → T → S)
@@ -67,7 +67,7 @@ module _ {D S : Type 0} (seen : D → List ℕ) (moment : D → ℕ) (left_since
       → EachSince moment left_since old mid (λ pair. StandsFor stands now pair ⊎ P pair)
   since_room old mid P same each stood = subst (λ (s : State D). EachSince moment left_since old s (λ pair. StandsFor stands now pair ⊎ P pair)) (sym same) (since_none old P each stood)
 
-  module _ (later : S) (payload image : List ℕ) (old mid : State D) (same : SameButRoom old mid) (at : IsAt old (stored seen old))
+  module _ (later : S) (payload : List ℕ) (old mid : State D) (same : SameButRoom old mid) (at : IsAt old (stored seen old))
       (each : EachImage may_leave old (λ pair. pair ≡ stored seen old)) (stood : StandsFor stands now (stored seen old)) (with_it : StandsFor stands later (with_record payload (stored seen old))) where
     abbrev From : Result Counted DiskPlace
     From = stored seen old
@@ -77,9 +77,6 @@ module _ {D S : Type 0} (seen : D → List ℕ) (moment : D → ℕ) (left_since
 
     abbrev Recorded : State D → Bool → List ℕ → Type 0
     Recorded s second c = Shows (stored seen s) second c ⊎ Shows (with_record payload (stored seen s)) second c
-
-    abbrev Snapped : State D → Bool → List ℕ → Type 0
-    Snapped s second c = LiesBeside (stored seen s) second c ⊎ Shows (snapshot_of image s) second c
 
     recorded_made : (second : Bool) (c : List ℕ) → Recorded old second c → LeftIn From Made second c
     recorded_made second c (inl shows) = inl (inl shows)
@@ -101,30 +98,37 @@ module _ {D S : Type 0} (seen : D → List ℕ) (moment : D → ℕ) (left_since
     pub since_record : (new : State D) → Adds moment left_since mid new (Recorded mid) → EachSince moment left_since old new (λ pair. StandsFor stands now pair ⊎ StandsFor stands later pair)
     since_record new adds = each_since new (made_record new adds)
 
-    -- after a record and a snapshot
-    pub made_snapshot : (turned new : State D) → Adds moment left_since mid turned (Recorded mid) → stored seen turned ≡ with_record payload (stored seen mid) → KeepsPlace mid turned → stands (image ∷ []) later
-        → Adds moment left_since turned new (Snapped turned) → Adds moment left_since old new (LeftIn From Made)
-    made_snapshot turned new adds is kept alone more =
+    -- after a record and a snapshot of the state that came of it
+    pub made_snapshot : (turned new : State D) (s : S) → Adds moment left_since mid turned (Recorded mid) → stored seen turned ≡ with_record payload (stored seen mid) → KeepsPlace mid turned → s ≡ later
+        → Adds moment left_since turned new (Snapped seen stands s turned) → Adds moment left_since old new (LeftIn From Made)
+    made_snapshot turned new s adds is kept became more =
         let was : stored seen mid ≡ From = subst (λ (s : State D). stored seen s ≡ From) (sym same) refl in
         let both : stored seen turned ≡ with_record payload From = is ∙ ap (with_record payload) was in
         let side : turned.second ≡ old.second = kept.second ∙ ap (λ (s : State D). s.second) same in
         let generation : turned.generation ≡ old.generation = kept.generation ∙ ap (λ (s : State D). s.generation) same in
-        run_on moment left_since old turned new (LeftIn From Made) (Snapped turned) (made_record turned adds) more (λ second c. ⊎_elim
+        run_on moment left_since old turned new (LeftIn From Made) (Snapped seen stands s turned) (made_record turned adds) more (λ second c. ⊎_elim
         (λ beside. inl (inr (beside_record payload From second c (subst (λ (p : Result Counted DiskPlace). LiesBeside p second c) both beside))))
-        (λ shows. inr (snapshot_of image turned, (alone, near_snapshot image old turned From at side generation), shows)))
+        (λ shown. inr (snapshot_of shown.0 turned, (subst (λ (x : S). stands (shown.0 ∷ []) x) became shown.1.0, near_snapshot shown.0 old turned From at side generation), shown.1.1)))
 
-    pub since_snapshot : (turned new : State D) → Adds moment left_since mid turned (Recorded mid) → stored seen turned ≡ with_record payload (stored seen mid) → KeepsPlace mid turned → stands (image ∷ []) later
-        → Adds moment left_since turned new (Snapped turned) → EachSince moment left_since old new (λ pair. StandsFor stands now pair ⊎ StandsFor stands later pair)
-    since_snapshot turned new adds is kept alone more = each_since new (made_snapshot turned new adds is kept alone more)
+    pub since_snapshot : (turned new : State D) (s : S) → Adds moment left_since mid turned (Recorded mid) → stored seen turned ≡ with_record payload (stored seen mid) → KeepsPlace mid turned → s ≡ later
+        → Adds moment left_since turned new (Snapped seen stands s turned) → EachSince moment left_since old new (λ pair. StandsFor stands now pair ⊎ StandsFor stands later pair)
+    since_snapshot turned new s adds is kept became more = each_since new (made_snapshot turned new s adds is kept became more)
 
 -- a snapshot alone
-pub made_alone : {D S : Type 0} (seen : D → List ℕ) (moment : D → ℕ) (left_since : D → ℕ → List ℕ → Type 0) (stands : List (List ℕ) → S → Type 0) (later : S) (image : List ℕ) (old new : State D)
-    → IsAt old (stored seen old) → stands (image ∷ []) later → Adds moment left_since old new (λ second c. LiesBeside (stored seen old) second c ⊎ Shows (snapshot_of image old) second c)
-    → Adds moment left_since old new (LeftIn (stored seen old) (IsMade stands (stored seen old) later))
-made_alone seen moment left_since stands later image old new at alone adds =
-    run_more moment left_since old new (λ second c. LiesBeside (stored seen old) second c ⊎ Shows (snapshot_of image old) second c) (LeftIn (stored seen old) (IsMade stands (stored seen old) later)) adds (λ second c. ⊎_elim
+pub made_alone : {D S : Type 0} (seen : D → List ℕ) (moment : D → ℕ) (left_since : D → ℕ → List ℕ → Type 0) (stands : List (List ℕ) → S → Type 0) (later : S) (old new : State D)
+    → IsAt old (stored seen old) → Adds moment left_since old new (Snapped seen stands later old) → Adds moment left_since old new (LeftIn (stored seen old) (IsMade stands (stored seen old) later))
+made_alone seen moment left_since stands later old new at adds =
+    run_more moment left_since old new (Snapped seen stands later old) (LeftIn (stored seen old) (IsMade stands (stored seen old) later)) adds (λ second c. ⊎_elim
     (λ beside. inl (inr beside))
-    (λ shows. inr (snapshot_of image old, (alone, near_snapshot image old old (stored seen old) at refl refl), shows)))
+    (λ shown. inr (snapshot_of shown.0 old, (shown.1.0, near_snapshot shown.0 old old (stored seen old) at refl refl), shown.1.1)))
+
+-- the same bytes, as they are written
+pub snapped_with : {D S : Type 0} (seen : D → List ℕ) (moment : D → ℕ) (left_since : D → ℕ → List ℕ → Type 0) (stands : List (List ℕ) → S → Type 0) (s : S) (image : List ℕ) (old mid new : State D)
+    → SameButRoom old mid → stands (image ∷ []) s → Adds moment left_since mid new (λ second c. LiesBeside (stored seen mid) second c ⊎ Shows (snapshot_of image mid) second c) → Adds moment left_since old new (Snapped seen stands s old)
+snapped_with {D = D} seen moment left_since stands s image old mid new same alone adds =
+    let more = run_more moment left_since mid new (λ second c. LiesBeside (stored seen mid) second c ⊎ Shows (snapshot_of image mid) second c) (Snapped seen stands s mid) adds (λ second c. ⊎_elim (λ beside. inl beside) (λ shows. inr (image, (alone, shows)))) in
+    let moved = subst (λ (m : State D). Adds moment left_since m new (Snapped seen stands s m)) same more in
+    record { first = moved.first; second = moved.second }
 
 -- what an opening found is one of ours
 ours_opened : {D : Type 0} (s : State D) (list : List (List ℕ)) (pair : Result Counted DiskPlace) → pair ≡ opened_as s list → IsOurs pair

@@ -1,8 +1,8 @@
 -- What the disks of a kept machine stand for.
-use Rattle.std.specs.Prelude.{◌≡◌, ◌⊎◌, ℕ, Bool, true, false, List, None, Option, Some, Result, Ok, Err, ◌-◌, ◌*◌, ◌≤◌, if◌then◌else◌, max, nat_lt}
-use Rattle.host_journal.specs.Moments.{AddsOnly, IsNear, LeftIn}
+use Rattle.std.specs.Prelude.{◌≡◌, ◌⊎◌, ℕ, Bool, true, false, List, None, Option, Some, [], ◌∷◌, Result, Ok, Err, ◌-◌, ◌*◌, ◌≤◌, if◌then◌else◌, max, nat_lt}
+use Rattle.host_journal.specs.Moments.{AddsOnly, IsNear, LeftIn, LiesBeside, Shows}
 use Rattle.host_journal.specs.Pair.{pair_of}
-use Rattle.host_journal.specs.State.{State, first_disk, has_record, second_disk, stored, which}
+use Rattle.host_journal.specs.State.{State, first_disk, has_record, second_disk, snapshot_of, stored, which}
 use Rattle.host_journal.specs.declared.pending.Pending.{Pending}
 use Rattle.host_journal.specs.declared.reading.Counted.{Counted}
 use Rattle.host_journal.specs.declared.reading.DiskPlace.{DiskPlace}
@@ -65,6 +65,10 @@ IsMade stands from later pair = StandsFor stands later pair × IsNear from pair
 abbrev pub EachFrom : {D : Type 0} → (D → List ℕ → Type 0) → (D → ℕ) → (D → ℕ → List ℕ → Type 0) → D → D → D → D → (Result Counted DiskPlace → Type 0) → Type 0
 EachFrom may_leave moment left_since first second first_now second_now P =
     (c d : List ℕ) → left_since first_now (moment first) c → left_since second_now (moment second) d → (may_leave first c ⊎ may_leave second d) ⊎ P (pair_of c d)
+
+-- what a snapshot adds to one of two disks, where an image alone stands for the state
+abbrev pub Snapped : {D S : Type 0} → (D → List ℕ) → (List (List ℕ) → S → Type 0) → S → State D → Bool → List ℕ → Type 0
+Snapped seen stands s old second c = LiesBeside (stored seen old) second c ⊎ ((image : List ℕ) × (stands (image ∷ []) s × Shows (snapshot_of image old) second c))
 
 -- two disks of a journal, while a snapshot of a state for which they stand is put on them
 pub record IsMigrating {D S : Type 0} (seen : D → List ℕ) (moment : D → ℕ) (left_since : D → ℕ → List ℕ → Type 0) (stands stood : List (List ℕ) → S → Type 0) (from : State D) (first second : D) : Type 0 where

@@ -3,10 +3,10 @@ ghost use Rattle.std.specs.Prelude.{◌≡◌, ◌⊎◌, ◌+◌, ◌-◌, ◌�
 ghost use Rattle.ps_disks.specs.MemoryDisk.{armed, armed_number};
 ghost use Rattle.ps_ports.specs.Causes.{Rose};
 ghost use Rattle.host_journal.specs.Calls.{IsRead};
-ghost use Rattle.host_journal.specs.Moments.{Adds, LeftIn, LiesBeside, Shows};
+ghost use Rattle.host_journal.specs.Moments.{Adds, LeftIn, Shows};
 ghost use Rattle.host_journal.specs.Pair.{pair_of};
-ghost use Rattle.host_journal.specs.State.{is_ready, stored, has_record, snapshot_of, which, with_record, EachImage, EachSince, IsAt, KeepsPlace, first_disk, second_disk};
-ghost use Rattle.machine_keep.specs.Kept.{HasFew, IsMade, StandsAround, StandsFor, after_step, caught, is_many};
+ghost use Rattle.host_journal.specs.State.{is_ready, stored, has_record, which, with_record, EachImage, EachSince, IsAt, KeepsPlace, first_disk, second_disk};
+ghost use Rattle.machine_keep.specs.Kept.{HasFew, IsMade, Snapped, StandsAround, StandsFor, after_step, caught, is_many};
 ghost use Rattle.machine_keep.specs.declared.fault.StepFault.TheVariants.{Disk as disk_fault, Memory as no_memory};
 
 use crate::fault::StepFault;
@@ -256,7 +256,7 @@ impl<M: Machine, D: Disk> Keep<M, D> {
         ensures few { OnOk result (HasFew self.new.journal ⊎ Rose self.old.put_off self.new.put_off) }
         ensures ready { OnOk result (IsTrue (is_ready self.new.journal.pending)) }
         ensures adds { D.premise → Adds D.moment D.left_since self.old.journal self.new.journal
-            (λ second c. LiesBeside (stored D.seen self.old.journal) second c ⊎ Shows (snapshot_of (M.image_of (M.state self.old.machine)) self.old.journal) second c) }
+            (Snapped D.seen M.stands_for (M.state self.old.machine) self.old.journal) }
         ensures calm { OnOk result ((D.disk_faults (first_disk self.new.journal) ≡ D.disk_faults (first_disk self.old.journal)) × (D.disk_faults (second_disk self.new.journal) ≡ D.disk_faults (second_disk self.old.journal))) }
         ensures cause { OnErr result (Rose (D.disk_faults (first_disk self.old.journal)) (D.disk_faults (first_disk self.new.journal)) ⊎ Rose (D.disk_faults (second_disk self.old.journal)) (D.disk_faults (second_disk self.new.journal))) }
     {

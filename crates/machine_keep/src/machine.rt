@@ -72,9 +72,7 @@ pub trait Machine: Sized {
 
     ghost stood_for: { List (List ℕ) → State → Type 0 };
 
-    // The bytes of a state's snapshot, and of a step's record.
-    ghost image_of: { State → List ℕ };
-
+    // The bytes of a step's record.
     ghost record_of: { Self.Step → List ℕ };
 
     // The call may be made.
@@ -143,12 +141,10 @@ pub trait Machine: Sized {
     /// promised.
     fn image_guess(&self) -> usize;
 
-    /// Writes a snapshot of the state behind what an image holds.
+    /// Writes a snapshot of the state, which alone stands for it, in an empty image.
     fn write_image(&self, alloc: Global, image: SnapshotImage) -> Result<SnapshotImage, Memory>
-        ensures { IfOk result (λ made. made.bytes ≡ image.bytes ++ image_of (state self.now)) };
-
-    // A snapshot alone stands for its state.
-    ghost stands_alone: { (s : State) → stands_for (image_of s ∷ []) s };
+        requires { image.bytes ≡ [] }
+        ensures { IfOk result (λ made. stands_for (made.bytes ∷ []) (state self.now)) };
 
     // With the record of a step behind it a list stands for the state after the step.
     ghost stands_more: { (list : List (List ℕ)) (s : State) (step : Self.Step) → stands_for list s → follows s step → stands_for (list ++ record_of step ∷ []) (after s step) };

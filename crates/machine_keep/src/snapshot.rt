@@ -1,9 +1,9 @@
 //! A snapshot of a machine, put in place of a journal's records.
-ghost use Rattle.std.specs.Prelude.{◌≡◌, ◌⊎◌, ◌+◌, ◌≤◌, Err, IfOk, IsTrue, OnErr, OnOk, length};
+ghost use Rattle.std.specs.Prelude.{◌≡◌, ◌⊎◌, ◌+◌, ◌≤◌, Err, IfOk, IsTrue, OnErr, OnOk, [], ◌∷◌, length};
 ghost use Rattle.ps_ports.specs.Causes.{Rose};
-ghost use Rattle.host_journal.specs.Moments.{Adds, LiesBeside, Shows};
-ghost use Rattle.host_journal.specs.State.{is_ready, stored, snapshot_of, SameButRoom, first_disk, second_disk};
-ghost use Rattle.machine_keep.specs.Kept.{StandsFor};
+ghost use Rattle.host_journal.specs.Moments.{Adds};
+ghost use Rattle.host_journal.specs.State.{is_ready, stored, SameButRoom, first_disk, second_disk};
+ghost use Rattle.machine_keep.specs.Kept.{Snapped, StandsFor};
 ghost use Rattle.machine_keep.specs.declared.fault.StepFault.TheVariants.{Disk as disk_fault, Memory as no_memory};
 
 use crate::fault::StepFault;
@@ -28,7 +28,7 @@ pub fn put_snapshot<M: Machine, D: Disk>(
     ensures written { D.premise → OnOk result (StandsFor M.stands_for (M.state machine.now) (stored D.seen journal.new)) }
     ensures stands { D.premise → StandsFor M.stands_for (M.state machine.now) (stored D.seen journal.old) → StandsFor M.stands_for (M.state machine.now) (stored D.seen journal.new) }
     ensures adds { D.premise → Adds D.moment D.left_since journal.old journal.new
-        (λ second c. LiesBeside (stored D.seen journal.old) second c ⊎ Shows (snapshot_of (M.image_of (M.state machine.now)) journal.old) second c) }
+        (Snapped D.seen M.stands_for (M.state machine.now) journal.old) }
     ensures empty { OnOk result (journal.new.end ≡ journal.new.start) }
     ensures ready { OnOk result (IsTrue (is_ready journal.new.pending)) }
     ensures put_off { result ≡ Err no_memory → SameButRoom journal.old journal.new }
@@ -49,7 +49,7 @@ fn image_in<M: Machine, D: Disk>(
     machine: &M,
     journal: &mut Journal<D>,
 ) -> Result<SnapshotImage, Memory>
-    ensures bytes { IfOk result (λ image. image.bytes ≡ M.image_of (M.state machine.now)) }
+    ensures stands { IfOk result (λ image. M.stands_for (image.bytes ∷ []) (M.state machine.now)) }
     ensures room { IfOk result (λ image. length image.bytes + 13 ≤ image.room) }
     ensures bound { IfOk result (λ image. length image.bytes ≤ 4294967295) }
     ensures same { SameButRoom journal.old journal.new }

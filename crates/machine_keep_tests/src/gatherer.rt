@@ -77,9 +77,9 @@ fn parts_of(snapshot: &[u8]) -> (u8, &[u8])
 }
 
 impl Machine for Gatherer {
-    ghost use Rattle.std.specs.Prelude.{◌≡◌, ◌≤◌, ◌+◌, ◌∷◌, ℕ, length, refl, vec_len, vec_capacity};
+    ghost use Rattle.std.specs.Prelude.{◌≡◌, ◌≤◌, ◌+◌, ℕ, length, refl, vec_len, vec_capacity};
     ghost use Rattle.machine_keep_tests.specs.Gathered.{Gathered, Holds, room_in, unless_full, with_chunk};
-    ghost use Rattle.machine_keep_tests.specs.JoinLemmas.{alone, with_most, with_record};
+    ghost use Rattle.machine_keep_tests.specs.JoinLemmas.{with_most, with_record};
 
     type Origin = usize;
 
@@ -102,8 +102,6 @@ impl Machine for Gatherer {
     ghost stands_for = { λ list s. Holds 2 list s.bytes };
 
     ghost stood_for = { λ list s. Holds 1 list s.bytes };
-
-    ghost image_of = { λ s. 2 ∷ s.bytes };
 
     ghost record_of = { λ chunk. chunk };
 
@@ -177,8 +175,6 @@ impl Machine for Gatherer {
         buffer.extend_from_slice(self.bytes.as_slice())?;
         Ok(SnapshotImage::of_buffer(buffer))
     }
-
-    ghost stands_alone = { alone };
 
     ghost stands_more = { λ list s chunk is can. with_record list s.bytes chunk is };
 

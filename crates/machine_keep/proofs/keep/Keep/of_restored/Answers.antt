@@ -10,8 +10,8 @@ pub returns-in-Err-clause-left : goal.returns-in-Err-clause-left
 returns-in-Err-clause-left g c p =
     let from = stored g.D.Disk.seen c.args.journal in
     let now = g.M.Machine.state c.args.restored.machine in
-    let made = made_alone g.D.Disk.seen g.D.Disk.moment g.D.Disk.left_since g.M.Machine.stands_for now (g.M.Machine.image_of now) c.args.journal c.put_snapshot.new.journal
-    (c.known.ensures.place p c.requires.ready) (g.met.M.Machine.stands_alone now) (c.put_snapshot.ensures.adds p) in
+    let made = made_alone g.D.Disk.seen g.D.Disk.moment g.D.Disk.left_since g.M.Machine.stands_for now c.args.journal c.put_snapshot.new.journal
+    (c.known.ensures.place p c.requires.ready) (c.put_snapshot.ensures.adds p) in
     record {
       state = now;
       either = inr (c.requires.earlier p c.if-is_earlier.true);
@@ -27,8 +27,8 @@ returns-clause-adds g c p =
     (subst (λ j. Adds g.D.Disk.moment g.D.Disk.left_since c.args.journal j (LeftIn from (IsMade g.M.Machine.stands_for from now))) (sym c.over-keep.ensures.journal)
     (elim c.if-is_earlier.branch [
       | then-is_earlier+in_default w ↦ subst (λ j. Adds g.D.Disk.moment g.D.Disk.left_since c.args.journal j (LeftIn from (IsMade g.M.Machine.stands_for from now))) (sym w.journal-is)
-          (made_alone g.D.Disk.seen g.D.Disk.moment g.D.Disk.left_since g.M.Machine.stands_for now (g.M.Machine.image_of now) c.args.journal w.put_snapshot.new.journal
-          (c.known.ensures.place p c.requires.ready) (g.met.M.Machine.stands_alone now) (w.put_snapshot.ensures.adds p))
+          (made_alone g.D.Disk.seen g.D.Disk.moment g.D.Disk.left_since g.M.Machine.stands_for now c.args.journal w.put_snapshot.new.journal
+          (c.known.ensures.place p c.requires.ready) (w.put_snapshot.ensures.adds p))
       | else-is_earlier w ↦ subst (λ j. Adds g.D.Disk.moment g.D.Disk.left_since c.args.journal j (LeftIn from (IsMade g.M.Machine.stands_for from now))) (sym w.journal-is)
           (adds_none g.D.Disk.moment g.D.Disk.left_since c.args.journal c.args.journal (LeftIn from (IsMade g.M.Machine.stands_for from now)) refl)
     ]))
