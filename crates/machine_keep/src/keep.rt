@@ -236,7 +236,6 @@ impl<M: Machine, D: Disk> Keep<M, D> {
         ensures adds { D.premise → Adds D.moment D.left_since self.old.journal self.new.journal
             (λ second c. Shows (stored D.seen self.old.journal) second c ⊎ Shows (with_record (M.record_of step) (stored D.seen self.old.journal)) second c) }
         ensures kept { KeepsPlace self.old.journal self.new.journal }
-        ensures end { OnOk result (self.new.journal.end ≡ self.old.journal.end + 5 + length bytes.now) }
         ensures fixed { M.fixed (M.state self.new.machine) ≡ M.fixed (M.state self.old.machine) }
         ensures put_off { self.new.put_off ≡ self.old.put_off }
         ensures calm { OnOk result ((D.disk_faults (first_disk self.new.journal) ≡ D.disk_faults (first_disk self.old.journal)) × (D.disk_faults (second_disk self.new.journal) ≡ D.disk_faults (second_disk self.old.journal))) }
@@ -339,7 +338,6 @@ fn append<S: Drop, D: Disk>(
     ensures which { D.premise → OnErr result (stored D.seen journal.new ≡ which bytes.now (has_record journal.new.pending (stored D.seen journal.new)) (stored D.seen journal.old)) }
     ensures adds { D.premise → Adds D.moment D.left_since journal.old journal.new (λ second c. Shows (stored D.seen journal.old) second c ⊎ Shows (with_record bytes.now (stored D.seen journal.old)) second c) }
     ensures kept { KeepsPlace journal.old journal.new }
-    ensures end { OnOk result (journal.new.end ≡ journal.old.end + 5 + length bytes.now) }
     ensures ready { OnOk result (IsTrue (is_ready journal.new.pending)) }
     ensures failed { OnErr result (is_ready journal.new.pending ≡ false) }
     ensures calm { OnOk result ((D.disk_faults (first_disk journal.new) ≡ D.disk_faults (first_disk journal.old)) × (D.disk_faults (second_disk journal.new) ≡ D.disk_faults (second_disk journal.old))) }
