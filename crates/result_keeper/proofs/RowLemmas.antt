@@ -13,8 +13,8 @@ use Rattle.ps_time.specs.Id.{InRange}
 use Rattle.ps_time.specs.declared.id.Id.TheVariants.{Run}
 use Rattle.ps_time.proofs.KeyLemmas.{key_cmp_total, same_key, key_cmp_same}
 use Rattle.ps_time.specs.declared.key.RunKey.{RunKey}
-use Rattle.result_keeper.specs.Row.{is_further, in_order, IsRowOf, AreRowsOf, IsFound}
-use Rattle.result_rows.specs.Rows.{number_of, key_text, columns_of, HasKey}
+use Rattle.result_keeper.specs.Row.{is_further, in_order, AreRowsOf, IsFound}
+use Rattle.result_rows.specs.Rows.{number_of, key_text, columns_of, HasKey, IsRowOf}
 use Rattle.result_rows.proofs.SelectLemmas.{texts}
 use Rattle.result_table.specs.Record.{IsTable, IsAbove}
 use Rattle.result_table.specs.declared.record.Record.{Record}

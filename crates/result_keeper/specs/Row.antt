@@ -1,23 +1,11 @@
 -- Rows of the table of results, as records.
-use Rattle.std.specs.Prelude.{◌≡◌, pos, Bool, true, ◌&&◌, List, [], ◌∷◌, Option, Some, None}
+use Rattle.std.specs.Prelude.{◌≡◌, Bool, true, ◌&&◌, List, [], ◌∷◌, Option, Some, None}
 use Rattle.std.specs.Ordering.{is_lt}
-use Rattle.sqlite.specs.Order.{Row, column}
-use Rattle.sqlite.specs.declared.types.Value.TheVariants.{Int, Text}
-use Rattle.ps_time.specs.Id.{InRange}
-use Rattle.ps_time.specs.declared.id.Id.TheVariants.{Run}
+use Rattle.sqlite.specs.Order.{Row}
 use Rattle.ps_time.specs.Key.{key_cmp}
 use Rattle.ps_time.specs.declared.key.RunKey.{RunKey}
-use Rattle.result_rows.specs.Rows.{number_of, key_text}
+use Rattle.result_rows.specs.Rows.{IsRowOf}
 use Rattle.result_table.specs.declared.record.Record.{Record}
-
--- the row of a record: the run's identifier, both moments, 1 or 0, and the body
-pub record IsRowOf (row : Row) (r : Record) : Type 0 where
-  pub key : column row 0 ≡ Text (key_text r.key)
-  pub range : InRange (Run r.key)
-  pub since : column row 1 ≡ Int (pos r.since)
-  pub latest : column row 2 ≡ Int (pos r.latest)
-  pub good : column row 3 ≡ Int (pos (number_of r.good))
-  pub body : column row 4 ≡ Text r.body
 
 -- each record is that of its row
 abbrev pub AreRowsOf : List Row → List Record → Type 0

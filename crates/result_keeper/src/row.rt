@@ -5,8 +5,8 @@ ghost use Rattle.sqlite.specs.declared.types.Value.TheVariants.{Int, Text as Wor
 ghost use Rattle.ps_time.specs.Id.{InRange};
 ghost use Rattle.ps_time.specs.Numbers.{greatest_moment};
 ghost use Rattle.ps_time.specs.declared.id.Id.TheVariants.{Run};
-ghost use Rattle.result_keeper.specs.Row.{is_further, in_order, IsRowOf, AreRowsOf, IsFound};
-ghost use Rattle.result_rows.specs.Rows.{number_of, key_text};
+ghost use Rattle.result_keeper.specs.Row.{is_further, in_order, AreRowsOf, IsFound};
+ghost use Rattle.result_rows.specs.Rows.{number_of, key_text, IsRowOf};
 ghost use Rattle.result_table.specs.Record.{IsTable, HasMoments, IsAbove};
 
 use ps_time::key::RunKey;

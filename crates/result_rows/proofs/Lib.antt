@@ -4,3 +4,5 @@ pub mod EntryLemmas
 pub mod SelectLemmas
 pub mod StateLemmas
 pub mod PutLemmas
+pub mod OpenLemmas
+pub mod FileLemmas

@@ -15,7 +15,7 @@ use Rattle.result_table.specs.Record.{find_record, IsTable}
 use Rattle.result_table.specs.Upsert.{upsert}
 use Rattle.result_table.specs.declared.record.Record.{Record}
 
-abbrev key_of : Record → RunKey
+abbrev pub key_of : Record → RunKey
 key_of r = r.key
 
 -- the record has the key

@@ -18,7 +18,7 @@ use Rattle.sqlite_tied.specs.Compute.{everything}
 use Rattle.sqlite_value.specs.declared.keys.Collation.TheVariants.{Binary}
 use Rattle.sqlite_value.specs.declared.keys.Key.{Key}
 use Rattle.sqlite_value.specs.Keys.{ascending}
-use Rattle.result_rows.specs.Statement.{create_text, put_text, get_text, list_text}
+use Rattle.result_rows.specs.Statement.{create_text, put_text, get_text, list_text, all_text}
 use Rattle.result_rows.specs.Table.{results, no_schema, results_schema}
 
 -- a query over the table alone
@@ -51,6 +51,9 @@ get_query = query (op2 (Compare Eq Binary) (col 1 1) (col 0 0) ∷ []) columns [
 abbrev pub list_query : Query
 list_query = query (op2 (Compare Gt Binary) (col 1 1) (col 0 0) ∷ []) columns ((col 1 1, ascending Binary) ∷ []) (col 0 1)
 
+abbrev pub all_query : Query
+all_query = query [] columns [] no_limit
+
 -- the row that is there, with the new moment, flag and body
 abbrev pub update_query : Query
 update_query = query (op2 (Compare Eq Binary) (col 1 0) (col 0 4) ∷ []) (col 1 0 ∷ col 1 0 ∷ col 1 1 ∷ col 1 2 ∷ col 0 8 ∷ col 0 9 ∷ col 0 10 ∷ []) [] no_limit
@@ -73,6 +76,9 @@ get_command = Select (program get_query) names
 
 abbrev pub list_command : Command
 list_command = Select (program list_query) names
+
+abbrev pub all_command : Command
+all_command = Select (program all_query) names
 
 pub create_is : (command_of (understood no_schema create_text) ≡ CreateTable) × (statement_of create_text (understood no_schema create_text) ≡ create_text) × (table_defined_by create_text ≡ Ok results)
 unfolding understood everything create_text
@@ -105,3 +111,11 @@ list_is = (refl, refl)
 pub list_plain : IsPlain (understood results_schema list_text)
 unfolding understood everything list_text
 list_plain = (refl, refl)
+
+pub all_is : (command_of (understood results_schema all_text) ≡ all_command) × (reads_listing results_schema all_text ≡ false)
+unfolding understood everything all_text
+all_is = (refl, refl)
+
+pub all_plain : IsPlain (understood results_schema all_text)
+unfolding understood everything all_text
+all_plain = (refl, refl)

@@ -1,3 +1,4 @@
+pub mod Found
 pub mod Keeps
 pub mod Rows
 pub mod Statement

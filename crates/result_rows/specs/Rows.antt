@@ -1,7 +1,7 @@
 -- Rows of the table of results, and the records that they are.
 use Rattle.std.specs.Prelude.{◌≡◌, ℕ, ℤ, pos, Bool, if◌then◌else◌, List, [], ◌∷◌, map, Option, Some, None, IsPermutation}
 use Rattle.std.specs.List.{AllByRecursion}
-use Rattle.sqlite.specs.Order.{Row}
+use Rattle.sqlite.specs.Order.{Row, column}
 use Rattle.sqlite.specs.declared.types.Value.TheVariants.{Int, Text}
 use Rattle.sqlite_keyed.specs.Keyed.{IsKeyedBy}
 use Rattle.ps_time.specs.Id.{id_text, InRange}
@@ -26,6 +26,23 @@ text_above (Some key) = key_text key
 -- the columns of a record: the run's identifier, both moments, 1 or 0, and the body
 abbrev pub columns_of : Record → Row
 columns_of r = Text (key_text r.key) ∷ Int (pos r.since) ∷ Int (pos r.latest) ∷ Int (pos (number_of r.good)) ∷ Text r.body ∷ []
+
+-- the columns are those of the record, whose key has its widths
+pub record IsRowOf (row : Row) (r : Record) : Type 0 where
+  pub key : column row 0 ≡ Text (key_text r.key)
+  pub range : InRange (Run r.key)
+  pub since : column row 1 ≡ Int (pos r.since)
+  pub latest : column row 2 ≡ Int (pos r.latest)
+  pub good : column row 3 ≡ Int (pos (number_of r.good))
+  pub body : column row 4 ≡ Text r.body
+
+-- the columns are those of some record
+abbrev pub IsRecord : Row → Type 0
+IsRecord row = (r : Record) × IsRowOf row r
+
+-- the columns of a row as it is stored, behind its number
+abbrev pub columns_in : Row → Row
+columns_in row = column row 1 ∷ column row 2 ∷ column row 3 ∷ column row 4 ∷ column row 5 ∷ []
 
 -- a record and the number of its row, which the database chooses
 abbrev pub Numbered : Type 0

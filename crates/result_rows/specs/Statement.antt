@@ -16,3 +16,7 @@ get_text = codes "SELECT id, since, latest, good, body FROM result WHERE id = ?1
 -- finds the first rows above an id
 unfoldable pub list_text : List ℕ
 list_text = codes "SELECT id, since, latest, good, body FROM result WHERE id > ?1 ORDER BY id LIMIT ?2"
+
+-- shows each row
+unfoldable pub all_text : List ℕ
+all_text = codes "SELECT id, since, latest, good, body FROM result"

@@ -1,22 +1,25 @@
 -- The table of results, as the statement that makes it defines it.
-use Rattle.std.specs.Prelude.{true, false, [], ◌∷◌, None, codes}
+use Rattle.std.specs.Prelude.{◌≡◌, ℕ, true, false, List, [], ◌∷◌, None, codes}
 use Rattle.sqlite.specs.Collation.TheVariants.{Binary}
 use Rattle.sqlite.specs.declared.types.Value.TheVariants.{Null}
+use Rattle.sqlite.specs.Kind.{Kind}
 use Rattle.sqlite.specs.Kind.TheVariants.{Integer, Text}
 use Rattle.sqlite.specs.Schema.{Schema}
 use Rattle.sqlite.specs.Table.{Table}
 use Rattle.sqlite.specs.Change.{created}
+use Rattle.sqlite_schema.specs.declared.schema.Column.{Column}
+use Rattle.sqlite_schema.specs.declared.schema.Index.{Index}
+
+-- a column that takes values of its kind alone, and no NULL
+abbrev pub field : List ℕ → Kind → Column
+field name kind = record { name = name; kind = kind; is_strict = true; not_null = true; default = Null; collation = Binary }
 
 -- `id`, `since`, `latest`, `good` and `body`, none of which may be NULL; no two rows have one `id`
 abbrev pub results : Table
 results = record {
   name = codes "result";
   tree = 0;
-  columns = (record { name = codes "id"; kind = Text; is_strict = true; not_null = true; default = Null; collation = Binary })
-      ∷ (record { name = codes "since"; kind = Integer; is_strict = true; not_null = true; default = Null; collation = Binary })
-      ∷ (record { name = codes "latest"; kind = Integer; is_strict = true; not_null = true; default = Null; collation = Binary })
-      ∷ (record { name = codes "good"; kind = Integer; is_strict = true; not_null = true; default = Null; collation = Binary })
-      ∷ (record { name = codes "body"; kind = Text; is_strict = true; not_null = true; default = Null; collation = Binary }) ∷ [];
+  columns = field (codes "id") Text ∷ field (codes "since") Integer ∷ field (codes "latest") Integer ∷ field (codes "good") Integer ∷ field (codes "body") Text ∷ [];
   key = None;
   primary = 1 ∷ [];
   uniques = (1 ∷ []) ∷ [];
@@ -34,3 +37,11 @@ no_schema = record { tables = []; indexes = []; views = [] }
 -- that table alone, with its index by `id`
 abbrev pub results_schema : Schema
 results_schema = created no_schema results
+
+-- that table is the only one, with one index, and there is no view
+pub record HasResults (schema : Schema) : Type 0 where
+  pub index : Index
+  pub tables : schema.tables ≡ results ∷ []
+  pub indexes : schema.indexes ≡ index ∷ []
+  pub second : index.tree ≡ 1
+  pub unviewed : schema.views ≡ []

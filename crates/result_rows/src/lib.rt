@@ -2,4 +2,5 @@
 #![tactic(auto)]
 
 pub mod run_id;
+pub mod schema;
 pub mod statement;

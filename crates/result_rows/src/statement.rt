@@ -28,6 +28,9 @@ const GET: &str = "SELECT id, since, latest, good, body FROM result WHERE id = ?
 const LIST: &str =
     "SELECT id, since, latest, good, body FROM result WHERE id > ?1 ORDER BY id LIMIT ?2";
 
+/// Shows each row of the table.
+pub const ALL: &str = "SELECT id, since, latest, good, body FROM result";
+
 /// A moment as the database takes it.
 fn signed(moment: u64) -> i64
     requires { moment ≤ greatest_moment }

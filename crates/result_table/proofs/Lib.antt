@@ -4,5 +4,5 @@ pub mod RecordLemmas
 mod ReportLemmas
 mod StoredLemmas
 mod TallyLemmas
-mod UpsertLemmas
+pub mod UpsertLemmas
 mod VisitLemmas

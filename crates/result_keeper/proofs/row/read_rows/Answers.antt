@@ -1,6 +1,6 @@
 use Rattle.std.proofs.Common.{◌≡◌, ◌<◌, ◌≤◌, length, get_or, rules, subst}
 use Rattle.std.proofs.lemmas.List.Elements.{All-push}
-use Rattle.result_keeper.specs.Row.{IsRowOf}
+use Rattle.result_rows.specs.Rows.{IsRowOf}
 use Rattle.result_table.specs.Record.{HasMoments}
 use Rattle.result_keeper.proofs.RowLemmas.{rows_more, rows_end}
 use Rattle.result_keeper.proofs.row.read_rows.Goals as goal
