@@ -1,2 +1,3 @@
 mod KeeperLemmas
+mod OpenLemmas
 mod RowLemmas

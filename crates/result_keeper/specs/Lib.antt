@@ -1,2 +1,3 @@
 pub mod Keeper
+pub mod Opening
 pub mod Row

@@ -1,5 +1,6 @@
 //! A keeper of results over SQL, in memory and in a file.
 #![tactic(auto)]
 
+pub mod opening;
 mod row;
 pub mod sqlite_keeper;

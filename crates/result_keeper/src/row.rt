@@ -85,7 +85,7 @@ fn key_at(alloc: Global, row: &Row, at: usize) -> Result<Option<RunKey>, Memory>
 }
 
 /// The record of a row, if it is one.
-fn read_row(alloc: Global, row: &Row) -> Result<Option<Record>, Memory>
+pub(crate) fn read_row(alloc: Global, row: &Row) -> Result<Option<Record>, Memory>
     ensures row { IfOk result (λ found. IfSome found (IsRowOf row.now)) }
     ensures moments { IfOk result (λ found. IfSome found HasMoments) }
 {

@@ -2,27 +2,34 @@
 ghost use Rattle.std.specs.Prelude.{◌≡◌, ◌≤◌, ℕ, List, [], ◌∷◌, Option, IfOk, OnOk, OnErr, IfErr, IfSome, length, All, Ok, Err};
 ghost use Rattle.sqlite.specs.Held.{state};
 ghost use Rattle.sqlite.specs.State.{HasCleanDisk, Executes, Shown};
+ghost use Rattle.sqlite.specs.Files.{over_files};
 ghost use Rattle.sqlite.specs.Steps.{IsEmpty, over_memory};
+ghost use Rattle.sqlite.specs.WalFiles.{image_at};
 ghost use Rattle.sqlite.specs.Order.{Row as Values};
 ghost use Rattle.sqlite.specs.declared.error.Error.{Error as SqlError};
 ghost use Rattle.ps_ports.specs.Causes.{Rose, counted, raised};
 ghost use Rattle.ps_time.specs.Numbers.{greatest_moment};
 ghost use Rattle.result_keeper.specs.Keeper.{fault_of, store_of, faults_with, put_params, get_params, list_params};
 ghost use Rattle.result_keeper.specs.Row.{IsFound, AreRowsOf};
+ghost use Rattle.result_keeper.specs.Opening.{IsOpenedWith, HasFound};
+ghost use Rattle.result_rows.specs.Found.{IsTableIn};
 ghost use Rattle.result_rows.specs.Keeps.{IsSound, Keeps};
-ghost use Rattle.result_rows.specs.Statement.{create_text, put_text, get_text, list_text};
+ghost use Rattle.result_rows.specs.Statement.{put_text, get_text, list_text};
 ghost use Rattle.result_table.specs.Record.{put_record, find_record, first_above, IsTable, HasMoments, IsAbove};
 ghost use Rattle.result_table.specs.declared.record.Record.{Record as Kept};
 
+use crate::opening::{OpenFault, adopt, open_fault_of};
 use crate::row::{read_found, read_list};
 use ps_ports::faults::Faults;
 use ps_time::key::RunKey;
 use ps_time::moment::Moment;
 use result_rows::run_id::{write_after, write_key};
-use result_rows::statement::{create_table, get_rows, list_rows, put_row};
+use result_rows::statement::{get_rows, list_rows, put_row};
 use result_table::keeper::{Keeper, KeeperFault};
 use result_table::record::{Record, is_good};
-use sqlite::{Alter, Connection, Error, ErrorCode, File, FileStore, MemStore};
+use sqlite::{
+    Alter, Connection, Error, ErrorCode, File, FileFrom, FileStore, MemStore, Start, Unknown,
+};
 use std::alloc::Global;
 
 /// A keeper whose records are the rows of a table `result`: the identifier of the run, both moments in seconds, 1 or 0 for
@@ -45,44 +52,60 @@ fn fault_of(error: &Error) -> KeeperFault
 
 impl SqliteKeeper<MemStore> {
     /// A keeper in memory, with no records.
-    pub fn in_memory(alloc: Global) -> Result<SqliteKeeper<MemStore>, KeeperFault>
+    pub fn in_memory(alloc: Global) -> Result<SqliteKeeper<MemStore>, OpenFault>
         ensures faults { IfOk result (λ keeper. counted keeper.faults ≡ 0) }
         ensures sound { IfOk result (λ keeper. IsSound (store_of over_memory keeper)) }
         ensures table { IfOk result (λ keeper. Keeps (store_of over_memory keeper) []) }
     {
-        SqliteKeeper::over(Connection::open_in_memory(alloc)?)
+        SqliteKeeper::over(alloc, Connection::open_in_memory(alloc)?)
     }
 }
 
 impl SqliteKeeper<FileStore<File>> {
-    /// A keeper over a database in a file, which is made where it isn't there. `Failed` where the file can't be opened, as
-    /// one that another program holds, or is no database.
-    pub fn open(rt: &HostRuntime, path: &str) -> Result<SqliteKeeper<FileStore<File>>, KeeperFault>
+    /// A keeper over a database in a file, which is made where it isn't there. It is `open_from` for a program that states
+    /// nothing of what its files held.
+    pub fn open(rt: &HostRuntime, path: &str) -> Result<SqliteKeeper<FileStore<File>>, OpenFault>
         ensures faults { IfOk result (λ keeper. counted keeper.faults ≡ 0) }
     {
-        match Connection::open(rt, path) {
-            Ok(conn) => SqliteKeeper::over(conn),
-            Err(error) => Err(fault_of(&error)),
+        SqliteKeeper::open_from(rt, path, Unknown)
+    }
+}
+
+impl<S: Start> SqliteKeeper<FileStore<FileFrom<S>>> {
+    /// A keeper over a database in a file, where `S` stands for what the file and its log hold. Its table is the one that they
+    /// hold, and it is empty where they hold no database yet. A file is refused, and stays as it is, where it has other tables
+    /// or rows that are no records.
+    pub fn open_from(
+        rt: &HostRuntime,
+        path: &str,
+        start: S,
+    ) -> Result<SqliteKeeper<FileStore<FileFrom<S>>>, OpenFault>
+        ensures faults { IfOk result (λ keeper. counted keeper.faults ≡ 0) }
+        ensures table { IfOk result (λ keeper. HasCleanDisk (store_of over_files keeper)
+            → IsSound (store_of over_files keeper) × (table : List Kept) × Keeps (store_of over_files keeper) table × IsTableIn (image_at S.Start) table) }
+    {
+        match Connection::open_from(rt, path, false, start) {
+            Ok(conn) => SqliteKeeper::over(rt.alloc(), conn),
+            Err((error, _left)) => Err(open_fault_of(&error)),
         }
     }
 }
 
 impl<S: Alter + Drop> SqliteKeeper<S> {
-    /// Makes the table, where it isn't there.
-    fn over(mut conn: Connection<S>) -> Result<SqliteKeeper<S>, KeeperFault>
+    /// Takes the table of a database that was just opened.
+    fn over(alloc: Global, mut conn: Connection<S>) -> Result<SqliteKeeper<S>, OpenFault>
         ensures faults { IfOk result (λ keeper. counted keeper.faults ≡ 0) }
-        ensures made { IfOk result (λ keeper. HasCleanDisk (store_of S.Store keeper)
-            → (count : ℕ) × Executes create_text [] (state S.Store conn) (store_of S.Store keeper) (Ok count)) }
+        ensures clean { IfOk result (λ keeper. HasCleanDisk (store_of S.Store keeper) → HasCleanDisk (state S.Store conn)) }
         ensures empty { IsEmpty (state S.Store conn) → IfOk result (λ keeper. HasCleanDisk (store_of S.Store keeper)
             → IsSound (store_of S.Store keeper) × Keeps (store_of S.Store keeper) []) }
+        ensures table { IsOpenedWith (state S.Store conn) → IfOk result (λ keeper. HasCleanDisk (store_of S.Store keeper)
+            → HasFound (state S.Store conn) (store_of S.Store keeper)) }
     {
-        match create_table(&mut conn) {
-            Ok(_) => Ok(SqliteKeeper {
-                conn,
-                faults: Faults::none(),
-            }),
-            Err(error) => Err(fault_of(&error)),
-        }
+        adopt(alloc, &mut conn)?;
+        Ok(SqliteKeeper {
+            conn,
+            faults: Faults::none(),
+        })
     }
 }
 

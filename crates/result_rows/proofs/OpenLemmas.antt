@@ -1,6 +1,7 @@
 -- The table of a database that was just opened.
 use Rattle.std.proofs.Common.{◌≡◌, ◌≤◌, ◌<◌, inl, inr, ℕ, ℤ, ◌<ℤ◌, Bool, true, false, not, ◌&&◌, cond, List, [], ◌∷◌, map, flat_map, length, get_or, codes, drop, None, refl, sym, ap, ap₂, subst, ◌∙◌, arith, int_cmp, int_eq, IsTrue, Less}
 use Rattle.std.specs.Cmp.Lexicographic.{slice_cmp}
+use Rattle.std.specs.Fmt.{digits}
 use Rattle.std.specs.List.{AllByRecursion, list_any, list_all}
 use Rattle.std.specs.List.Sorted.{IsPermutation}
 use Rattle.std.specs.Ordering.{nat_cmp, is_eq}
@@ -18,12 +19,10 @@ use Rattle.sqlite.specs.State.{State, Opens, IsUnchanged, Shown}
 use Rattle.sqlite.specs.Tree.{Trees, IsAscending, IsTable as Rises, rowid}
 use Rattle.sqlite.specs.declared.types.Value.{Value}
 use Rattle.sqlite.specs.declared.types.Value.TheVariants.{Null, Int, Real, Text, Blob}
-use Rattle.sqlite_catalog.specs.Listing.{IsSound, IsGuarded, automatic}
+use Rattle.sqlite_catalog.specs.Listing.{IsSound}
 use Rattle.sqlite_keyed.specs.Keyed.{IsKeyedBy}
 use Rattle.sqlite_keyed.proofs.ListLemmas.{map-map, all_map, all_unmap, all_weaker, none_from_any, any_from_none}
-use Rattle.sqlite_rules.specs.Lists.{Has}
 use Rattle.sqlite_schema.specs.Rules.{passes, are_typed, suits, agree}
-use Rattle.sqlite_schema.specs.declared.schema.Index.{Index}
 use Rattle.sqlite_schema.specs.declared.schema.Constraint.TheVariants.{Datatype, Unique}
 use Rattle.sqlite_sql.specs.declared.ops.CompareOp.TheVariants.{Eq}
 use Rattle.sqlite_tied.proofs.RuleLemmas.{clash_is}
@@ -38,7 +37,7 @@ use Rattle.ps_time.proofs.KeyLemmas.{key_cmp_total}
 use Rattle.result_rows.specs.Keeps.{Keeps}
 use Rattle.result_rows.specs.Rows.{key_text, Numbered, number, kept, row_of, HasKey, AreOf, IsRowOf, IsRecord, columns_in}
 use Rattle.result_rows.specs.Statement.{all_text}
-use Rattle.result_rows.specs.Table.{field, results, results_schema, HasResults}
+use Rattle.result_rows.specs.Table.{field, results, results_index, results_schema}
 use Rattle.result_rows.proofs.SelectLemmas.{texts, compared, and_true}
 use Rattle.result_rows.proofs.TableLemmas.{key_of, has, put_new}
 use Rattle.result_rows.proofs.Texts.{all_query, all_command, all_is, all_plain}
@@ -49,26 +48,16 @@ use Rattle.result_table.proofs.UpsertLemmas.{ascending-upsert}
 
 -- ---- the schema
 
-only : {X : Type 0} (x y : X) → Has (x ∷ []) y → x ≡ y
-only x y (inl is) = sym is
-only x y (inr more) = absurd more
-
 -- one key alone
 pub one_key : (keys : List (List ℕ)) (key : List ℕ) → 1 ≤ length keys → length keys < 2 → key ≡ get_or keys 0 key → key ≡ 1 ∷ [] → keys ≡ (1 ∷ []) ∷ []
 one_key [] key some few first is = absurd (omega arith)
 one_key (k ∷ []) key some few first is = ap (λ x. x ∷ []) (sym first ∙ is)
 one_key (k ∷ l ∷ keys) key some few first is = absurd (omega arith)
 
--- the one table has the one index that its key wants
-pub is_schema : (schema : Schema) (db : Trees) → HasResults schema → IsSound schema db → schema ≡ results_schema
-is_schema schema db is sound =
-    let guarded = subst (AllByRecursion (IsGuarded schema.indexes)) is.tables sound.lists.guarded in
-    let made = guarded.0 0 (1 ∷ []) refl in
-    let same : is.index ≡ automatic results 0 (1 ∷ []) made.0 = only is.index _ (subst (λ indexes. Has indexes (automatic results 0 (1 ∷ []) made.0)) is.indexes made.1) in
-    let tree : made.0 ≡ 1 = ap (λ (i : Index). i.tree) (sym same) ∙ is.second in
-    let index : is.index ≡ automatic results 0 (1 ∷ []) 1 = same ∙ ap (automatic results 0 (1 ∷ [])) tree in
-    let indexes = is.indexes ∙ ap (λ i. i ∷ []) index in
-    λ i. record { tables = is.tables i; indexes = indexes i; views = is.unviewed i }
+-- the one table, and the one index that its key wants
+pub is_schema : (schema : Schema) → schema.tables ≡ results ∷ [] → schema.indexes ≡ results_index ∷ [] → schema.views ≡ [] → schema ≡ results_schema
+unfolding digits
+is_schema schema tables indexes views = λ i. record { tables = tables i; indexes = indexes i; views = views i }
 
 -- ---- what the select of all rows shows
 

@@ -1,5 +1,5 @@
 -- The table of results, as the statement that makes it defines it.
-use Rattle.std.specs.Prelude.{◌≡◌, ℕ, true, false, List, [], ◌∷◌, None, codes}
+use Rattle.std.specs.Prelude.{ℕ, true, false, List, [], ◌∷◌, None, codes}
 use Rattle.sqlite.specs.Collation.TheVariants.{Binary}
 use Rattle.sqlite.specs.declared.types.Value.TheVariants.{Null}
 use Rattle.sqlite.specs.Kind.{Kind}
@@ -31,17 +31,13 @@ results = record {
   is_counted = false;
 }
 
+-- the index by `id`, which a key gets by itself
+abbrev pub results_index : Index
+results_index = record { name = codes "sqlite_autoindex_result_1"; tree = 1; table = 0; columns = 1 ∷ []; order = record { digits = 0 }; is_unique = true }
+
 abbrev pub no_schema : Schema
 no_schema = record { tables = []; indexes = []; views = [] }
 
 -- that table alone, with its index by `id`
 abbrev pub results_schema : Schema
 results_schema = created no_schema results
-
--- that table is the only one, with one index, and there is no view
-pub record HasResults (schema : Schema) : Type 0 where
-  pub index : Index
-  pub tables : schema.tables ≡ results ∷ []
-  pub indexes : schema.indexes ≡ index ∷ []
-  pub second : index.tree ≡ 1
-  pub unviewed : schema.views ≡ []

@@ -1,9 +1,9 @@
 //! Whether a database has the table of results, and no other.
-ghost use Rattle.std.specs.Prelude.{◌≡◌, [], true, false, None, IsTrue};
-ghost use Rattle.result_rows.specs.Table.{field, results, no_schema, HasResults};
+ghost use Rattle.std.specs.Prelude.{◌≡◌, [], ◌∷◌, true, false, None, IsTrue};
+ghost use Rattle.result_rows.specs.Table.{field, results, results_index, no_schema, results_schema};
 
 use sqlite_items::Items;
-use sqlite_schema::schema::{Column, Kind, Schema, Table};
+use sqlite_schema::schema::{Column, Index, Kind, Schema, Table};
 use sqlite_value::keys::{Collation, Order};
 use sqlite_value::value::Value;
 
@@ -96,14 +96,45 @@ fn is_results(table: &Table) -> bool
         && has_no_rule(table)
 }
 
+/// Whether the index is that of the key.
+fn is_key_index(index: &Index) -> bool
+    ensures { IsTrue result → index.now ≡ results_index }
+{
+    index.name.as_slice() == "sqlite_autoindex_result_1".as_bytes()
+        && index.tree == 1
+        && index.table == 0
+        && index.columns.as_slice() == [1].as_slice()
+        && index.order.digits == 0
+        && index.is_unique
+}
+
+/// Whether the table of results is the only one.
+fn are_results(tables: &[Table]) -> bool
+    ensures { IsTrue result → tables.now ≡ results ∷ [] }
+{
+    match tables {
+        [table] => is_results(table),
+        _ => false,
+    }
+}
+
+/// Whether the index of its key is the only one.
+fn are_key_index(indexes: &[Index]) -> bool
+    ensures { IsTrue result → indexes.now ≡ results_index ∷ [] }
+{
+    match indexes {
+        [index] => is_key_index(index),
+        _ => false,
+    }
+}
+
 /// Whether the table of results is all that the database has, with the index of its key.
 pub fn has_results(schema: &Schema) -> bool
-    ensures { IsTrue result → HasResults schema.now }
+    ensures { IsTrue result → schema.now ≡ results_schema }
 {
-    let ([table], [index]) = (schema.tables.as_slice(), schema.indexes.as_slice()) else {
-        return false;
-    };
-    is_results(table) && index.tree == 1 && schema.views.is_empty()
+    are_results(schema.tables.as_slice())
+        && are_key_index(schema.indexes.as_slice())
+        && schema.views.is_empty()
 }
 
 /// Whether the database has no table, no index and no view.

@@ -11,7 +11,7 @@ ghost use Rattle.ps_time.specs.declared.id.Id.TheVariants.{Run};
 ghost use Rattle.ps_time.specs.declared.key.RunKey.{RunKey};
 ghost use Rattle.result_rows.specs.Keeps.{IsSound, Keeps};
 ghost use Rattle.result_rows.specs.Rows.{number_of, key_text, text_above, columns_of, HasAfter};
-ghost use Rattle.result_rows.specs.Statement.{create_text, put_text, get_text, list_text};
+ghost use Rattle.result_rows.specs.Statement.{create_text, put_text, get_text, list_text, all_text};
 ghost use Rattle.result_table.specs.Record.{put_record, find_record, first_above, says_good};
 ghost use Rattle.result_table.specs.declared.record.Record.{Record};
 
@@ -28,8 +28,15 @@ const GET: &str = "SELECT id, since, latest, good, body FROM result WHERE id = ?
 const LIST: &str =
     "SELECT id, since, latest, good, body FROM result WHERE id > ?1 ORDER BY id LIMIT ?2";
 
-/// Shows each row of the table.
-pub const ALL: &str = "SELECT id, since, latest, good, body FROM result";
+const ALL: &str = "SELECT id, since, latest, good, body FROM result";
+
+/// The select that shows each row of the table, in no order.
+#[tactic(auto, unfolding(crate::specs::Statement::all_text))]
+pub fn all_select() -> &'static str
+    ensures { result.now ≡ all_text }
+{
+    ALL
+}
 
 /// A moment as the database takes it.
 fn signed(moment: u64) -> i64
