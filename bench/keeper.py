@@ -150,7 +150,7 @@ def refuse_bad(program: str, folder: str) -> None:
         store.executescript(script)
         store.close()
         before = rows_in(path)
-        run(program, path, 0, status=1)
+        run(program, path, 0, status=3 if name == "other" else 4)
         if len(before) != 1 or rows_in(path) != before:
             sys.exit(f"{name}: other rows")
     text = pathlib.Path(folder, "text")

@@ -1,3 +1,4 @@
+mod AgainLemmas
 mod KeeperLemmas
 mod OpenLemmas
 mod RowLemmas

@@ -76,6 +76,9 @@ one_more (x ∷ xs) row all is = (all.0, one_more xs row all.1 is)
 
 -- ---- files
 
+pub begun_with : (s : State) (image : Image) → Opens s → IsLive s → AreFoundIn image s.committed.trees → IsOpenedWith s
+begun_with s image opens live reads = record { opens = opens; live = live; rises = rows_rise image s.now.trees (subst (AreFoundIn image) (sym (ap (λ (d : Database). d.trees) opens.clean)) reads) }
+
 pub found_on : {K : Type 0} (r : Result K OpenFault) (shown : K → State) (old : State) (image : Image) → IfOk r (λ k. HasCleanDisk (shown k) → HasCleanDisk old) → (HasCleanDisk old → Opens old × IsLive old) → (HasCleanDisk old → FindsIn image old)
     → (IsOpenedWith old → IfOk r (λ k. HasCleanDisk (shown k) → HasFound old (shown k)))
     → IfOk r (λ k. HasCleanDisk (shown k) → IsSound (shown k) × (table : List Record) × Keeps (shown k) table × IsTableIn image table)
@@ -86,5 +89,5 @@ found_on (Ok k) shown old image clean opens finds found = λ late.
     let held = finds early in
     let same : old.now.trees ≡ old.committed.trees = ap (λ (d : Database). d.trees) begun.0.clean in
     let reads = subst (AreFoundIn image) (sym same) held.reads in
-    let it = found (record { opens = begun.0; live = begun.1; rises = rows_rise image old.now.trees reads }) late in
+    let it = found (begun_with old image begun.0 begun.1 held.reads) late in
     (it.sound, it.table, it.keeps, record { holds = λ db is. subst (λ d. HoldsTable d it.table) (same ∙ held.holds db is) it.held; reads = (old.now.trees, reads, it.held) })

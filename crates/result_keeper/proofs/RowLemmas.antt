@@ -99,7 +99,7 @@ same_flag false false is = refl
 same_text : (a b : RunKey) → InRange (Run a) → InRange (Run b) → key_text a ≡ key_text b → a ≡ b
 same_text a b ra rb is = same_key a b (sym (texts a b ra rb) ∙ ap (slice_cmp nat_cmp (key_text a)) (sym is) ∙ texts a a ra ra ∙ key_cmp_same a)
 
-same_record : (r s : Record) → HasKey r → IsRowOf (columns_of r) s → s ≡ r
+pub same_record : (r s : Record) → HasKey r → IsRowOf (columns_of r) s → s ≡ r
 same_record r s range is =
     let texts_are : key_text s.key ≡ key_text r.key = let e = is.key in cc in
     let key : s.key ≡ r.key = same_text s.key r.key is.range range texts_are in

@@ -93,7 +93,7 @@ impl<S: Start> SqliteKeeper<FileStore<FileFrom<S>>> {
 
 impl<S: Alter + Drop> SqliteKeeper<S> {
     /// Takes the table of a database that was just opened.
-    fn over(alloc: Global, mut conn: Connection<S>) -> Result<SqliteKeeper<S>, OpenFault>
+    pub(crate) fn over(alloc: Global, mut conn: Connection<S>) -> Result<SqliteKeeper<S>, OpenFault>
         ensures faults { IfOk result (λ keeper. counted keeper.faults ≡ 0) }
         ensures clean { IfOk result (λ keeper. HasCleanDisk (store_of S.Store keeper) → HasCleanDisk (state S.Store conn)) }
         ensures empty { IsEmpty (state S.Store conn) → IfOk result (λ keeper. HasCleanDisk (store_of S.Store keeper)
@@ -106,6 +106,15 @@ impl<S: Alter + Drop> SqliteKeeper<S> {
             conn,
             faults: Faults::none(),
         })
+    }
+}
+
+impl<S: Alter> SqliteKeeper<S> {
+    pub(crate) fn into_connection(self) -> Connection<S>
+        ensures { result ≡ self.conn }
+    {
+        let SqliteKeeper { conn, faults: _ } = self;
+        conn
     }
 }
 

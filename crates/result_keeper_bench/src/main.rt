@@ -1,10 +1,12 @@
 //! Opens the store of results in a file, the first word, puts as many results as the second word says, and prints the report
-//! on all that is kept. The status is 2 for other words, and 1 where a call fails.
+//! on all that is kept. The status is 2 for other words, 3 for a file with other tables, 4 for one with a row that is no
+//! record, and 1 where another call fails.
 #![tactic(auto)]
 
 use ps_time::key::RunKey;
 use ps_time::moment::MAX_MOMENT;
 use ps_time::text::Text;
+use result_keeper::opening::OpenFault;
 use result_keeper::sqlite_keeper::SqliteKeeper;
 use result_table::keeper::{Keeper, KeeperFault};
 use result_table::report::report;
@@ -45,9 +47,20 @@ fn told<Q: Keeper>(rt: &HostRuntime, keeper: &mut Q, count: u16) -> Result<Text,
     report(rt.alloc(), keeper, 0, MAX_MOMENT)
 }
 
-fn told_of_file(rt: &HostRuntime, file: &str, count: u16) -> Result<Text, KeeperFault> {
-    let mut keeper = SqliteKeeper::open(rt, file)?;
-    told(rt, &mut keeper, count)
+fn refusal(fault: OpenFault) -> ExitCode {
+    match fault {
+        OpenFault::OtherTables => ExitCode::from(3),
+        OpenFault::NoRecord => ExitCode::from(4),
+        OpenFault::Failed | OpenFault::Memory => ExitCode::from(1),
+    }
+}
+
+fn told_of_file(rt: &HostRuntime, file: &str, count: u16) -> Result<Text, ExitCode> {
+    let mut keeper = SqliteKeeper::open(rt, file).map_err(refusal)?;
+    match told(rt, &mut keeper, count) {
+        Ok(text) => Ok(text),
+        Err(_fault) => Err(ExitCode::from(1)),
+    }
 }
 
 /// A file and a count.
@@ -75,6 +88,6 @@ fn main(rt: HostRuntime) -> ExitCode {
     };
     match told_of_file(&rt, file.as_str(), count) {
         Ok(text) => print_report(&rt, &text),
-        Err(_fault) => ExitCode::from(1),
+        Err(status) => status,
     }
 }
