@@ -1,8 +1,8 @@
 -- The table of a database that was just opened.
-use Rattle.std.proofs.Common.{◌≡◌, ◌≤◌, ◌<◌, inl, inr, ℕ, ℤ, ◌<ℤ◌, Bool, true, false, not, ◌&&◌, cond, List, [], ◌∷◌, map, flat_map, length, get_or, codes, drop, None, refl, sym, ap, ap₂, subst, ◌∙◌, arith, int_cmp, int_eq, IsTrue, Less}
+use Rattle.std.proofs.Common.{◌≡◌, ◌≤◌, ◌<◌, ℕ, ℤ, ◌<ℤ◌, Bool, true, false, not, ◌&&◌, List, [], ◌∷◌, map, flat_map, length, get_or, codes, drop, None, refl, sym, ap, ap₂, subst, ◌∙◌, arith, int_cmp, int_eq, IsTrue, Less}
 use Rattle.std.specs.Cmp.Lexicographic.{slice_cmp}
 use Rattle.std.specs.Fmt.{digits}
-use Rattle.std.specs.List.{AllByRecursion, list_any, list_all}
+use Rattle.std.specs.List.{AllByRecursion, list_any}
 use Rattle.std.specs.List.Sorted.{IsPermutation}
 use Rattle.std.specs.Ordering.{nat_cmp, is_eq}
 use Rattle.std.proofs.lemmas.Bool.{and_parts}
@@ -160,6 +160,7 @@ no_clash db entries are all =
     all_weaker (λ e. passes Unique results_schema db results (row_of e) ≡ true) _
     (λ e passed. none_from_any (clash e) entries (back (list_any (clash e) entries) (sym (clash_is db 0 row_of number entries are (λ x. refl) (1 ∷ []) same_text agrees e) ∙ (sym (and_true _) ∙ passed))))
     entries (all_unmap (λ row. passes Unique results_schema db results row ≡ true) row_of entries (subst (AllByRecursion (λ row. passes Unique results_schema db results row ≡ true)) are all))
+
 apart : (entries : List Numbered) → IsKeyedBy number entries → AllByRecursion HasKey (map kept entries) → AllByRecursion (λ e. AllByRecursion (λ x. clash e x ≡ false) entries) entries
     → IsAscending (λ a b. has a.1.key b.1 ≡ false) entries
 apart [] up keys none = tt

@@ -1,4 +1,3 @@
-use Rattle.std.proofs.Common.{rules}
 use Rattle.result_keeper.proofs.OpenLemmas.{taken}
 use Rattle.result_keeper.proofs.opening.take_table.Goals as goal
 
