@@ -1,26 +1,21 @@
 -- The key of a task's next attempt, or of a booking, comes after all of its task that stand.
-use Rattle.std.specs.List.{AllByRecursion, last_or}
-use Rattle.std.specs.Prelude.{◌==◌, IsNone, filter, nat_lt, option_and_then}
+use Rattle.std.specs.Prelude.{◌==◌, IsNone, nat_lt}
 use Rattle.std.specs.declared.cmp.Ordering.TheVariants.{Less}
-use Rattle.std.proofs.Common.{◌≡◌, ◌≤◌, ◌<◌, ◌+◌, ◌⊎◌, inl, inr, ℕ, Bool, true, false, cond, nat_le, List, [], ◌∷◌, Option, Some, None, is_some, refl, sym, subst, ap, ◌∙◌, arith}
+use Rattle.std.proofs.Common.{◌≡◌, ◌<◌, ◌+◌, ◌⊎◌, inl, inr, ℕ, Bool, true, false, List, Option, Some, None, is_some, refl, sym, subst, ap, ◌∙◌, arith}
 use Rattle.std.proofs.lemmas.Bool.Decides.{nat_tests}
 use Rattle.ps_time.specs.Key.{key_cmp}
-use Rattle.ps_time.specs.Span.{Range}
-use Rattle.ps_time.specs.Numbers.{horizon, plan_lead, retry_wait}
 use Rattle.ps_time.specs.declared.key.RunKey.{RunKey}
 use Rattle.ps_time.proofs.KeyLemmas.{key_cmp_total}
 use Rattle.ps_time.proofs.PictureLemmas.{and_true}
 use Rattle.ps_time.proofs.SortedLemmas.{ascending-filter}
-use Rattle.schedule_rule.specs.Rule.{Schedule, next_of, numbers_of, reaches_from, window_of}
 use Rattle.run_states.specs.Rows.{IsAscendingRows, find_row}
 use Rattle.run_states.specs.TaskRows.{greatest_number, is_of_task, newest_row, rows_of_task}
 use Rattle.run_states.specs.declared.row.RunRow.{RunRow}
-use Rattle.run_states.specs.declared.why.Closing.{Closing}
-use Rattle.host_model.specs.NextAttempt.{asked_window, attempt_after, attempt_at, attempt_by, attempt_key, fresh_attempt, is_repeatable, next_attempt, repeated}
+use Rattle.host_model.specs.NextAttempt.{attempt_by, attempt_key, next_attempt}
 use Rattle.host_model.specs.declared.lead.Attempt.{Attempt}
 use Rattle.host_model.specs.declared.task_row.TaskRow.{TaskRow}
 use Rattle.host_model.proofs.Placed.{find_row-key}
-use Rattle.host_model.proofs.Wishes.{given_else, given_if}
+use Rattle.host_model.proofs.Wishes.{given_else}
 use Rattle.host_model.specs.Booking.{booking_key}
 use Rattle.host_model.proofs.NewNumbers.{above_new}
 use Rattle.host_model.proofs.NextKeys.{Low, after_row, all_low, all_none, filter_has, found_kept, newest_has}

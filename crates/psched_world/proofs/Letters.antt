@@ -123,7 +123,7 @@ upto : (n : ℕ) → n ≤ greatest_moment → (o : Option ℕ) → IsUpTo n o �
 upto n low None is d other = other
 upto n low (Some x) is d other = omega (arith, is, low)
 
-kept_start : (test : TestSpec) (a : Option ℕ) (t : Option (List ℕ)) (i : Option Span) → Reserves test a t i → start_of_span i ≤ greatest_moment
+pub kept_start : (test : TestSpec) (a : Option ℕ) (t : Option (List ℕ)) (i : Option Span) → Reserves test a t i → start_of_span i ≤ greatest_moment
 kept_start test None None None has = omega arith
 kept_start test (Some a) (Some t) (Some x) has = has.1
 kept_start test None None (Some x) has = absurd has
@@ -139,6 +139,41 @@ first_in (Some d) p one other = one
 unless_in : (t : Bool) (d : Denial) → IsDenial d → IfSome (unless t d) IsDenial
 unless_in true d is = tt
 unless_in false d is = is
+
+-- ---- why a host denies a proposal, of its settled book
+module _ (c : Config) (b : Book) (m : ℕ) (within : m ≤ greatest_moment) (lawful : Lawful c.number (settled m b)) where
+  abbrev now : Book
+  now = settled m b
+
+  pub objected_in : (lead : List ℕ) (p : Proposal) → p.start ≤ greatest_moment → IfSome (denial_of (place_of c now lead) now.rows m p) IsDenial
+  objected_in lead p low =
+      first_in (unless (is_named c.name (participants p.test lead)) denial.NotParticipant) _ (unless_in (is_named c.name (participants p.test lead)) denial.NotParticipant tt)
+      (first_in (objection c.installed (limits_in c now) now.rows m p) (full_denial now.rows (place_of c now lead).bytes) (objection_within c now m p within low)
+      (first_in (unless (nat_lt (length now.rows) most_rows) (denial.Full Runs (length now.rows))) (unless (nat_lt (result_bytes now.rows) most_kept_bytes) (denial.Full Results (result_bytes now.rows)))
+      (unless_in (nat_lt (length now.rows) most_rows) (denial.Full Runs (length now.rows)) tt) (unless_in (nat_lt (result_bytes now.rows) most_kept_bytes) (denial.Full Results (result_bytes now.rows)) tt)))
+
+  module _ (lead : List ℕ) (p : Proposal) (sent : IsProposal p) where
+    pub denied_in : (o : Option RunRow) → find_row now.rows p.key ≡ o → (d : Denial) → decided_at (place_of c now lead) now.rows m p o ≡ Denied d → IsDenial d
+    denied_in None at d e = go (denial_of (place_of c now lead) now.rows m p) (objected_in lead p sent.start) e
+      where
+        go : (x : Option Denial) → IfSome x IsDenial → decided_new x ≡ Denied d → IsDenial d
+        go None is f = cc
+        go (Some y) is f = let same : y ≡ d = cc in subst IsDenial same is
+    denied_in (Some r) at d e = go (same_content r p (participants p.test lead)) e
+      where
+        row : IsHostRow c.number now.tasks now.moment r
+        row = lawful_at c.number now lawful p.key r at
+
+        kept : IsProposal (kept_proposal r)
+        kept = record { test = row.row.test; start = kept_start r.test r.accepted r.tool r.interval row.row.reserves }
+
+        known : (x : Option Closing) → decided_known r x ≡ Denied d → IsDenial d
+        known None f = cc
+        known (Some y) f = let same : denial.Closed (closed_state y.why) ≡ d = cc in subst IsDenial same tt
+
+        go : (t : Bool) → cond t (decided_known r r.closed) (Denied (denial.Differs (kept_proposal r) p)) ≡ Denied d → IsDenial d
+        go true f = known r.closed f
+        go false f = let same : denial.Differs (kept_proposal r) p ≡ d = cc in subst IsDenial same (kept, sent)
 
 -- ---- what a host answers to an order, of its settled book
 module _ (c : Config) (config : IsConfig c) (b : Book) (m : ℕ) (within : m ≤ greatest_moment) (lawful : Lawful c.number (settled m b))
@@ -173,43 +208,14 @@ module _ (c : Config) (config : IsConfig c) (b : Book) (m : ℕ) (within : m ≤
       go false = tt
 
   -- ---- a proposal
-  objected_in : (lead : List ℕ) (p : Proposal) → p.start ≤ greatest_moment → IfSome (denial_of (place_of c s lead) s.rows m p) IsDenial
-  objected_in lead p low =
-      first_in (unless (is_named c.name (participants p.test lead)) denial.NotParticipant) _ (unless_in (is_named c.name (participants p.test lead)) denial.NotParticipant tt)
-      (first_in (objection c.installed (limits_in c s) s.rows m p) (full_denial s.rows (place_of c s lead).bytes) (objection_within c s m p within low)
-      (first_in (unless (nat_lt (length s.rows) most_rows) (denial.Full Runs (length s.rows))) (unless (nat_lt (result_bytes s.rows) most_kept_bytes) (denial.Full Results (result_bytes s.rows)))
-      (unless_in (nat_lt (length s.rows) most_rows) (denial.Full Runs (length s.rows)) tt) (unless_in (nat_lt (result_bytes s.rows) most_kept_bytes) (denial.Full Results (result_bytes s.rows)) tt)))
-
   module _ (lead : List ℕ) (p : Proposal) (sent : IsProposal p) where
-    denied_in : (o : Option RunRow) → find_row s.rows p.key ≡ o → (d : Denial) → decided_at (place_of c s lead) s.rows m p o ≡ Denied d → IsDenial d
-    denied_in None at d e = go (denial_of (place_of c s lead) s.rows m p) (objected_in lead p sent.start) e
-      where
-        go : (x : Option Denial) → IfSome x IsDenial → decided_new x ≡ Denied d → IsDenial d
-        go None is f = cc
-        go (Some y) is f = let same : y ≡ d = cc in subst IsDenial same is
-    denied_in (Some r) at d e = go (same_content r p (participants p.test lead)) e
-      where
-        row : IsHostRow c.number s.tasks s.moment r
-        row = lawful_at c.number s lawful p.key r at
-
-        kept : IsProposal (kept_proposal r)
-        kept = record { test = row.row.test; start = kept_start r.test r.accepted r.tool r.interval row.row.reserves }
-
-        known : (x : Option Closing) → decided_known r x ≡ Denied d → IsDenial d
-        known None f = cc
-        known (Some y) f = let same : denial.Closed (closed_state y.why) ≡ d = cc in subst IsDenial same tt
-
-        go : (t : Bool) → cond t (decided_known r r.closed) (Denied (denial.Differs (kept_proposal r) p)) ≡ Denied d → IsDenial d
-        go true f = known r.closed f
-        go false f = let same : denial.Differs (kept_proposal r) p ≡ d = cc in subst IsDenial same (kept, sent)
-
     decided_in : (d : Decision) → decide (place_of c s lead) s.rows m p ≡ d → IsAnswer (heard_as (decided_outcome s m lead p d).reply)
     decided_in New e = within
     decided_in (Known n) e =
         let x = known_row (place_of c s lead) s.rows m p n e in
         let row = lawful_at c.number s lawful p.key x.0 x.1 in
         subst (λ y. y ≤ greatest_moment) x.3 (upto m within x.0.accepted row.row.moments.accepted 0 (omega arith))
-    decided_in (Denied d) e = denied_in (find_row s.rows p.key) refl d e
+    decided_in (Denied d) e = denied_in c b m within lawful lead p sent (find_row s.rows p.key) refl d e
 
   propose_in : (sender : ℕ) (p : Proposal) → IsProposal p → IsAnswer (heard_as (propose c s m sender p).reply)
   propose_in sender p sent = lead_in (lead_name c sender p.key) (λ lead. decided_outcome s m lead p (decide (place_of c s lead) s.rows m p)) (λ lead. decided_in lead p sent (decide (place_of c s lead) s.rows m p) refl)
