@@ -29,6 +29,11 @@ use Rattle.api_input.specs.declared.place.Target.{Target}
 use Rattle.api_input.specs.declared.refusal.Refusal.{Refusal}
 use Rattle.api_input.specs.declared.refusal.Refusal.TheVariants.{NotFound, Method, NoPeerKey, Query}
 
+-- ---- from where it comes
+-- the most bytes of the address of the other side of a connection
+abbrev pub most_address_bytes : ℕ
+most_address_bytes = 255
+
 -- ---- who sends it
 -- the peer shows the key that this host has for it
 abbrev pub with_key : List ℕ → Option PeerHost → Option PeerHost

@@ -1,6 +1,7 @@
 //! What a path names.
-ghost use Rattle.std.specs.Prelude.{◌≡◌, ◌==◌, ◌&&◌, Some, option_map};
+ghost use Rattle.std.specs.Prelude.{◌≡◌, ◌≤◌, ◌==◌, ◌&&◌, IfSome, IsTrue, Some, length, option_map};
 ghost use Rattle.std.specs.List.{list_all, slice_split};
+ghost use Rattle.ps_time.specs.Numbers.{most_head_bytes};
 ghost use Rattle.api_input.specs.Routes.{part};
 ghost use Rattle.api_input.specs.Places.{is_ascii_byte, is_plain, serial_in, key_in, below_task, run_in, place_in, target_in, target_of};
 
@@ -68,7 +69,8 @@ fn is_ascii(bytes: &[u8]) -> bool
 
 /// Whether a path is short enough and ASCII.
 fn is_plain(path: &str) -> bool
-    ensures { result ≡ is_plain path.now }
+    ensures value { result ≡ is_plain path.now }
+    ensures short { IsTrue result → length path.now ≤ most_head_bytes }
 {
     path.len() <= MOST_PATH && is_ascii(path.as_bytes())
 }
@@ -184,7 +186,8 @@ fn target_in(number: u16, parts: &Parts) -> Option<Target>
 /// What a path names on the host with this number, where `parts` are its parts; `None` where it names nothing.
 pub fn find_target(number: u16, path: &str, parts: &Parts) -> Option<Target>
     requires { parts.now ≡ slice_split (λ b. b == 47) path.now }
-    ensures { result ≡ target_of number path.now }
+    ensures value { result ≡ target_of number path.now }
+    ensures short { IfSome result (λ target. length path.now ≤ most_head_bytes) }
 {
     if !is_plain(path) {
         return None;

@@ -1,6 +1,8 @@
 //! The query of a schedule.
 ghost use Rattle.std.specs.Prelude.{◌≡◌, ◌≤◌, [], ◌∷◌, IfOk, IfSome, codes, option_map};
 ghost use Rattle.ps_time.specs.declared.moment.TheConstants.{MAX_MOMENT};
+ghost use Rattle.host_model.specs.Conditions.{IsPage};
+ghost use Rattle.host_model.specs.declared.view.Page.{Page};
 ghost use Rattle.api_input.specs.Query.{interval_of, value_of, moment_in, from_to, window_by, window_of};
 
 use crate::parts::Parts;
@@ -15,7 +17,8 @@ use std::alloc::Global;
 const DAY: u64 = 86_400;
 
 fn interval_of(start: Moment, end: Moment) -> Option<Interval>
-    ensures { result ≡ interval_of start end }
+    ensures value { result ≡ interval_of start end }
+    ensures ends { IfSome result (λ window. (window.start ≡ start) × (window.end ≡ end)) }
 {
     if end <= start {
         return None;
@@ -47,7 +50,9 @@ fn moment_in(alloc: Global, name: &str, pair: &str) -> Result<Option<Moment>, Me
 
 /// One of the two ends alone.
 fn window_of_one(alloc: Global, now: Moment, pair: &str) -> Result<Option<Interval>, Memory>
+    requires { now ≤ MAX_MOMENT }
     ensures value { IfOk result (λ window. window ≡ window_by now (pair.now ∷ [])) }
+    ensures bounds { IfOk result (λ window. IfSome window (λ w. IsPage (Page.Schedule w.start w.end))) }
 {
     if let Some(start) = moment_in(alloc, "start", pair)? {
         return Ok(interval_of(start, start + DAY));
@@ -60,7 +65,8 @@ fn window_of_one(alloc: Global, now: Moment, pair: &str) -> Result<Option<Interv
 
 /// Both ends.
 fn window_of_two(alloc: Global, start: &str, end: &str) -> Result<Option<Interval>, Memory>
-    ensures { IfOk result (λ window. window ≡ from_to (moment_in (codes "start") start.now) (moment_in (codes "end") end.now)) }
+    ensures value { IfOk result (λ window. window ≡ from_to (moment_in (codes "start") start.now) (moment_in (codes "end") end.now)) }
+    ensures bounds { IfOk result (λ window. IfSome window (λ w. IsPage (Page.Schedule w.start w.end))) }
 {
     let Some(start) = moment_in(alloc, "start", start)? else {
         return Ok(None);
@@ -72,7 +78,9 @@ fn window_of_two(alloc: Global, start: &str, end: &str) -> Result<Option<Interva
 }
 
 fn window_by(alloc: Global, now: Moment, parts: &Parts) -> Result<Option<Interval>, Memory>
-    ensures { IfOk result (λ window. window ≡ window_by now parts.now) }
+    requires { now ≤ MAX_MOMENT }
+    ensures value { IfOk result (λ window. window ≡ window_by now parts.now) }
+    ensures bounds { IfOk result (λ window. IfSome window (λ w. IsPage (Page.Schedule w.start w.end))) }
 {
     match parts.len() {
         1 => window_of_one(alloc, now, parts.at(0)),
@@ -89,7 +97,8 @@ pub fn read_window(
     query: &Option<Text>,
 ) -> Result<Option<Interval>, Memory>
     requires { now ≤ MAX_MOMENT }
-    ensures { IfOk result (λ window. window ≡ window_of now query.now) }
+    ensures value { IfOk result (λ window. window ≡ window_of now query.now) }
+    ensures bounds { IfOk result (λ window. IfSome window (λ w. IsPage (Page.Schedule w.start w.end))) }
 {
     match query {
         Some(query) if query.len() > 0 => {
