@@ -1,11 +1,12 @@
 -- The bodies by which peers deny: their members, in the order in which they are read.
 use Rattle.std.specs.Str.{bytes_eq}
-use Rattle.std.specs.Prelude.{◌^◌, ◌-◌, Err, List, None, Ok, Option, Result, Some, codes, if◌then◌else◌, negsuc, pos, ℕ, ℤ}
+use Rattle.std.specs.Prelude.{◌^◌, ◌-◌, Err, List, None, Ok, Option, Result, Some, codes, if◌then◌else◌, length, nat_le, negsuc, pos, ℕ, ℤ}
 use Rattle.serde_json.specs.Data.{Data, Members}
 use Rattle.ps_json.specs.Answer.{then_with}
 use Rattle.ps_json.specs.Kinds.{count_of, integer_of}
 use Rattle.ps_json.specs.Member.{member_then, required}
 use Rattle.ps_json.specs.declared.fault.JsonFault.TheVariants.{WrongKind}
+use Rattle.ps_time.specs.Numbers.{most_request_bytes}
 use Rattle.ps_time.specs.declared.asker.Verdict.TheVariants.{Stopped, Exhausted, AboveCeiling}
 use Rattle.run_states.specs.declared.proposal.Proposal.{Proposal}
 use Rattle.run_states.specs.declared.why.Denial.{Denial}
@@ -78,6 +79,10 @@ full_in ms =
 abbrev pub most_texts : ℕ
 most_texts = 960_000
 
+-- such a proposal with its test and the lengths of its texts
+abbrev pub most_proposal_texts : ℕ
+most_proposal_texts = 1_048_576
+
 abbrev pub proposal_at : List ℕ → List ℕ → Data → Result Proposal TaskFault
 proposal_at lead name d = proposal_of most_texts lead d
 
@@ -93,8 +98,12 @@ closed_in ms = member_then (codes "why") (required wrapped state_in) ms (λ s ms
 abbrev pub stranger_in : Members → Result Denial TaskFault
 stranger_in ms = member_then (codes "host") (required wrapped text_at) ms (λ host ms. ended ms denial.NotParticipant)
 
+-- no text of a body is longer than the body
+abbrev pub tool_at : List ℕ → Data → Result (List ℕ) TaskFault
+tool_at name d = then_with (text_at name d) (λ text. if nat_le (length text) most_request_bytes then Ok text else Err (Json (WrongKind name)))
+
 abbrev pub no_tool_in : Members → Result Denial TaskFault
-no_tool_in ms = member_then (codes "tool") (required wrapped text_at) ms (λ tool ms. ended ms (denial.NoTool tool))
+no_tool_in ms = member_then (codes "tool") (required wrapped tool_at) ms (λ tool ms. ended ms (denial.NoTool tool))
 
 -- ---- by the error
 abbrev pub by_error : List ℕ → List ℕ → Members → Result Denial TaskFault

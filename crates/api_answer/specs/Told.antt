@@ -1,7 +1,7 @@
 -- What the bodies of answers of peers tell: their members, in the order in which they are read.
 use Rattle.std.specs.List.{list_all}
 use Rattle.std.specs.Str.{bytes_eq}
-use Rattle.std.specs.Prelude.{◌&&◌, ◌∷◌, Bool, Err, List, None, Ok, Option, Result, Some, [], codes, if◌then◌else◌, length, nat_le, option_and_then, ℕ}
+use Rattle.std.specs.Prelude.{◌&&◌, ◌∷◌, ◌≤◌, All, Bool, Err, List, None, Ok, Option, Result, Some, [], codes, if◌then◌else◌, length, nat_le, option_and_then, ℕ}
 use Rattle.serde_json.specs.Data.{Data, Members, depth}
 use Rattle.serde_json.specs.Find.{as_number, as_u64, get_member}
 use Rattle.serde_json.specs.Written.{compact_text, has_float}
@@ -15,6 +15,7 @@ use Rattle.ps_time.specs.Numbers.{greatest_moment, most_intervals, most_result_b
 use Rattle.ps_time.specs.Span.{Range}
 use Rattle.ps_time.specs.declared.tiers.Tiers.{Tiers}
 use Rattle.plugin_core.specs.ReadTest.{all_differ}
+use Rattle.run_states.specs.LawfulRow.{IsWindow}
 use Rattle.run_states.specs.declared.answer.FreeAnswer.{FreeAnswer}
 use Rattle.run_states.specs.declared.state.State.{State}
 use Rattle.run_states.specs.declared.state.State.TheVariants as state
@@ -61,6 +62,11 @@ window_or name (Some w) = Ok w
 
 abbrev pub window_in : List ℕ → Data → Result Range TaskFault
 window_in name d = then_with (in_json (list_of name d)) (λ ends. window_or name (window_of ends))
+
+-- windows within bounds, not too many
+pub record IsTier (windows : List Range) : Type 0 where
+  pub each : All IsWindow windows
+  pub few : length windows ≤ most_intervals
 
 -- at most 128
 abbrev pub windows_in : List ℕ → Data → Result (List Range) TaskFault

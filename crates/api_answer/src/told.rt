@@ -1,19 +1,21 @@
 //! What the bodies of answers of peers tell.
 ghost use Rattle.std.specs.List.{list_all};
-ghost use Rattle.std.specs.Prelude.{◌≡◌, ◌≤◌, None, true, IfOk, OnOk, codes, length, map};
+ghost use Rattle.std.specs.Prelude.{◌≡◌, ◌≤◌, All, None, true, IfOk, IfSome, OnOk, codes, length, map};
 ghost use Rattle.serde_json.specs.View.{view};
 ghost use Rattle.ps_json.specs.Answer.{GivesUnless};
 ghost use Rattle.ps_json.specs.Each.{read_each};
 ghost use Rattle.ps_json.specs.Fields.{without_member};
 ghost use Rattle.ps_json.specs.Member.{required};
-ghost use Rattle.ps_time.specs.Numbers.{most_intervals};
 ghost use Rattle.ps_time.specs.declared.moment.TheConstants.{MAX_MOMENT};
 ghost use Rattle.task_spec.specs.Fault.{wrapped};
-ghost use Rattle.host_model.specs.Conditions.{IsResultHeard};
+ghost use Rattle.run_states.specs.LawfulRow.{IsWindow};
+ghost use Rattle.host_model.specs.Conditions.{IsAnswer, IsFreeHeard, IsResultHeard};
+ghost use Rattle.host_model.specs.InputLength.{heard_texts, most_input_texts};
+ghost use Rattle.host_model.specs.RecordLength.{answer_bytes};
 ghost use Rattle.plugin_core.specs.ReadTest.{all_differ};
 ghost use Rattle.task_spec.specs.ReadTask.{is_tool};
 ghost use Rattle.api_body.specs.Bodies.{ended, text_at};
-ghost use Rattle.api_answer.specs.Told.{moment_told, flag_in, flag_told, moment_of, window_from, window_of, window_in, windows_in, are_tools, tools_in, first_in, second_in, tiers_in, after_tiers, free_told, result_in, state_named, state_in, outcome_by, outcome_told};
+ghost use Rattle.api_answer.specs.Told.{IsTier, moment_told, flag_in, flag_told, moment_of, window_from, window_of, window_in, windows_in, are_tools, tools_in, first_in, second_in, tiers_in, after_tiers, free_told, result_in, state_named, state_in, outcome_by, outcome_told};
 
 use api_body::bodies::{take_moment, take_text};
 use host_model::order::PeerAnswer;
@@ -77,7 +79,8 @@ pub fn read_told_flag(alloc: Global, value: Value, name: &str) -> Result<bool, T
 }
 
 fn moment_of(value: &Value) -> Option<Moment>
-    ensures { result ≡ moment_of (view value.now) }
+    ensures value { result ≡ moment_of (view value.now) }
+    ensures bound { IfSome result (λ moment. moment ≤ MAX_MOMENT) }
 {
     match value.as_u64() {
         Some(moment) if moment <= MAX_MOMENT => Some(moment),
@@ -86,7 +89,9 @@ fn moment_of(value: &Value) -> Option<Moment>
 }
 
 fn window_from(first: Option<Moment>, last: Option<Moment>) -> Option<Window>
-    ensures { result ≡ window_from first last }
+    requires { IfSome last (λ moment. moment ≤ MAX_MOMENT) }
+    ensures value { result ≡ window_from first last }
+    ensures bounds { IfSome result IsWindow }
 {
     match (first, last) {
         (Some(first), Some(last)) if first <= last => Some(Window { first, last }),
@@ -96,7 +101,8 @@ fn window_from(first: Option<Moment>, last: Option<Moment>) -> Option<Window>
 
 /// The window whose two ends stand in a list.
 fn window_of(ends: &[Value]) -> Option<Window>
-    ensures { result ≡ window_of (map view ends.now) }
+    ensures value { result ≡ window_of (map view ends.now) }
+    ensures bounds { IfSome result IsWindow }
 {
     match ends {
         [first, last] => window_from(moment_of(first), moment_of(last)),
@@ -106,6 +112,7 @@ fn window_of(ends: &[Value]) -> Option<Window>
 
 fn read_window(alloc: Global, value: Value, name: &str) -> Result<Window, TaskFault>
     ensures value { GivesUnless TaskFault.Memory result (window_in name.now (view value)) }
+    ensures bounds { IfOk result IsWindow }
 {
     let ends = read_list(alloc, value, name)?;
     match window_of(ends.as_slice()) {
@@ -116,6 +123,7 @@ fn read_window(alloc: Global, value: Value, name: &str) -> Result<Window, TaskFa
 
 fn read_windows(alloc: Global, values: Vec<Value>, name: &str) -> Result<Items<Window>, TaskFault>
     ensures value { GivesUnless TaskFault.Memory result (read_each (window_in name.now) (map view values.items)) }
+    ensures bounds { IfOk result (All IsWindow) }
     ensures count { IfOk result (λ windows. length windows ≡ length values.items) }
 {
     let mut windows = Items::new(alloc);
@@ -127,7 +135,7 @@ fn read_windows(alloc: Global, values: Vec<Value>, name: &str) -> Result<Items<W
 
 fn take_windows(alloc: Global, fields: &mut Fields, name: &str) -> Result<Items<Window>, TaskFault>
     ensures value { GivesUnless TaskFault.Memory result (required wrapped windows_in name.now fields.old) }
-    ensures count { IfOk result (λ windows. length windows ≤ most_intervals) }
+    ensures bounds { IfOk result IsTier }
     ensures rest { fields.new ≡ without_member name.now fields.old }
 {
     let value = fields.need(alloc, name)?;
@@ -198,6 +206,7 @@ fn take_tools(alloc: Global, fields: &mut Fields) -> Result<Items<Text>, TaskFau
 #[tactic(auto, unfolding(crate::specs::Told::first_in))]
 fn take_first(alloc: Global, fields: &mut Fields) -> Result<Items<Window>, TaskFault>
     ensures value { GivesUnless TaskFault.Memory result (first_in fields.old) }
+    ensures bounds { IfOk result IsTier }
     ensures rest { fields.new ≡ without_member (codes "first-tier") fields.old }
 {
     take_windows(alloc, fields, "first-tier")
@@ -206,6 +215,7 @@ fn take_first(alloc: Global, fields: &mut Fields) -> Result<Items<Window>, TaskF
 #[tactic(auto, unfolding(crate::specs::Told::second_in))]
 fn take_second(alloc: Global, fields: &mut Fields) -> Result<Items<Window>, TaskFault>
     ensures value { GivesUnless TaskFault.Memory result (second_in fields.old) }
+    ensures bounds { IfOk result IsTier }
     ensures rest { fields.new ≡ without_member (codes "second-tier") fields.old }
 {
     take_windows(alloc, fields, "second-tier")
@@ -214,6 +224,7 @@ fn take_second(alloc: Global, fields: &mut Fields) -> Result<Items<Window>, Task
 /// The two tiers of an answer.
 fn take_tiers(alloc: Global, fields: &mut Fields) -> Result<Tiers, TaskFault>
     ensures value { GivesUnless TaskFault.Memory result (tiers_in fields.old) }
+    ensures bounds { IfOk result (λ tiers. IsTier tiers.first × IsTier tiers.second) }
     ensures rest { OnOk result (fields.new ≡ after_tiers fields.old) }
 {
     let first = take_first(alloc, fields)?;
@@ -223,7 +234,12 @@ fn take_tiers(alloc: Global, fields: &mut Fields) -> Result<Tiers, TaskFault>
 
 /// The free answer, if nothing but comments is left beside it.
 fn end_free(alloc: Global, fields: Fields, answer: FreeAnswer) -> Result<FreeAnswer, TaskFault>
+    requires tools { are_tools answer.tools ≡ true }
+    requires first { IsTier answer.tiers.first }
+    requires second { IsTier answer.tiers.second }
     ensures value { GivesUnless TaskFault.Memory result (ended fields answer) }
+    ensures bounds { IfOk result IsFreeHeard }
+    ensures short { IfOk result (λ answer. answer_bytes answer ≤ most_input_texts) }
 {
     fields.end(alloc)?;
     Ok(answer)
@@ -232,6 +248,8 @@ fn end_free(alloc: Global, fields: Fields, answer: FreeAnswer) -> Result<FreeAns
 /// The answer to a question for free starts.
 pub fn read_free(alloc: Global, value: Value) -> Result<FreeAnswer, TaskFault>
     ensures value { GivesUnless TaskFault.Memory result (free_told (view value)) }
+    ensures bounds { IfOk result IsFreeHeard }
+    ensures short { IfOk result (λ answer. answer_bytes answer ≤ most_input_texts) }
 {
     let mut fields = Fields::open(alloc, value, "answer")?;
     let tiers = take_tiers(alloc, &mut fields)?;
@@ -287,6 +305,7 @@ pub fn take_state(alloc: Global, fields: &mut Fields, name: &str) -> Result<Stat
 
 fn end_answer(alloc: Global, fields: Fields, answer: PeerAnswer) -> Result<PeerAnswer, TaskFault>
     ensures value { GivesUnless TaskFault.Memory result (ended fields answer) }
+    ensures same { IfOk result (λ made. made ≡ answer) }
 {
     fields.end(alloc)?;
     Ok(answer)
@@ -294,6 +313,8 @@ fn end_answer(alloc: Global, fields: Fields, answer: PeerAnswer) -> Result<PeerA
 
 fn read_pending(alloc: Global, mut fields: Fields) -> Result<PeerAnswer, TaskFault>
     ensures value { GivesUnless TaskFault.Memory result (outcome_by None fields) }
+    ensures bounds { IfOk result IsAnswer }
+    ensures short { IfOk result (λ made. heard_texts made ≤ most_input_texts) }
 {
     let state = take_state(alloc, &mut fields, "state")?;
     end_answer(alloc, fields, PeerAnswer::State(state))
@@ -302,6 +323,8 @@ fn read_pending(alloc: Global, mut fields: Fields) -> Result<PeerAnswer, TaskFau
 /// How a run went, or the state that it is in.
 pub fn read_outcome(alloc: Global, value: Value) -> Result<PeerAnswer, TaskFault>
     ensures value { GivesUnless TaskFault.Memory result (outcome_told (view value)) }
+    ensures bounds { IfOk result IsAnswer }
+    ensures short { IfOk result (λ made. heard_texts made ≤ most_input_texts) }
 {
     let mut fields = Fields::open(alloc, value, "answer")?;
     match fields.take("result") {

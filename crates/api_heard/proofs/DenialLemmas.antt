@@ -1,10 +1,15 @@
 -- Denials are read again.
-use Rattle.std.proofs.Common.{◌&&◌, ◌-◌, ◌^◌, ◌≡◌, ◌≤◌, List, Ok, Some, arith, codes, nat_le, nat_lt, negsuc, pos, refl, sym, true, ℕ, ℤ}
+use Rattle.std.proofs.Common.{◌&&◌, ◌++◌, ◌-◌, ◌^◌, ◌∷◌, ◌≡◌, ◌≤◌, Bool, List, Ok, Some, [], arith, codes, cond, false, length, length-append, nat_le, nat_lt, negsuc, pos, refl, sym, true, ℕ, ℤ}
 use Rattle.std.proofs.lemmas.Bool.Decides.{nat_tests}
 use Rattle.std.proofs.lemmas.Int.{ints}
+use Rattle.std.proofs.lemmas.List.Concat.{flat_map-cons}
 use Rattle.std.specs.Int.Signed.{◌≤ℤ◌}
+use Rattle.std.specs.List.{flat_map}
+use Rattle.json.specs.Print.{escape, escape_byte, escape_letter, quoted}
 use Rattle.serde_json.specs.Data.{Data, member, no_members, number, object, string}
 use Rattle.serde_json.specs.Find.{of_integer}
+use Rattle.serde_json.specs.Written.{comma_if, compact_text}
+use Rattle.ps_time.specs.Numbers.{most_request_bytes}
 use Rattle.ps_time.specs.declared.asker.Verdict.{Verdict}
 use Rattle.ps_time.specs.declared.asker.Verdict.TheVariants.{Permitted, Stopped, Exhausted, AboveCeiling}
 use Rattle.ps_time.specs.declared.key.RunKey.{RunKey}
@@ -29,6 +34,33 @@ use Rattle.api_order.proofs.BodyLemmas.{key_back, moment_back, priority_back, pr
 use Rattle.api_order.proofs.KeyLemmas.{key_read}
 use Rattle.api_heard.proofs.ToldLemmas.{state_named_back}
 use Rattle.api_heard.specs.Replied.{IsDenialTold, IsProposalTold, IsVerdictTold}
+
+-- ---- texts in a body
+no_shorter : (a b : Bool) (p q r : List ℕ) → 1 ≤ length p → 1 ≤ length q → 1 ≤ length r → 1 ≤ length (cond a p (cond b q r))
+no_shorter true b p q r hp hq hr = hp
+no_shorter false true p q r hp hq hr = hq
+no_shorter false false p q r hp hq hr = hr
+
+-- a byte is written as at least one
+byte_long : (x : ℕ) → 1 ≤ length (escape_byte x)
+unfolding escape_byte
+byte_long x = no_shorter (nat_lt 0 (escape_letter x)) (nat_lt x 32) _ _ _ (omega arith) (omega arith) (omega arith)
+
+escape_long : (bs : List ℕ) → length bs ≤ length (escape bs)
+escape_long [] = omega arith
+escape_long (x ∷ xs) = rw (flat_map-cons escape_byte x xs, length-append (escape_byte x) (flat_map escape_byte xs)) (omega (arith, byte_long x, escape_long xs))
+
+-- a text is no longer than an object with it as its last member
+behind : (p q : List ℕ) → length q ≤ length (p ++ q)
+behind p q = omega (arith, length-append p q)
+
+last_long : (a b c d text : List ℕ) → length text ≤ length (123 ∷ (a ++ 58 ∷ (b ++ (c ++ (d ++ 58 ∷ (quoted text ++ 125 ∷ []))))))
+last_long a b c d text =
+    let own : length text ≤ length (quoted text ++ 125 ∷ []) = omega (arith, escape_long text, length-append (escape text) (34 ∷ []), length-append (quoted text) (125 ∷ [])) in
+    omega (arith, own, behind d (58 ∷ (quoted text ++ 125 ∷ [])), behind c (d ++ 58 ∷ (quoted text ++ 125 ∷ [])), behind b (c ++ (d ++ 58 ∷ (quoted text ++ 125 ∷ []))), behind a (58 ∷ (b ++ (c ++ (d ++ 58 ∷ (quoted text ++ 125 ∷ []))))))
+
+named_long : (tool : List ℕ) → length tool ≤ length (compact_text (error_with (codes "no tool") (codes "tool") tool))
+named_long tool = last_long (quoted (codes "error")) (quoted (codes "no tool")) (comma_if true) (quoted (codes "tool")) tool
 
 module _ (lead : List ℕ) where
   -- ---- limits
@@ -96,12 +128,19 @@ module _ (lead : List ℕ) where
   pub closed_back : (s : State) → denial_told lead (error_with (codes "closed") (codes "why") (state_text s)) ≡ Ok (denial.Closed s)
   closed_back s = closed_put s (state_text s) (state_named_back s)
 
-  pub denial_back : ((test : TestSpec) → IsTest test → test_of (test_data test) ≡ Ok test) → (name : List ℕ) (d : Denial) → IsDenialTold lead d → denial_told lead (denial_data name d) ≡ Ok d
-  denial_back tests name (denial.Limits v) is = limits_back v is
-  denial_back tests name (denial.Past m start) is = past_put m start (second_data m) (second_data start) (moment_back (codes "moment") m is.0) (moment_back (codes "start") start is.1)
-  denial_back tests name (denial.Conflict k) is = conflict_put k (run_text k) (key_back (codes "run") k (key_read k is))
-  denial_back tests name (denial.Full what count) is = full_put count (count_data count) what (what_text what) (count_back count is) (what_back what)
-  denial_back tests name (denial.Differs kept sent) is = differs_put kept sent (proposal_data kept) (proposal_data sent) (told_back tests kept is.0) (told_back tests sent is.1)
-  denial_back tests name (denial.Closed s) is = closed_back s
-  denial_back tests name denial.NotParticipant is = refl
-  denial_back tests name (denial.NoTool tool) is = refl
+  tool_back : (tool : List ℕ) → length (compact_text (error_with (codes "no tool") (codes "tool") tool)) ≤ most_request_bytes → denial_told lead (error_with (codes "no tool") (codes "tool") tool) ≡ Ok (denial.NoTool tool)
+  tool_back tool short =
+      let low : length tool ≤ most_request_bytes = omega (arith, named_long tool, short) in
+      let within : nat_le (length tool) most_request_bytes ≡ true = grind (arith, nat_tests, low) in
+      rw within refl
+
+  -- where its body isn't too long
+  pub denial_back : ((test : TestSpec) → IsTest test → test_of (test_data test) ≡ Ok test) → (name : List ℕ) (d : Denial) → length (compact_text (denial_data name d)) ≤ most_request_bytes → IsDenialTold lead d → denial_told lead (denial_data name d) ≡ Ok d
+  denial_back tests name (denial.Limits v) short is = limits_back v is
+  denial_back tests name (denial.Past m start) short is = past_put m start (second_data m) (second_data start) (moment_back (codes "moment") m is.0) (moment_back (codes "start") start is.1)
+  denial_back tests name (denial.Conflict k) short is = conflict_put k (run_text k) (key_back (codes "run") k (key_read k is))
+  denial_back tests name (denial.Full what count) short is = full_put count (count_data count) what (what_text what) (count_back count is) (what_back what)
+  denial_back tests name (denial.Differs kept sent) short is = differs_put kept sent (proposal_data kept) (proposal_data sent) (told_back tests kept is.0) (told_back tests sent is.1)
+  denial_back tests name (denial.Closed s) short is = closed_back s
+  denial_back tests name denial.NotParticipant short is = refl
+  denial_back tests name (denial.NoTool tool) short is = tool_back tool short

@@ -55,8 +55,8 @@ ok_put body d a is = rw is refl
 denied_put : (body : OrderBody) (status : ℕ) (d : Data) (denied : Denial) → (status == 200) ≡ false → (status == 403 || (status == 409 || status == 507)) ≡ true → denial_told (lead_of body) d ≡ Ok denied → tells body status d ≡ Some (answer.Denied denied)
 denied_put body status d denied other denies is = rw (other, denies, is) refl
 
-told_denial : (tests : (test : TestSpec) → IsTest test → test_of (test_data test) ≡ Ok test) (body : OrderBody) (name : List ℕ) (d : Denial) → IsDenialTold (lead_of body) d → tells body (denial_status d) (denial_data name d) ≡ Some (answer.Denied d)
-told_denial tests body name d is = go d (denial_back (lead_of body) tests name d is)
+told_denial : (tests : (test : TestSpec) → IsTest test → test_of (test_data test) ≡ Ok test) (body : OrderBody) (name : List ℕ) (d : Denial) → length (compact_text (denial_data name d)) ≤ most_request_bytes → IsDenialTold (lead_of body) d → tells body (denial_status d) (denial_data name d) ≡ Some (answer.Denied d)
+told_denial tests body name d short is = go d (denial_back (lead_of body) tests name d short is)
   where
     go : (d : Denial) → denial_told (lead_of body) (denial_data name d) ≡ Ok d → tells body (denial_status d) (denial_data name d) ≡ Some (answer.Denied d)
     go (denial.Limits v) back = denied_put body 403 (denial_data name (denial.Limits v)) (denial.Limits v) refl refl back
@@ -82,11 +82,11 @@ module _ (c : Config) where
   free_told q reply.NotLead is = refl
   free_told q _ is = absurd is
 
-  propose_told : ((test : TestSpec) → IsTest test → test_of (test_data test) ≡ Ok test) → (p : Proposal) (r : Reply) → IsProposeReply p.asker.server r → Tells (order.Propose p) r
-  propose_told tests p (reply.Accepted m) is = ok_put (order.Propose p) (reply_data c (reply.Accepted m)) (answer.Accepted m) (rw (accepted_back m is) refl)
-  propose_told tests p (reply.Denied d) is = told_denial tests (order.Propose p) c.name d is
-  propose_told tests p reply.NotLead is = refl
-  propose_told tests p _ is = absurd is
+  propose_told : ((test : TestSpec) → IsTest test → test_of (test_data test) ≡ Ok test) → (p : Proposal) (r : Reply) → length (compact_text (reply_data c r)) ≤ most_request_bytes → IsProposeReply p.asker.server r → Tells (order.Propose p) r
+  propose_told tests p (reply.Accepted m) small is = ok_put (order.Propose p) (reply_data c (reply.Accepted m)) (answer.Accepted m) (rw (accepted_back m is) refl)
+  propose_told tests p (reply.Denied d) small is = told_denial tests (order.Propose p) c.name d small is
+  propose_told tests p reply.NotLead small is = refl
+  propose_told tests p _ small is = absurd is
 
   confirm_told : (r : Reply) → IsConfirmReply r → Tells order.Confirm r
   confirm_told (reply.Confirmed m) is = ok_put order.Confirm (reply_data c (reply.Confirmed m)) (answer.Confirmed m) (rw (confirmed_back m is) refl)
@@ -116,20 +116,20 @@ module _ (c : Config) where
   result_told reply.NotLead is = refl
   result_told _ is = absurd is
 
-  reply_told : ((test : TestSpec) → IsTest test → test_of (test_data test) ≡ Ok test) → (body : OrderBody) (r : Reply) → IsReplyTo body r → Tells body r
-  reply_told tests (order.Free q) r is = free_told q r is
-  reply_told tests (order.Propose p) r is = propose_told tests p r is
-  reply_told tests order.Confirm r is = confirm_told r is
-  reply_told tests order.Cancel r is = cancel_told r is
-  reply_told tests (order.Material text) r is = material_told text r is
-  reply_told tests order.Result r is = result_told r is
+  reply_told : ((test : TestSpec) → IsTest test → test_of (test_data test) ≡ Ok test) → (body : OrderBody) (r : Reply) → length (compact_text (reply_data c r)) ≤ most_request_bytes → IsReplyTo body r → Tells body r
+  reply_told tests (order.Free q) r small is = free_told q r is
+  reply_told tests (order.Propose p) r small is = propose_told tests p r small is
+  reply_told tests order.Confirm r small is = confirm_told r is
+  reply_told tests order.Cancel r small is = cancel_told r is
+  reply_told tests (order.Material text) r small is = material_told text r is
+  reply_told tests order.Result r small is = result_told r is
 
   -- what is told with a body that is read again and not too long
   pub reply_heard : ((test : TestSpec) → IsTest test → test_of (test_data test) ≡ Ok test) → (body : OrderBody) (r : Reply) → IsReplyTo body r → tree_of (compact_text (reply_data c r)) ≡ Ok (reply_data c r)
       → length (compact_text (reply_data c r)) ≤ most_request_bytes → answer_to body (response_of c r) ≡ Some (heard_as r)
   reply_heard tests body r is reads small =
       let short : nat_le (length (compact_text (reply_data c r))) most_request_bytes ≡ true = grind (arith, nat_tests) in
-      by_tree body (reply_status r) (compact_text (reply_data c r)) (reply_data c r) short reads ∙ reply_told tests body r is
+      by_tree body (reply_status r) (compact_text (reply_data c r)) (reply_data c r) short reads ∙ reply_told tests body r small is
 
   -- the same of the calls
   pub meant : (o : Order) (r : Reply) {E : Type 0} (response : Response) (made : Result (Option Input) E) → ((test : TestSpec) → IsTest test → test_of (test_data test) ≡ Ok test)
