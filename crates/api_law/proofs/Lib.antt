@@ -1,2 +1,3 @@
 mod OrderLemmas
 mod ReplyLemmas
+mod SendLemmas

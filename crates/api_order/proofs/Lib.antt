@@ -1,5 +1,5 @@
 pub mod BodyLemmas
 pub mod KeyLemmas
 mod MeantLemmas
-mod PathLemmas
+pub mod PathLemmas
 mod WholeLemmas

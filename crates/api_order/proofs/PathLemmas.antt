@@ -8,6 +8,7 @@ use Rattle.std.proofs.lemmas.List.Sums.{list_all-from_AllPass}
 use Rattle.std.specs.Int.{to_be_bytes, w128}
 use Rattle.std.specs.List.{All, list_all, slice_split}
 use Rattle.uuid.proofs.TextLemmas.{by_index_at, by_index_length, nibble_small}
+use Rattle.ps_http.specs.Sendable.{is_path_byte}
 use Rattle.uuid.specs.Text.{by_index, digit_place, hex_digit, hyphen, is_hyphen_place, lower, nibble}
 use Rattle.ps_time.specs.Id.{id_of_text, uuid_of}
 use Rattle.ps_time.specs.Numbers.{most_head_bytes}
@@ -27,16 +28,20 @@ use Rattle.api_order.specs.Ordered.{run_path}
 abbrev is_slash : ℕ → Bool
 is_slash b = b == 47
 
-record IsPart (t : List ℕ) : Type 0 where
-  apart : All (λ b. is_slash b ≡ false) t
-  ascii : All (λ b. is_ascii_byte b ≡ true) t
-  short : length t ≡ 36
+pub record IsPart (t : List ℕ) : Type 0 where
+  pub apart : All (λ b. is_slash b ≡ false) t
+  pub ascii : All (λ b. is_ascii_byte b ≡ true) t
+  pub visible : All (λ b. is_path_byte b ≡ true) t
+  pub short : length t ≡ 36
 
 digit_apart : (d : ℕ) → d < 16 → is_slash (hex_digit lower d) ≡ false
 digit_apart d small = grind (arith, nat_tests)
 
 digit_ascii : (d : ℕ) → d < 16 → is_ascii_byte (hex_digit lower d) ≡ true
 digit_ascii d small = grind (arith, nat_tests)
+
+digit_visible : (d : ℕ) → d < 16 → is_path_byte (hex_digit lower d) ≡ true
+digit_visible d small = grind (arith, nat_tests)
 
 -- what stands at a place
 abbrev place : List ℕ → ℕ → ℕ
@@ -50,18 +55,19 @@ all_places : (p : ℕ → Bool) (answer : Bool) → p hyphen ≡ answer → ((d 
 all_places p answer dashed digits xs n k d h =
     rw (by_index_at n (place xs) k d (rw (by_index_length n (place xs)) at h)) (by_place p answer dashed digits xs n k (is_hyphen_place k))
 
-run_part : (k : RunKey) → IsPart (run_text k)
+pub run_part : (k : RunKey) → IsPart (run_text k)
 unfolding run_text
 run_part k =
     let xs = to_be_bytes w128 (uuid_of (Run k)) in
     record {
       apart = all_places is_slash false refl digit_apart xs 36;
       ascii = all_places is_ascii_byte true refl digit_ascii xs 36;
+      visible = all_places is_path_byte true refl digit_visible xs 36;
       short = by_index_length 36 (place xs);
     }
 
 -- ---- paths below a run
-abbrev front : List ℕ
+abbrev pub front : List ℕ
 front = codes "/pscheduler/peer/runs/"
 
 plain_below : (t end : List ℕ) → IsPart t → list_all is_ascii_byte end ≡ true → length end ≤ 100 → is_plain (front ++ (t ++ end)) ≡ true
