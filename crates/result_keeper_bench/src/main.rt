@@ -1,6 +1,6 @@
-//! Opens the store of results in a file, the first word, puts as many results as the second word says, and prints the report
-//! on all that is kept. The status is 2 for other words, 3 for a file with other tables, 4 for one with a row that is no
-//! record, and 1 where another call fails.
+//! Opens the store of results in a file, the first word, puts as many results as the second word says, lets the store go,
+//! opens it again, and prints the report on all that is kept. The status is 2 for other words, 3 for a file with other tables,
+//! 4 for one with a row that is no record, and 1 where another call fails.
 #![tactic(auto)]
 
 use ps_time::key::RunKey;
@@ -63,6 +63,11 @@ fn told_of_file(rt: &HostRuntime, file: &str, count: u16) -> Result<Text, ExitCo
     }
 }
 
+fn told_again(rt: &HostRuntime, file: &str, count: u16) -> Result<Text, ExitCode> {
+    let _first = told_of_file(rt, file, count)?;
+    told_of_file(rt, file, 0)
+}
+
 /// A file and a count.
 fn words(rt: &HostRuntime) -> io::Result<Option<(String, u16)>> {
     let mut words = env::args(rt)?.skip(1);
@@ -86,7 +91,7 @@ fn main(rt: HostRuntime) -> ExitCode {
     let Ok(Some((file, count))) = words(&rt) else {
         return ExitCode::from(2);
     };
-    match told_of_file(&rt, file.as_str(), count) {
+    match told_again(&rt, file.as_str(), count) {
         Ok(text) => print_report(&rt, &text),
         Err(status) => status,
     }

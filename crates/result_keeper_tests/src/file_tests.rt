@@ -1,34 +1,18 @@
-//! What a database in a file keeps, and a file that is no database.
+//! A file that is no database. What a file keeps is tested by `result_keeper_bench`, which opens one twice.
 
-use crate::tasks::{Task, does};
 use result_keeper::sqlite_keeper::SqliteKeeper;
 use std::test::Fail;
 use std::{fs, io};
 
-// Whether the task is done as it says; none where the file can't be opened.
-fn is_done(rt: &HostRuntime, path: &str, task: Task) -> Option<bool> {
-    match SqliteKeeper::open(rt, path) {
-        Ok(mut keeper) => Some(does(rt.alloc(), &mut keeper, task)),
-        Err(_) => None,
-    }
-}
-
-/// A file is opened again.
-#[test]
-fn a_file_keeps_what_was_put(rt: HostRuntime) -> Result<(), Fail> {
-    fs::create_dir(&rt, "stores")?;
-    let put = is_done(&rt, "stores/kept", Task::Put);
-    let got = is_done(&rt, "stores/kept", Task::Get);
-    fs::remove_dir_all(&rt, "stores")?;
-    assert!(rt; put == Some(true) && got == Some(true));
-    Ok(())
-}
-
 static NO_DATABASE: &str = "This is a text of one line, which is no database of any kind.\n";
+
+fn is_refused(rt: &HostRuntime, path: &str) -> bool {
+    SqliteKeeper::open(rt, path).is_err()
+}
 
 fn is_left_alone(rt: &HostRuntime, path: &str) -> io::Result<bool> {
     fs::write(rt, path, NO_DATABASE)?;
-    let refused = is_done(rt, path, Task::Put).is_none();
+    let refused = is_refused(rt, path);
     let text = fs::read_to_string(rt, path)?;
     Ok(refused && text.as_str() == NO_DATABASE)
 }

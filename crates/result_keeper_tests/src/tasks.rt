@@ -17,10 +17,6 @@ pub(crate) enum Task {
     Report,
     /// 51 results are put; the second page has one line.
     List,
-    /// One result is put.
-    Put,
-    /// It is read.
-    Get,
 }
 
 static GOOD: &str = r#"{"succeeded":true}"#;
@@ -100,7 +96,5 @@ pub(crate) fn does<Q: Keeper>(alloc: Global, keeper: &mut Q, task: Task) -> bool
         Task::KeepSince => keeps_since(alloc, keeper),
         Task::Report => reports_two(alloc, keeper),
         Task::List => fills(alloc, keeper, 51) && lists_last(alloc, keeper),
-        Task::Put => puts(alloc, keeper, 0, 1_000, GOOD),
-        Task::Get => is_kept(alloc, keeper, 1_000, true),
     }
 }
