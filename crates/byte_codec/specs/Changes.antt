@@ -1,5 +1,5 @@
 -- Changes and records as bytes.
-use Rattle.std.specs.Prelude.{◌∷◌, ◌≡◌, Bool, List, None, Option, Some, refl, ℕ, ℤ}
+use Rattle.std.specs.Prelude.{◌∷◌, List, Option, refl, ℕ, ℤ}
 use Rattle.ps_time.specs.Span.{Range}
 use Rattle.ps_time.specs.declared.asker.Asker.{Asker}
 use Rattle.ps_time.specs.declared.key.RunKey.{RunKey}
@@ -15,11 +15,11 @@ use Rattle.byte_codec.specs.Rows.{answer, answer_is}
 use Rattle.byte_codec.specs.States.{archive_state, archive_state_is, told, told_is}
 use Rattle.byte_codec.specs.Tasks.{limits, limits_is, task_row, task_row_is}
 use Rattle.byte_codec.specs.Tests.{test, test_is}
-use Rattle.byte_codec.specs.Codec.{◌&◌, Codec, built, list, mark, nothing, number_16, number_32, number_64, number_8, option, signed_16, text, variant}
+use Rattle.byte_codec.specs.Codec.{◌&◌, Codec, built, list, mark, number_32, number_64, number_8, option, signed_16, text, variant}
 use Rattle.byte_codec.specs.Laws.{IsCodec, ReadAgain}
 use Rattle.byte_codec.specs.ListLaws.{list_is, option_is}
-use Rattle.byte_codec.specs.NumberLaws.{mark_is, number_16_is, number_32_is, number_64_is, number_8_is, signed_16_is}
-use Rattle.byte_codec.specs.PairLaws.{built_is, case_reads, made_again, no_case_reads, nothing_is, pair_is, variant_is}
+use Rattle.byte_codec.specs.NumberLaws.{mark_is, number_32_is, number_64_is, number_8_is, signed_16_is}
+use Rattle.byte_codec.specs.PairLaws.{built_is, case_reads, made_again, no_case_reads, pair_is, variant_is}
 use Rattle.byte_codec.specs.Reading.{case_at, made_at, no_case_at, variant_at}
 use Rattle.byte_codec.specs.TextLaws.{text_is}
 

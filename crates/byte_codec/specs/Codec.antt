@@ -54,7 +54,7 @@ pub record IsText (text : List ℕ) : Type 0 where
   pub utf8 : is_utf8 text ≡ true
 
 abbrev pub text : Codec (List ℕ)
-text = record { Writable = λ t. length t < 2 ^ 32; Fits = IsText; code = λ t. to_be_bytes w32 (length t) ++ t; read = text_at }
+text = record { Writable = λ t. Unit {0}; Fits = IsText; code = λ t. to_be_bytes w32 (length t) ++ t; read = text_at }
 
 abbrev pub option_code : {A : Type 0} → (A → List ℕ) → Option A → List ℕ
 option_code code None = 0 ∷ []
@@ -64,7 +64,7 @@ abbrev pub option : {A : Type 0} → Codec A → Codec (Option A)
 option c = record { Writable = λ o. IfSome o c.Writable; Fits = λ o. IfSome o c.Fits; code = option_code c.code; read = option_at c.read }
 
 abbrev pub list : {A : Type 0} → Codec A → Codec (List A)
-list c = record { Writable = λ xs. (length xs < 2 ^ 32) × All c.Writable xs; Fits = λ xs. (length xs < 2 ^ 32) × All c.Fits xs; code = λ xs. to_be_bytes w32 (length xs) ++ flat_map c.code xs; read = list_at c.read }
+list c = record { Writable = λ xs. All c.Writable xs; Fits = λ xs. (length xs < 2 ^ 32) × All c.Fits xs; code = λ xs. to_be_bytes w32 (length xs) ++ flat_map c.code xs; read = list_at c.read }
 
 -- the first, and behind it the second
 infixr 5 ◌&◌

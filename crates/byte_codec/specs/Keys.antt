@@ -1,7 +1,7 @@
 -- Keys, askers, intervals, windows and tiers as bytes.
 use Rattle.std.specs.Prelude.{◌<◌, ◌^◌, ◌≡◌, ◌≤◌, Bool, List, None, Option, Some, cond, false, if◌then◌else◌, nat_le, nat_lt, refl, true, ℕ}
 use Rattle.std.proofs.Common.{arith}
-use Rattle.std.proofs.lemmas.Bool.{leb-true, le-leb, lt-ltb, ltb-true}
+use Rattle.std.proofs.lemmas.Bool.{le-leb, lt-ltb}
 use Rattle.ps_time.specs.Span.{Range, Span}
 use Rattle.ps_time.specs.declared.asker.Asker.{Asker}
 use Rattle.ps_time.specs.declared.key.RunKey.{RunKey}

@@ -1,5 +1,5 @@
 -- Laws of options and lists. Proved here, since an `impl` cites them.
-use Rattle.std.specs.Prelude.{◌++◌, ◌<◌, ◌^◌, ◌∷◌, ◌≡◌, All, List, None, Option, Some, [], length, refl, suc, zero, ℕ}
+use Rattle.std.specs.Prelude.{◌++◌, ◌^◌, ◌∷◌, ◌≡◌, All, List, None, Option, Some, [], length, refl, suc, zero, ℕ}
 use Rattle.std.specs.Int.{to_be_bytes, w32}
 use Rattle.std.specs.List.{flat_map}
 use Rattle.std.proofs.Common.{◌∙◌, sym, ap, subst, append_assoc}

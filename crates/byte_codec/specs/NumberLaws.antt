@@ -1,8 +1,8 @@
 -- Laws of numbers and marks. Proved here, since an `impl` cites them.
-use Rattle.std.specs.Prelude.{◌++◌, ◌+◌, ◌<◌, ◌≤◌, ◌^◌, ◌∷◌, ◌≡◌, Bool, FitsSigned, List, None, Option, Some, [], cond, drop, false, get_or, length, refl, suc, take, true, zero, ℕ, ℤ}
+use Rattle.std.specs.Prelude.{◌++◌, ◌+◌, ◌<◌, ◌≤◌, ◌^◌, ◌∷◌, ◌≡◌, Bool, List, None, Some, [], cond, drop, false, length, refl, suc, take, true, zero, ℕ, ℤ}
 use Rattle.std.specs.Int.{Width, byte_len, cast_signed, cast_unsigned, from_be_bytes, to_be_bytes, w16, w32, w64}
 use Rattle.std.proofs.Common.{◌∙◌, sym, ap, subst, arith, inl, inr, ltb, length-append, length-take}
-use Rattle.std.proofs.Math.Facts.{Fits-lt-pow, Fits-of_lt, Fits-of_z, sfits_to_z}
+use Rattle.std.proofs.Math.Facts.{Fits-lt-pow, Fits-of_z}
 use Rattle.std.proofs.lemmas.Bool.{cases_lt, ltb-false, le-ltb}
 use Rattle.std.proofs.lemmas.Int.{of_z-to_z, to_z-of_z}
 use Rattle.std.proofs.lemmas.List.{take_at, drop_at, take-append-drop, get_or-drop, get_or-take, get_or_past}

@@ -1,5 +1,5 @@
 -- Proposals, and why a run was denied or closed, as bytes.
-use Rattle.std.specs.Prelude.{◌∷◌, ◌≡◌, Bool, List, None, Option, Some, refl, ℕ, ℤ}
+use Rattle.std.specs.Prelude.{◌∷◌, List, Option, refl, ℕ, ℤ}
 use Rattle.ps_time.specs.declared.asker.Asker.{Asker}
 use Rattle.ps_time.specs.declared.key.RunKey.{RunKey}
 use Rattle.plugin_core.specs.declared.test_spec.TestSpec.{TestSpec}
@@ -14,10 +14,9 @@ use Rattle.run_states.specs.declared.why.Why.TheVariants.{Canceled, Missed, Nons
 use Rattle.byte_codec.specs.Keys.{asker, asker_is, key, key_is}
 use Rattle.byte_codec.specs.States.{state, state_is, verdict, verdict_is, what, what_is}
 use Rattle.byte_codec.specs.Tests.{test, test_is}
-use Rattle.byte_codec.specs.Codec.{◌&◌, Codec, built, list, mark, nothing, number_16, number_32, number_64, number_8, option, signed_16, text, variant}
+use Rattle.byte_codec.specs.Codec.{◌&◌, Codec, built, nothing, number_64, signed_16, text, variant}
 use Rattle.byte_codec.specs.Laws.{IsCodec, ReadAgain}
-use Rattle.byte_codec.specs.ListLaws.{list_is, option_is}
-use Rattle.byte_codec.specs.NumberLaws.{mark_is, number_16_is, number_32_is, number_64_is, number_8_is, signed_16_is}
+use Rattle.byte_codec.specs.NumberLaws.{number_64_is, signed_16_is}
 use Rattle.byte_codec.specs.PairLaws.{built_is, case_reads, made_again, no_case_reads, nothing_is, pair_is, variant_is}
 use Rattle.byte_codec.specs.Reading.{case_at, made_at, no_case_at, variant_at}
 use Rattle.byte_codec.specs.TextLaws.{text_is}

@@ -1,5 +1,5 @@
 -- Verdicts, names of states, acknowledgements and states of archives as bytes.
-use Rattle.std.specs.Prelude.{◌∷◌, ◌≡◌, Bool, List, None, Option, Some, refl, ℕ, ℤ}
+use Rattle.std.specs.Prelude.{◌∷◌, Bool, List, Option, refl, ℕ}
 use Rattle.ps_time.specs.declared.asker.Verdict.{Verdict}
 use Rattle.ps_time.specs.declared.asker.Verdict.TheVariants.{AboveCeiling, Exhausted, Permitted, Stopped}
 use Rattle.archive_retry.specs.declared.state.ArchiveState.{ArchiveState}
@@ -9,13 +9,12 @@ use Rattle.run_states.specs.declared.state.State.{State}
 use Rattle.run_states.specs.declared.state.State.TheVariants.{Canceled, Cleanup, Failed, Finished, Missed, Nonstart, OnDeck, Overdue, Pending, Preempted, Running}
 use Rattle.run_states.specs.declared.why.What.{What}
 use Rattle.run_states.specs.declared.why.What.TheVariants.{Numbers, Results, Runs}
-use Rattle.byte_codec.specs.Codec.{◌&◌, Codec, built, list, mark, nothing, number_16, number_32, number_64, number_8, option, signed_16, text, variant}
+use Rattle.byte_codec.specs.Codec.{◌&◌, Codec, built, mark, nothing, number_32, number_64, option, signed_16, variant}
 use Rattle.byte_codec.specs.Laws.{IsCodec, ReadAgain}
-use Rattle.byte_codec.specs.ListLaws.{list_is, option_is}
-use Rattle.byte_codec.specs.NumberLaws.{mark_is, number_16_is, number_32_is, number_64_is, number_8_is, signed_16_is}
+use Rattle.byte_codec.specs.ListLaws.{option_is}
+use Rattle.byte_codec.specs.NumberLaws.{mark_is, number_32_is, number_64_is, signed_16_is}
 use Rattle.byte_codec.specs.PairLaws.{built_is, case_reads, made_again, no_case_reads, nothing_is, pair_is, variant_is}
 use Rattle.byte_codec.specs.Reading.{case_at, made_at, no_case_at, variant_at}
-use Rattle.byte_codec.specs.TextLaws.{text_is}
 
 -- ---- a verdict of limits
 abbrev pub WritableVerdict : Verdict → Type 0

@@ -1,5 +1,5 @@
 -- Tasks and limits as bytes: the compact JSON text of the tree of each.
-use Rattle.std.specs.Prelude.{◌<◌, ◌^◌, ◌≡◌, Bool, IfSome, List, None, Ok, Option, Result, Some, bytes_eq, cond, false, if◌then◌else◌, length, option_and_then, option_map, refl, true, Err, ℕ}
+use Rattle.std.specs.Prelude.{◌≡◌, Bool, List, None, Ok, Option, Result, Some, bytes_eq, cond, false, if◌then◌else◌, option_and_then, option_map, refl, true, Err, ℕ}
 use Rattle.std.proofs.Common.{◌∙◌, ap, sym}
 use Rattle.std.proofs.lemmas.Slice.Eq.{bytes_eq-Decides}
 use Rattle.serde_json.specs.Data.{Data}
@@ -67,9 +67,9 @@ pub record FitsTaskRow (t : TaskRow) : Type 0 where
   pub tree : tree_of (task_text t.task) ≡ Ok (task_data t.task)
   pub parts : task_parts.Fits (parts_of_task_row t)
 
-pub record WritableTaskRow (t : TaskRow) : Type 0 where
-  pub task : IsTask t.asker.server t.task
-  pub asker : asker.Writable t.asker
+-- a task in its bounds may be written
+abbrev pub WritableTaskRow : TaskRow → Type 0
+WritableTaskRow t = IsTask t.asker.server t.task
 
 abbrev pub task_row : Codec TaskRow
 task_row = partly task_row_of parts_of_task_row WritableTaskRow FitsTaskRow task_parts
@@ -115,11 +115,11 @@ pub record FitsLimits (l : Config) : Type 0 where
 abbrev pub text_of_limits : Config → List ℕ
 text_of_limits l = l.text
 
-abbrev pub ShortLimits : Config → Type 0
-ShortLimits l = length l.text < 2 ^ 32
+abbrev pub AnyLimits : Config → Type 0
+AnyLimits l = Unit {0}
 
 abbrev pub limits : Codec Config
-limits = partly own_config text_of_limits ShortLimits FitsLimits text
+limits = partly own_config text_of_limits AnyLimits FitsLimits text
 
 limits_again : (l : Config) → FitsLimits l → own_config l.text ≡ Some l
 limits_again l fits = rw (fits.again, same_text l.text) refl
@@ -136,4 +136,4 @@ limits_read bytes l e = by_config (config_in bytes) e
     by_config (Err fault) e = absurd cc
 
 pub limits_is : IsCodec limits
-limits_is = partly_is own_config text_of_limits ShortLimits FitsLimits limits_again (λ l fits. fits.text) limits_read text_is
+limits_is = partly_is own_config text_of_limits AnyLimits FitsLimits limits_again (λ l fits. fits.text) limits_read text_is

@@ -1,12 +1,12 @@
 -- Laws of texts. Proved here, since an `impl` cites them.
-use Rattle.std.specs.Prelude.{◌++◌, ◌<◌, ◌≤◌, ◌^◌, ◌≡◌, Bool, List, None, Option, Some, cond, drop, false, length, refl, take, true, ℕ}
+use Rattle.std.specs.Prelude.{◌++◌, ◌≤◌, ◌^◌, ◌≡◌, Bool, List, None, Some, cond, drop, false, length, refl, take, true, ℕ}
 use Rattle.std.specs.Int.{to_be_bytes, w32}
 use Rattle.std.specs.Str.{is_utf8}
 use Rattle.std.proofs.Common.{◌∙◌, sym, ap, subst, arith, append_assoc, ltb, length-append, length-take}
 use Rattle.std.proofs.lemmas.Bool.{ltb-false, le-ltb}
 use Rattle.std.proofs.lemmas.List.{take_at, drop_at, take-append-drop}
 use Rattle.byte_codec.specs.Codec.{text}
-use Rattle.byte_codec.specs.Laws.{AreBytes, Begins, IsCodec, ReadAgain, ReadsCodes}
+use Rattle.byte_codec.specs.Laws.{AreBytes, IsCodec, ReadAgain, ReadsCodes}
 use Rattle.byte_codec.specs.NumberLaws.{drop_are, long, number_again, number_reads, wide_32}
 use Rattle.byte_codec.specs.PairLaws.{before_some, behind_some, some_is}
 use Rattle.byte_codec.specs.Reading.{before, bytes_at, number_at, partly_at, text_at, utf8_of}

@@ -22,13 +22,16 @@ fn write_each<T: Coded>(alloc: Global, items: &[T], out: &mut Vec<u8>) -> Result
     Ok(())
 }
 
-/// Adds the bytes of a list: its count, and its items.
+/// Adds the bytes of a list: its count, and its items. One of 2^32 items or more has none, and is want of memory.
 pub fn write_list<T: Coded>(alloc: Global, items: &[T], out: &mut Vec<u8>) -> Result<(), Memory>
     requires { (list T.codec).Writable items.now }
     ensures code { OnOk result (out.new.items ≡ out.old.items ++ (list T.codec).code items.now) }
     ensures fits { OnOk result ((list T.codec).Fits items.now) }
 {
-    (items.len() as u32).write(alloc, out)?;
+    let Ok(count) = u32::try_from(items.len()) else {
+        return Err(Memory);
+    };
+    count.write(alloc, out)?;
     write_each(alloc, items, out)
 }
 

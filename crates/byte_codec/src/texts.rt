@@ -1,5 +1,5 @@
 //! Texts as bytes.
-ghost use Rattle.std.specs.Prelude.{◌++◌, ◌<◌, ◌^◌, ◌≡◌, IfOk, IfSome, OnOk, is_some, length, true};
+ghost use Rattle.std.specs.Prelude.{◌++◌, ◌≡◌, IfOk, IfSome, OnOk, is_some, length, true};
 ghost use Rattle.std.specs.Str.{is_utf8};
 ghost use Rattle.byte_codec.specs.Codec.{IsText, text as text_codec};
 ghost use Rattle.byte_codec.specs.Gives.{Gives};
@@ -36,13 +36,15 @@ fn text_of(alloc: Global, len: usize, bytes: &[u8]) -> Result<(Text, &[u8]), Cod
     }
 }
 
-/// Adds the bytes of a text.
+/// Adds the bytes of a text. One of 4 GiB or more has none, and is want of memory.
 pub fn write_str(alloc: Global, text: &str, out: &mut Vec<u8>) -> Result<(), Memory>
-    requires { length text.now < 2 ^ 32 }
     ensures code { OnOk result (out.new.items ≡ out.old.items ++ text_codec.code text.now) }
     ensures fits { OnOk result (IsText text.now) }
 {
-    (text.len() as u32).write(alloc, out)?;
+    let Ok(length) = u32::try_from(text.len()) else {
+        return Err(Memory);
+    };
+    length.write(alloc, out)?;
     out.extend_from_slice(text.as_bytes())?;
     Ok(())
 }

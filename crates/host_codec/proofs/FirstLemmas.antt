@@ -1,17 +1,15 @@
 -- Laws of the first format: what is read is written so, and what is written so is read again.
 use Rattle.std.specs.Prelude.{◌==◌, ◌<◌, ◌≤◌, IfOk, IfSome, filter, get_or, is_some, length, take}
-use Rattle.std.proofs.Common.{◌≡◌, ◌+◌, ℕ, zero, suc, Bool, true, false, cond, List, [], ◌∷◌, ◌++◌, All, Option, Some, None, Result, Ok, Err, map, refl, ap, ap₂, arith, sym, subst, ◌∙◌}
+use Rattle.std.proofs.Common.{◌≡◌, ◌+◌, ℕ, zero, suc, Bool, true, false, cond, List, [], ◌∷◌, ◌++◌, Option, Some, None, Result, Ok, Err, map, refl, ap, ap₂, arith, sym, subst, ◌∙◌}
 use Rattle.std.proofs.lemmas.List.{append-nil, map-append, take_more}
 use Rattle.std.proofs.lemmas.List.Elements.{filter-append}
 use Rattle.ps_time.specs.declared.key.RunKey.{RunKey}
-use Rattle.run_states.specs.declared.proposal.Proposal.{Proposal}
 use Rattle.run_states.specs.declared.row.RunRow.{RunRow}
 use Rattle.host_model.specs.Book.{Book}
 use Rattle.host_model.specs.declared.change.Change.{Change}
 use Rattle.host_model.specs.declared.change.Change.TheVariants.{Accepted, LimitsSet, Planned, Purged}
-use Rattle.host_model.specs.declared.task_row.TaskRow.{TaskRow}
-use Rattle.byte_codec.specs.Changes.{FitsChange, change, change_cases, change_code, change_is, changes_of, parts_of_changes}
-use Rattle.byte_codec.specs.Codec.{list, number_64, text}
+use Rattle.byte_codec.specs.Changes.{FitsChange, change_cases, change_code, change_is, changes_of, parts_of_changes}
+use Rattle.byte_codec.specs.Codec.{text}
 use Rattle.byte_codec.specs.Gives.{Gives}
 use Rattle.byte_codec.specs.Keys.{asker_is, key_is}
 use Rattle.byte_codec.specs.Laws.{AreBytes, Begins, IsCodec, ReadAgain, ReadsCodes}
@@ -24,7 +22,7 @@ use Rattle.byte_codec.specs.Tasks.{task_row, task_row_is}
 use Rattle.byte_codec.specs.Tests.{test_is}
 use Rattle.byte_codec.specs.TextLaws.{text_is}
 use Rattle.byte_codec.specs.declared.fault.CodeFault.{CodeFault}
-use Rattle.host_codec.specs.FirstFormat.{FirstParts, FitsFirst, FitsFirstBook, IsFirst, IsFirstSnapshot, first_accepted, first_accepted_of, first_book, first_book_of, first_cases, first_change, first_changes, first_code, first_parts, first_parts_accepted, first_parts_codec, first_pairs, first_planned, first_planned_of, first_snapshot}
+use Rattle.host_codec.specs.FirstFormat.{FitsFirst, FitsFirstBook, IsFirst, IsFirstSnapshot, first_accepted, first_accepted_of, first_book, first_book_of, first_cases, first_change, first_changes, first_code, first_parts, first_parts_accepted, first_parts_codec, first_pairs, first_planned, first_planned_of, first_snapshot}
 
 first_accepted_is : IsCodec first_accepted
 first_accepted_is = pair_is (pair_is key_is (pair_is test_is text_is)) (pair_is (pair_is number_64_is (pair_is signed_16_is (list_is text text_is))) asker_is)

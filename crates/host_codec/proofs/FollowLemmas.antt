@@ -1,8 +1,7 @@
 -- What may follow a book keeps the bounds of what is written.
 use Rattle.std.specs.Ordering.{is_eq}
 use Rattle.std.specs.Prelude.{IsTrue, MatchOption, IfSome, IsNone}
-use Rattle.std.specs.List.{AllByRecursion}
-use Rattle.std.proofs.Common.{◌≡◌, ◌++◌, ◌&&◌, ℕ, Bool, true, false, cond, not, List, [], ◌∷◌, All, map, Option, Some, None, is_some, option_map, refl, ap, sym, subst, ◌∙◌}
+use Rattle.std.proofs.Common.{◌≡◌, ◌++◌, ◌&&◌, ℕ, Bool, true, cond, not, List, [], ◌∷◌, All, map, Option, Some, None, is_some, option_map, refl, ap, subst, ◌∙◌}
 use Rattle.std.proofs.lemmas.List.Elements.{All-cons, All-head, All-nil, All-tail}
 use Rattle.ps_time.specs.Key.{key_cmp}
 use Rattle.ps_time.specs.declared.key.RunKey.{RunKey}
@@ -15,7 +14,6 @@ use Rattle.run_states.specs.declared.why.Closing.{Closing}
 use Rattle.run_states.specs.declared.why.Why.{Why}
 use Rattle.host_model.specs.Apply.{apply, put_new, rows_after, settled}
 use Rattle.host_model.specs.Book.{Book}
-use Rattle.host_model.specs.Effect.{effect}
 use Rattle.host_model.specs.Lawful.{IsLawfulTask, Lawful}
 use Rattle.host_model.specs.LawfulRow.{IsHostRow}
 use Rattle.host_model.specs.MayFollow.{CanApply, CanApplyAll, IsNewKey, MayFollow, Takes}
@@ -23,7 +21,6 @@ use Rattle.host_model.specs.NewRow.{accepted_row, asked_row}
 use Rattle.host_model.specs.declared.change.Change.{Change}
 use Rattle.host_model.specs.declared.change.Change.TheVariants.{Accepted, Asked, Closed, Posted}
 use Rattle.host_model.specs.declared.change.Changes.{Changes}
-use Rattle.host_model.specs.declared.task_row.TaskRow.{TaskRow}
 use Rattle.host_model.proofs.Keyed.{at-put, key_of, key_same}
 use Rattle.host_model.proofs.Placed.{find_row-key}
 use Rattle.host_model.proofs.RowLemmas.{found_of_all}

@@ -1,16 +1,13 @@
 -- How many bytes a change and a record take: as many as the host's definitions say.
-use Rattle.std.specs.Prelude.{sum, sum_by}
+use Rattle.std.specs.Prelude.{sum_by}
 use Rattle.std.specs.Int.{to_be_bytes, w32}
 use Rattle.std.specs.List.{flat_map}
-use Rattle.std.proofs.Common.{◌≡◌, ◌+◌, ◌++◌, ℕ, Bool, true, false, List, [], ◌∷◌, length, map, Option, Some, None, refl, ◌∙◌, arith, length-append}
+use Rattle.std.proofs.Common.{◌≡◌, ◌+◌, ℕ, Bool, true, false, List, [], ◌∷◌, length, Option, Some, None, refl, ◌∙◌, arith, length-append}
 use Rattle.std.proofs.lemmas.List.Concat.{flat_map-cons}
 use Rattle.std.proofs.lemmas.List.Sums.{sum-map, sum_by-cons}
-use Rattle.ps_time.specs.Span.{Range}
 use Rattle.ps_time.specs.declared.asker.Asker.{Asker}
 use Rattle.ps_time.specs.declared.asker.Verdict.{Verdict}
 use Rattle.ps_time.specs.declared.asker.Verdict.TheVariants.{AboveCeiling, Exhausted, Permitted, Stopped}
-use Rattle.archive_retry.specs.declared.state.ArchiveState.{ArchiveState}
-use Rattle.run_states.specs.declared.answer.FreeAnswer.{FreeAnswer}
 use Rattle.run_states.specs.declared.answer.Told.{Told}
 use Rattle.run_states.specs.declared.answer.Told.TheVariants.{Cancel, Confirm, Material}
 use Rattle.run_states.specs.declared.proposal.Proposal.{Proposal}

@@ -1,5 +1,5 @@
 -- Books as bytes: what a snapshot of the second format has.
-use Rattle.std.specs.Prelude.{◌&&◌, ◌==◌, ◌<◌, ◌^◌, ◌≡◌, Bool, List, None, Option, Some, cond, false, if◌then◌else◌, refl, true, ℕ}
+use Rattle.std.specs.Prelude.{◌&&◌, ◌==◌, ◌≡◌, Bool, List, None, Option, Some, cond, false, if◌then◌else◌, refl, true, ℕ}
 use Rattle.std.proofs.Common.{ap₂, sym, arith}
 use Rattle.std.proofs.lemmas.Bool.{eqb-true}
 use Rattle.ps_time.specs.declared.key.RunKey.{RunKey}

@@ -1,5 +1,5 @@
 -- Records and snapshots of the first format, in which no epochs stood. They are only read.
-use Rattle.std.specs.Prelude.{◌∷◌, ◌≡◌, List, None, Option, Some, [], filter, is_some, map, option_map, ℕ, ℤ}
+use Rattle.std.specs.Prelude.{◌∷◌, ◌≡◌, List, None, Option, Some, [], filter, is_some, map, ℕ, ℤ}
 use Rattle.ps_time.specs.declared.asker.Asker.{Asker}
 use Rattle.ps_time.specs.declared.key.RunKey.{RunKey}
 use Rattle.plugin_core.specs.declared.test_spec.TestSpec.{TestSpec}

@@ -1,5 +1,5 @@
 //! Books as bytes: snapshots of the second format.
-ghost use Rattle.std.specs.Prelude.{◌++◌, ◌<◌, ◌^◌, ◌≡◌, IfOk, IfSome, OnOk, Some, length, ℕ};
+ghost use Rattle.std.specs.Prelude.{◌++◌, ◌≡◌, IfOk, IfSome, OnOk, Some, ℕ};
 ghost use Rattle.byte_codec.specs.Gives.{Gives};
 ghost use Rattle.byte_codec.specs.Reading.{whole_of};
 ghost use Rattle.host_model.specs.Book.{Book, empty_book};
@@ -182,9 +182,9 @@ pub fn read_book(alloc: Global, bytes: &[u8]) -> Result<Option<KeptBook>, Memory
     read_whole::<KeptBook>(alloc, bytes)
 }
 
-/// A law: each lawful book whose snapshot has fewer than 2^32 bytes may be written.
+/// A law: each lawful book may be written.
 pub fn law_writable_book()
-    ensures { (self : ℕ) (b : Book) → Lawful self b → length (book.code b) < 2 ^ 32 → book.Writable b }
+    ensures { (self : ℕ) (b : Book) → Lawful self b → book.Writable b }
 {}
 
 /// Laws: the tests and tasks of what was read keep their bounds, as the tests of books ask.

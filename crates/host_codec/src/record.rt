@@ -1,5 +1,5 @@
 //! Records of changes as bytes.
-ghost use Rattle.std.specs.Prelude.{◌++◌, ◌<◌, ◌^◌, ◌≡◌, All, IfOk, IfSome, List, OnOk, Some, length, ℕ};
+ghost use Rattle.std.specs.Prelude.{◌++◌, ◌≡◌, All, IfOk, IfSome, List, OnOk, Some, length, ℕ};
 ghost use Rattle.byte_codec.specs.Changes.{change, changes};
 ghost use Rattle.byte_codec.specs.Reading.{whole_of};
 ghost use Rattle.host_model.specs.Book.{Book};
@@ -46,9 +46,8 @@ pub fn law_lengths()
     ensures record { (r : Changes) → length (changes.code r) ≡ record_bytes r.list }
 {}
 
-/// Laws: a record of fewer than 2^32 bytes whose tests and tasks keep their bounds may be written, and so may each of
-/// fewer than 2^32 bytes that may follow a book.
+/// Laws: a record whose tests and tasks keep their bounds may be written, and so may each that may follow a book.
 pub fn law_writable_record()
-    ensures bounds { (r : Changes) → record_bytes r.list < 2 ^ 32 → All KeepsBounds r.list → changes.Writable r }
-    ensures follows { (self : ℕ) (b : Book) (r : Changes) → MayFollow self b r → record_bytes r.list < 2 ^ 32 → changes.Writable r }
+    ensures bounds { (r : Changes) → All KeepsBounds r.list → changes.Writable r }
+    ensures follows { (self : ℕ) (b : Book) (r : Changes) → MayFollow self b r → changes.Writable r }
 {}

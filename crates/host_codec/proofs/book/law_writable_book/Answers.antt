@@ -1,5 +1,5 @@
-use Rattle.host_codec.proofs.WritableLemmas.{lawful_writable}
+use Rattle.host_codec.proofs.WritableLemmas.{lawful_written}
 use Rattle.host_codec.proofs.book.law_writable_book.Goals as goal
 
 pub returns : goal.returns
-returns c = lawful_writable
+returns c = lawful_written
