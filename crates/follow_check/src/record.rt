@@ -1,9 +1,7 @@
 //! Records that were read, taken into a book one change after another.
 ghost use Rattle.std.specs.Prelude.{◌≡◌, ◌≤◌, ◌<◌, ◌+◌, ◌↔◌, All, IfOk, IsTrue, OnOk, length};
-ghost use Rattle.run_states.specs.ResultBytes.{bytes_in};
 ghost use Rattle.host_model.specs.Apply.{apply, apply_all, recorded};
 ghost use Rattle.host_model.specs.MayFollow.{CanApplyAll, MayFollow};
-ghost use Rattle.host_book.specs.Ready.{brought_bytes};
 ghost use Rattle.byte_codec.specs.Changes.{changes};
 ghost use Rattle.host_codec.specs.FirstFormat.{first_changes};
 ghost use Rattle.host_model.specs.declared.change.Changes.{Changes as Record};
@@ -12,33 +10,12 @@ ghost use Rattle.follow_check.specs.ReadChange.{IsReadChange};
 
 use crate::change::may_follow_next;
 use host_book::book::HostBook;
+use host_book::ready::{Ready, brought_bytes};
 use host_model::change::{Change, Changes};
 use ps_time::items::Items;
 use ps_time::memory::Memory;
 use ps_time::moment::MAX_MOMENT;
-use ps_time::text::Text;
 use std::alloc::Global;
-
-fn bytes_in(text: &Option<Text>) -> u64
-    ensures { result ≡ bytes_in text.now }
-{
-    match text {
-        None => 0,
-        Some(text) => text.len() as u64,
-    }
-}
-
-// How many bytes of results the change brings at most.
-fn brought_bytes(change: &Change) -> u64
-    ensures { result ≡ brought_bytes change.now }
-{
-    match change {
-        Change::Ended { body, .. } => body.len() as u64,
-        Change::ResultHeard { result: told, .. } => bytes_in(told),
-        Change::Merged { body, .. } => body.len() as u64,
-        _ => 0,
-    }
-}
 
 // Takes in a change that may follow. A book of more bytes than can be counted is want of memory too.
 fn absorb_next(alloc: Global, book: &mut HostBook, change: Change) -> Result<(), Memory>
@@ -52,7 +29,7 @@ fn absorb_next(alloc: Global, book: &mut HostBook, change: Change) -> Result<(),
         drop(change);
         return Err(Memory);
     }
-    let ready = book.prepare(alloc, change)?;
+    let ready = Ready::new(alloc, change)?;
     book.absorb(ready);
     Ok(())
 }

@@ -1,7 +1,9 @@
 pub mod AcceptLemmas
 pub mod BookLemmas
 pub mod BringLemmas
+pub mod BytesLemmas
 pub mod IndexLemmas
+pub mod MergingLemmas
 pub mod MomentLemmas
 pub mod PairLemmas
 pub mod RestoreLemmas

@@ -1,19 +1,16 @@
 -- A change with the lists that it needs beside what it says, so that a book takes it in without memory.
-use Rattle.std.specs.Prelude.{◌≡◌, ◌≤◌, ◌-◌, ◌∷◌, Bool, List, None, Option, Some, [], false, is_some, length, map, ℕ}
-use Rattle.archive_retry.specs.declared.state.ArchiveState.{ArchiveState}
+use Rattle.std.specs.Prelude.{◌≡◌, ◌≤◌, ◌-◌, ◌∷◌, Bool, List, None, Option, Some, [], false, is_some, length, map, sum, vec_capacity, ℕ}
 use Rattle.run_states.specs.ResultBytes.{bytes_in, result_bytes}
 use Rattle.run_states.specs.declared.answer.Other.{Other}
 use Rattle.run_states.specs.declared.row.RunRow.{RunRow}
 use Rattle.host_model.specs.Apply.{apply}
 use Rattle.host_model.specs.Book.{Book}
-use Rattle.host_model.specs.Effect.{archives_of, states_due}
 use Rattle.host_model.specs.Heard.{other_at}
 use Rattle.host_model.specs.Lawful.{Lawful}
 use Rattle.host_model.specs.MayFollow.{CanApply}
 use Rattle.host_model.specs.NewRow.{all_unheard}
 use Rattle.host_model.specs.declared.change.Change.{Change}
 use Rattle.host_model.specs.declared.change.Change.TheVariants.{Accepted, Asked, Ended, Merged, ResultHeard}
-use Rattle.host_model.specs.declared.task_row.TaskRow.{TaskRow}
 use Rattle.row_ledger.specs.Ledger.{most_counted}
 use Rattle.host_book.specs.declared.ready.Ready.{Ready}
 
@@ -22,15 +19,20 @@ abbrev pub others_for : Change → List Other
 others_for (Asked q participants asker) = all_unheard participants
 others_for _ = []
 
--- the states of the archives of a run that is merged at m, where these tasks stand
-abbrev pub archives_for : ℕ → List TaskRow → Change → List ArchiveState
-archives_for m tasks (Merged k body) = states_due m (archives_of tasks k)
-archives_for m tasks _ = []
+-- the most archives of a task
+abbrev pub most_archives : ℕ
+most_archives = 8
 
--- its lists are those of its change at m, where these tasks stand
-pub record IsReady (m : ℕ) (tasks : List TaskRow) (r : Ready) : Type 0 where
+-- so many places are enough for the states of the archives of a run that is merged
+abbrev pub HasPlaces : Change → ℕ → Type 0
+HasPlaces (Merged k body) places = most_archives ≤ places
+HasPlaces _ places = Unit {0}
+
+-- its lists are those of its change, with places for the states of archives
+pub record IsReady (r : Ready) : Type 0 where
   pub others : r.others ≡ others_for r.change
-  pub archives : r.archives ≡ archives_for m tasks r.change
+  pub empty : r.archives.items ≡ []
+  pub places : HasPlaces r.change (vec_capacity r.archives)
 
 -- a change that needs no lists
 abbrev pub IsBare : Change → Type 0
@@ -47,21 +49,25 @@ brought_bytes (Merged k body) = length body
 brought_bytes _ = 0
 
 -- ---- changes in a row
--- the change can be made at m, leaves a lawful book of the host with this number, has its lists, and its results can be counted
+-- how many bytes of results they bring at most
+abbrev pub all_brought : List Ready → ℕ
+all_brought rs = sum (map (λ r. brought_bytes r.change) rs)
+
+-- what they change
+abbrev pub changes_of : List Ready → List Change
+changes_of rs = map (λ r. r.change) rs
+
+-- the change can be made at m, leaves a lawful book of the host with this number, has what it needs, and its results can be counted
 pub record Fits (number m : ℕ) (b : Book) (r : Ready) : Type 0 where
   pub can : CanApply b r.change
   pub lawful : Lawful number (apply m r.change b)
-  pub ready : IsReady m b.tasks r
+  pub ready : IsReady r
   pub bytes : brought_bytes r.change ≤ most_counted - result_bytes b.rows
 
 -- each of them, in order
 abbrev pub AllFit : ℕ → ℕ → List Ready → Book → Type 0
 AllFit number m [] b = Unit {0}
 AllFit number m (r ∷ rs) b = Fits number m b r × AllFit number m rs (apply m r.change b)
-
--- what they change
-abbrev pub changes_of : List Ready → List Change
-changes_of rs = map (λ r. r.change) rs
 
 -- ---- what a row has already
 -- the participant told its result, or that it has none

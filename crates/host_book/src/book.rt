@@ -1,5 +1,5 @@
 //! A host's book in memory.
-ghost use Rattle.std.specs.Prelude.{◌≡◌, ◌≤◌, ◌<◌, ◌+◌, ◌-◌, ℕ, [], All, IfOk, OnOk, Some, length, map, option_map};
+ghost use Rattle.std.specs.Prelude.{◌≡◌, ◌≤◌, ◌<◌, ◌+◌, ◌-◌, ℕ, [], All, IfOk, IsFalse, OnOk, Some, length, map, option_map, vec_capacity};
 ghost use Rattle.ps_time.specs.declared.moment.TheConstants.{MAX_MOMENT};
 ghost use Rattle.limit_apply.specs.Limits.{Config as LimitsSeen};
 ghost use Rattle.run_states.specs.Life.{settled_rows, HasMoments};
@@ -10,20 +10,21 @@ ghost use Rattle.host_model.specs.Apply.{apply, apply_all, book_after, close_tas
 ghost use Rattle.host_model.specs.Book.{empty_book, epoch_of, last_limits};
 ghost use Rattle.host_model.specs.Effect.{archives_of, states_due};
 ghost use Rattle.host_model.specs.Lawful.{Lawful};
-ghost use Rattle.host_model.specs.MayFollow.{CanApply};
+ghost use Rattle.host_model.specs.MayFollow.{CanApply, CanApplyAll};
 ghost use Rattle.host_model.specs.declared.change.Change.TheVariants.{AcceptHeard as AcceptHeardChange, Accepted as AcceptedChange, Asked as AskedChange, Closed as ClosedChange, Confirmed as ConfirmedChange, Ended as EndedChange, FreeHeard as FreeHeardChange, LimitsSet as LimitsSetChange, MaterialHeard as MaterialHeardChange, Merged as MergedChange, Planned as PlannedChange, Posted as PostedChange, Purged as PurgedChange, ResultHeard as ResultHeardChange, Started as StartedChange, TaskClosed as TaskClosedChange, Told as ToldChange, Tried as TriedChange};
 ghost use Rattle.run_states.specs.LawfulRow.{BringsResults};
 ghost use Rattle.live_rows.specs.Still.{live_keys};
 ghost use Rattle.host_book.specs.Host.{noted};
 ghost use Rattle.row_ledger.specs.Ledger.{fact_bytes, most_counted, IsNoPlan};
 ghost use Rattle.host_model.specs.NewRow.{all_unheard};
-ghost use Rattle.host_book.specs.Ready.{AllFit, brought_bytes, changes_of, is_heard, is_merged, IsBare, IsReady};
+ghost use Rattle.host_book.specs.Ready.{AllFit, all_brought, brought_bytes, changes_of, is_heard, is_merged, most_archives, IsBare, IsReady};
 ghost use Rattle.host_book.specs.Reservations.{released};
 
+use crate::merging::states_due;
 use crate::new_row::{accepted_row, asked_row, planned_reservation, reservation_of};
 use crate::pairs::Pairs;
 use crate::parts::Parts;
-use crate::ready::{Ready, made_ready};
+use crate::ready::Ready;
 use crate::restore::restored_timeline;
 use archive_retry::state::ArchiveState;
 use host_model::change::Change;
@@ -167,6 +168,13 @@ impl HostBook {
         self.epochs.as_slice()
     }
 
+    /// For each accepted run the number of its epoch, 0 where there was none; ascending by key.
+    pub fn pairs(&self) -> &[(RunKey, u32)]
+        ensures { result.now ≡ self.now.book.pairs }
+    {
+        self.pairs.list()
+    }
+
     /// The number of the epoch under which the run was accepted; 0 where there was none.
     pub fn epoch_of(&self, key: RunKey) -> Option<u32>
         ensures { result ≡ epoch_of self.now.book key }
@@ -182,6 +190,14 @@ impl HostBook {
             Some(limits) => limits,
             None => first,
         }
+    }
+
+    /// Whether a row may lapse by the moment, in seconds since 1970 UTC; where none does, the rows settle as they are.
+    pub fn may_lapse(&self, moment: Moment) -> bool
+        ensures { IsFalse result → settled_rows moment self.now.book.rows ≡ self.now.book.rows }
+    {
+        let _ = self.number;
+        self.ledger.may_lapse(moment)
     }
 
     /// How many bytes the results have that the rows keep.
@@ -223,20 +239,12 @@ impl HostBook {
         self.moment = moment;
     }
 
-    /// The change with the lists that it needs, so that this book can take it in.
-    pub fn prepare(&self, alloc: Global, change: Change) -> Result<Ready, Memory>
-        ensures change { IfOk result (λ r. r.change ≡ change) }
-        ensures ready { IfOk result (λ r. IsReady self.now.book.moment self.now.book.tasks r) }
-    {
-        made_ready(alloc, self.moment, self.tasks.as_slice(), change)
-    }
-
     /// Takes a change in, at the book's moment. Takes no memory.
     pub fn absorb(&mut self, ready: Ready)
         requires room { 0 < self.old.room }
         requires can { CanApply self.old.book ready.change }
         requires lawful { Lawful self.old.number (apply self.old.book.moment ready.change self.old.book) }
-        requires ready { IsReady self.old.book.moment self.old.book.tasks ready }
+        requires ready { IsReady ready }
         requires bytes { brought_bytes ready.change ≤ most_counted - bytes_of_rows self.old.book.rows }
         ensures number { self.new.number ≡ self.old.number }
         ensures book { self.new.book ≡ apply self.old.book.moment ready.change self.old.book }
@@ -252,12 +260,24 @@ impl HostBook {
                 proposal,
                 participants,
                 epoch,
-            } => self.accept(proposal, participants, epoch, others, archives),
+            } => self.accept(
+                proposal,
+                participants,
+                epoch,
+                others,
+                Items::from_vec(archives),
+            ),
             Change::Asked {
                 question,
                 participants,
                 asker,
-            } => self.ask(question, participants, asker, others, archives),
+            } => self.ask(
+                question,
+                participants,
+                asker,
+                others,
+                Items::from_vec(archives),
+            ),
             Change::Merged { key, body } => self.merge(key, body, archives),
             change => self.absorb_bare(change),
         }
@@ -306,7 +326,9 @@ impl HostBook {
         requires later { self.old.book.moment ≤ moment }
         requires bound { moment ≤ MAX_MOMENT }
         requires room { length list ≤ self.old.room }
-        requires fit { AllFit self.old.number moment list (settled moment self.old.book) }
+        requires ready { All IsReady list }
+        requires can { CanApplyAll self.old.number moment (changes_of list) (settled moment self.old.book) }
+        requires bytes { all_brought list ≤ most_counted - bytes_of_rows self.old.book.rows }
         ensures number { self.new.number ≡ self.old.number }
         ensures book { self.new.book ≡ book_after self.old.book (record { moment = moment; list = changes_of list }) }
         ensures room { self.old.room ≤ self.new.room + length list }
@@ -314,6 +336,7 @@ impl HostBook {
         if list.len() == 0 {
             return;
         }
+        let _ = self.rows();
         self.settle(moment);
         self.absorb_each(moment, list);
     }
@@ -460,10 +483,11 @@ impl HostBook {
     }
 
     // The results were merged; where they are merged already, that stays.
-    fn merge(&mut self, key: RunKey, body: Text, archives: Items<ArchiveState>)
+    fn merge(&mut self, key: RunKey, body: Text, places: Vec<ArchiveState>)
         requires can { CanApply self.old.book (MergedChange key body) }
         requires lawful { Lawful self.old.number (apply self.old.book.moment (MergedChange key body) self.old.book) }
-        requires archives { archives ≡ states_due self.old.book.moment (archives_of self.old.book.tasks key) }
+        requires empty { places.items ≡ [] }
+        requires places { most_archives ≤ vec_capacity places }
         requires bytes { length body ≤ most_counted - bytes_of_rows self.old.book.rows }
         ensures number { self.new.number ≡ self.old.number }
         ensures book { self.new.book ≡ apply self.old.book.moment (MergedChange key body) self.old.book }
@@ -473,6 +497,7 @@ impl HostBook {
             drop(body);
             return;
         }
+        let archives = states_due(self.moment, self.tasks.as_slice(), key, places);
         self.note(key, Fact::Merged { body, archives });
     }
 

@@ -3,8 +3,10 @@
 #![tactic(auto)]
 
 pub mod book;
+pub mod merging;
 mod new_row;
 mod pairs;
 pub mod parts;
+mod preparing;
 pub mod ready;
 mod restore;

@@ -55,6 +55,13 @@ impl Pairs {
         Ok(())
     }
 
+    /// The pairs, ascending by key.
+    pub(crate) fn list(&self) -> &[(RunKey, u32)]
+        ensures { result.now ≡ self.now.list }
+    {
+        self.pairs.as_slice()
+    }
+
     /// The number of the epoch that stands with the key.
     pub(crate) fn epoch_of(&self, key: RunKey) -> Option<u32>
         ensures { result ≡ option_map (λ p. p.1) (find_pair self.now.list key) }

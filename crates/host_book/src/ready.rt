@@ -1,70 +1,55 @@
 //! A change with all that a book needs to take it in.
-ghost use Rattle.std.specs.Prelude.{◌≡◌, ◌≤◌, [], IfOk, map};
-ghost use Rattle.std.specs.Option.{option_copied};
-ghost use Rattle.ps_time.specs.declared.moment.TheConstants.{MAX_MOMENT};
-ghost use Rattle.host_model.specs.Book.{find_task};
-ghost use Rattle.host_model.specs.Effect.{archives_of, states_due};
+ghost use Rattle.std.specs.Prelude.{◌≡◌, [], IfOk, map, vec_capacity};
 ghost use Rattle.host_model.specs.NewRow.{all_unheard, unheard};
-ghost use Rattle.host_book.specs.Ready.{archives_for, others_for, IsReady};
+ghost use Rattle.run_states.specs.ResultBytes.{bytes_in};
+ghost use Rattle.host_book.specs.Ready.{HasPlaces, IsReady, brought_bytes, others_for};
 
+use crate::merging::archive_places;
 use archive_retry::state::ArchiveState;
 use host_model::change::Change;
-use host_model::task_row::TaskRow;
 use ps_time::items::Items;
-use ps_time::key::RunKey;
 use ps_time::memory::Memory;
-use ps_time::moment::Moment;
 use ps_time::text::Text;
 use run_states::answer::Other;
 use std::alloc::Global;
-use task_spec::task::Archive;
 
-/// A change with the lists that it needs beside what it says, made beforehand.
+/// A change with what it needs beside what it says, made beforehand.
 #[derive(Drop)]
 pub struct Ready {
     pub change: Change,
     /// What a run that is asked about knows of its other participants; else empty.
     pub others: Items<Other>,
-    /// The states of the archives of a run that is merged; else empty.
-    pub archives: Items<ArchiveState>,
+    /// Empty, with places for the states of the archives of a run that is merged.
+    pub archives: Vec<ArchiveState>,
 }
 
-/// The change at the moment, where these tasks stand, with its lists.
-pub(crate) fn made_ready(
-    alloc: Global,
-    moment: Moment,
-    tasks: &[TaskRow],
-    change: Change,
-) -> Result<Ready, Memory>
-    requires { moment ≤ MAX_MOMENT }
-    ensures change { IfOk result (λ r. r.change ≡ change) }
-    ensures ready { IfOk result (λ r. IsReady moment tasks.now r) }
-{
-    match lists(alloc, moment, tasks, &change) {
-        Ok((others, archives)) => Ok(Ready {
-            change,
-            others,
-            archives,
-        }),
-        Err(fault) => {
-            drop(change);
-            Err(fault)
+impl Ready {
+    /// The change with what it needs.
+    pub fn new(alloc: Global, change: Change) -> Result<Ready, Memory>
+        ensures change { IfOk result (λ r. r.change ≡ change) }
+        ensures ready { IfOk result IsReady }
+    {
+        match lists(alloc, &change) {
+            Ok((others, archives)) => Ok(Ready {
+                change,
+                others,
+                archives,
+            }),
+            Err(fault) => {
+                drop(change);
+                Err(fault)
+            }
         }
     }
 }
 
-fn lists(
-    alloc: Global,
-    moment: Moment,
-    tasks: &[TaskRow],
-    change: &Change,
-) -> Result<(Items<Other>, Items<ArchiveState>), Memory>
-    requires { moment ≤ MAX_MOMENT }
+fn lists(alloc: Global, change: &Change) -> Result<(Items<Other>, Vec<ArchiveState>), Memory>
     ensures others { IfOk result (λ l. l.0 ≡ others_for change.now) }
-    ensures archives { IfOk result (λ l. l.1 ≡ archives_for moment tasks.now change.now) }
+    ensures empty { IfOk result (λ l. l.1.items ≡ []) }
+    ensures places { IfOk result (λ l. HasPlaces change.now (vec_capacity l.1)) }
 {
     let others = others_for(alloc, change)?;
-    Ok((others, archives_for(alloc, moment, tasks, change)?))
+    Ok((others, places_for(alloc, change)?))
 }
 
 fn others_for(alloc: Global, change: &Change) -> Result<Items<Other>, Memory>
@@ -76,23 +61,18 @@ fn others_for(alloc: Global, change: &Change) -> Result<Items<Other>, Memory>
     }
 }
 
-fn archives_for(
-    alloc: Global,
-    moment: Moment,
-    tasks: &[TaskRow],
-    change: &Change,
-) -> Result<Items<ArchiveState>, Memory>
-    requires { moment ≤ MAX_MOMENT }
-    ensures { IfOk result (λ states. states ≡ archives_for moment tasks.now change.now) }
+fn places_for(alloc: Global, change: &Change) -> Result<Vec<ArchiveState>, Memory>
+    ensures empty { IfOk result (λ states. states.items ≡ []) }
+    ensures places { IfOk result (λ states. HasPlaces change.now (vec_capacity states)) }
 {
     match change {
-        Change::Merged { key, .. } => states_due(alloc, moment, tasks, *key),
-        _ => Ok(Items::new(alloc)),
+        Change::Merged { .. } => archive_places(alloc),
+        _ => Ok(Vec::new(alloc)),
     }
 }
 
-// Nothing is known of the participants beside the first, which is the lead.
-fn all_unheard(alloc: Global, participants: &[Text]) -> Result<Items<Other>, Memory>
+/// Nothing is known of the participants beside the first, which is the lead.
+pub fn all_unheard(alloc: Global, participants: &[Text]) -> Result<Items<Other>, Memory>
     ensures { IfOk result (λ others. others ≡ all_unheard participants.now) }
 {
     if participants.len() == 0 {
@@ -124,39 +104,23 @@ fn unheard() -> Other
     }
 }
 
-// The archives of the run's task are due from the moment on; a booking has none.
-fn states_due(
-    alloc: Global,
-    moment: Moment,
-    tasks: &[TaskRow],
-    key: RunKey,
-) -> Result<Items<ArchiveState>, Memory>
-    requires { moment ≤ MAX_MOMENT }
-    ensures { IfOk result (λ states. states ≡ states_due moment (archives_of tasks.now key)) }
+fn bytes_in(text: &Option<Text>) -> u64
+    ensures { result ≡ bytes_in text.now }
 {
-    match find_task(tasks, key.task) {
-        Some(task) => each_due(alloc, moment, task.task.archives.as_slice()),
-        None => Ok(Items::new(alloc)),
+    match text {
+        None => 0,
+        Some(text) => text.len() as u64,
     }
 }
 
-fn find_task(tasks: &[TaskRow], serial: u32) -> Option<&TaskRow>
-    ensures { option_copied result ≡ find_task tasks.now serial }
+/// How many bytes of results the change brings at most.
+pub fn brought_bytes(change: &Change) -> u64
+    ensures { result ≡ brought_bytes change.now }
 {
-    tasks.iter().find(|task| task.serial == serial)
-}
-
-fn each_due(
-    alloc: Global,
-    moment: Moment,
-    archives: &[Archive],
-) -> Result<Items<ArchiveState>, Memory>
-    requires { moment ≤ MAX_MOMENT }
-    ensures { IfOk result (λ states. states ≡ states_due moment archives.now) }
-{
-    let mut states = Vec::new(alloc);
-    for _archive in archives {
-        states.push(ArchiveState::due_from(moment))?;
+    match change {
+        Change::Ended { body, .. } => body.len() as u64,
+        Change::ResultHeard { result: told, .. } => bytes_in(told),
+        Change::Merged { body, .. } => body.len() as u64,
+        _ => 0,
     }
-    Ok(Items::from_vec(states))
 }

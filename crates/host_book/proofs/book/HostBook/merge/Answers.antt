@@ -1,4 +1,4 @@
-use Rattle.std.proofs.Common.{◌≡◌, true, false, ap, sym, subst, ◌∙◌}
+use Rattle.std.proofs.Common.{◌≡◌, true, false, ap, arith, length, sym, subst, ◌∙◌}
 use Rattle.run_states.specs.Effect.{merge_row}
 use Rattle.run_states.specs.Rows.{find_row}
 use Rattle.run_states.specs.declared.fact.Fact.TheVariants.{Merged as MergedFact}
@@ -13,6 +13,7 @@ use Rattle.host_model.proofs.Placed.{find_row-key}
 use Rattle.host_model.proofs.RowLemmas.{found_of_all}
 use Rattle.host_book.specs.Host.{Host, noted}
 use Rattle.host_book.specs.Ready.{is_merged}
+use Rattle.host_book.proofs.MergingLemmas.{few_archives}
 use Rattle.host_book.proofs.BringLemmas.{merge_brings, merged_before, unchanged}
 use Rattle.host_book.proofs.book.HostBook.merge.Goals as goal
 
@@ -36,6 +37,17 @@ note-requires-clause-results c =
     let is : is_merged (find_row b.rows c.args.key) ≡ false = subst (λ l. is_merged (find_row l c.args.key) ≡ false) c.rows.ensures.list (sym c.is_merged.ensures ∙ c.if-is_merged.false) in
     merge_brings c.self.inside.number b.tasks b.moment b.rows c.args.key (states_due b.moment (archives_of b.tasks c.args.key)) c.args.body can is lawful.rows
 
+-- there are places for the states of the task's archives
+pub states_due-archives-requires-clause-enough : goal.states_due-archives-requires-clause-enough
+states_due-archives-requires-clause-enough c =
+    let few = few_archives c.self.inside.moment c.self.inside.tasks.items c.args.key c.self.invariant.0.lawful.tasks in
+    let same = ap (λ l. length (archives_of l c.args.key)) c.as_slice.ensures.value in
+    omega (arith, few, same, c.requires.places)
+
 -- the states are those of the task's archives
 pub note-requires-clause-lawful : goal.note-requires-clause-lawful
-note-requires-clause-lawful c = subst (λ states. Lawful c.args.self.now.number (noted c.args.key (MergedFact c.args.body states) c.args.self.now.book)) (sym c.requires.archives) c.requires.lawful
+note-requires-clause-lawful c =
+    let states = c.states_due-archives.ensures
+    ∙ (ap (λ l. states_due c.self.inside.moment (archives_of l c.args.key)) c.as_slice.ensures.value
+    ∙ ap (λ (h : Host). states_due h.book.moment (archives_of h.book.tasks c.args.key)) c.self.view_is) in
+    subst (λ states. Lawful c.args.self.now.number (noted c.args.key (MergedFact c.args.body states) c.args.self.now.book)) (sym states) c.requires.lawful
