@@ -8,7 +8,7 @@ use Rattle.ps_time.specs.Key.{key_cmp}
 use Rattle.ps_time.specs.declared.key.RunKey.{RunKey}
 use Rattle.ps_time.specs.declared.moment.TheConstants.{MAX_MOMENT}
 use Rattle.limit_apply.specs.Limits.{Config as Limits}
-use Rattle.run_states.specs.Life.{settled_row}
+use Rattle.run_states.specs.Life.{settled_row, settled_rows}
 use Rattle.run_states.specs.ResultBytes.{result_bytes, row_bytes}
 use Rattle.run_states.specs.Rows.{change_row, find_row, lift_row, IsAscendingRows}
 use Rattle.run_states.specs.declared.row.RunRow.{RunRow}
@@ -20,21 +20,19 @@ use Rattle.host_model.specs.RecordLength.{change_bytes}
 use Rattle.host_model.specs.declared.change.Change.{Change}
 use Rattle.run_states.proofs.Place.{key_is}
 use Rattle.host_model.proofs.SettledBook.{book_settled}
-use Rattle.live_rows.specs.Still.{live_keys}
 use Rattle.row_ledger.specs.Ledger.{most_counted}
 use Rattle.row_ledger.proofs.RowLemmas.{above_other, bytes_cons, bytes_settled}
 use Rattle.host_draft.specs.Draft.{IsDraft, Seen, admits, book_now, with_draft}
-use Rattle.host_draft.specs.Overlay.{lapsed_over}
-use Rattle.host_draft.proofs.LiveLemmas.{found_opened}
+use Rattle.host_draft.specs.Overlay.{over}
 
 -- a draft without changes
-pub opened_sound : (number m : ℕ) (b : Book) (epoch count bytes left : ℕ) → b.moment ≤ m → m ≤ MAX_MOMENT → Lawful number b → epoch ≡ length b.epochs → count ≡ length b.rows → bytes ≡ result_bytes b.rows → bytes + left ≤ most_counted
-    → IsDraft number m b (book_now m [] b) (lapsed_over m b.rows (live_keys number b.rows) []) [] epoch count bytes left
-opened_sound number m b epoch count bytes left later low lawful epochs rows kept fits = record {
+pub opened_sound : (number m : ℕ) (b : Book) (touched : List RunRow) (epoch count bytes left : ℕ) → ((k : RunKey) → find_row (settled_rows m b.rows) k ≡ over touched [] b.rows k) → b.moment ≤ m → m ≤ MAX_MOMENT → Lawful number b → epoch ≡ length b.epochs → count ≡ length b.rows → bytes ≡ result_bytes b.rows → bytes + left ≤ most_counted
+    → IsDraft number m b (book_now m [] b) touched [] epoch count bytes left
+opened_sound number m b touched epoch count bytes left found later low lawful epochs rows kept fits = record {
   moment = low;
   at = refl;
   lawful = book_settled number b m later low lawful;
-  found = found_opened number m b.rows;
+  found = found;
   tasks = refl;
   epochs = refl;
   epoch = epochs;

@@ -1,10 +1,11 @@
 -- The rows that may lapse are live, so copies of these lie over a book as it settles.
 use Rattle.std.specs.List.{list_all}
-use Rattle.std.proofs.Common.{◌≡◌, ◌&&◌, ◌||◌, ℕ, Bool, true, false, cond, not, List, [], Option, Some, None, is_some, option_map, refl, ap, sym, ◌∙◌}
+use Rattle.std.specs.Prelude.{IfOk}
+use Rattle.std.proofs.Common.{◌≡◌, ◌&&◌, ◌||◌, ℕ, Bool, true, false, cond, not, List, [], Option, Some, None, Result, Ok, Err, is_some, option_map, refl, ap, sym, ◌∙◌}
 use Rattle.ps_time.specs.declared.key.RunKey.{RunKey}
 use Rattle.run_states.specs.Life.{closed_by, first, is_active, lapse_at, lapse_of, settled_row, settled_rows}
 use Rattle.run_states.specs.Purging.{is_settled_archive}
-use Rattle.run_states.specs.Rows.{find_row}
+use Rattle.run_states.specs.Rows.{Rows, find_row}
 use Rattle.run_states.specs.declared.row.RunRow.{RunRow}
 use Rattle.run_states.specs.declared.why.Closing.{Closing}
 use Rattle.live_rows.specs.Still.{is_decided, is_live, is_mergeable, is_quiet, live_keys}
@@ -60,3 +61,8 @@ module _ (n m : ℕ) (rows : List RunRow) (k : RunKey) where
   found_opened =
       find_row-map (settled_row m) (settled_key m) rows k
       ∙ (copies (find_row rows k) refl ∙ sym (ap (λ o. first o (find_row rows k)) (found_lapsed m rows (live_keys n rows) [] k)))
+
+-- what was copied lies over the book
+pub opened_ok : {E : Type 0} (n m : ℕ) (rows : List RunRow) (r : Result Rows E) → IfOk r (λ made. made.list ≡ lapsed_over m rows (live_keys n rows) []) → IfOk r (λ made. (k : RunKey) → find_row (settled_rows m rows) k ≡ over made.list [] rows k)
+opened_ok n m rows (Ok made) is = λ k. found_opened n m rows k ∙ sym (ap (λ l. over l [] rows k) is)
+opened_ok n m rows (Err e) is = tt

@@ -2,8 +2,11 @@
 ghost use Rattle.std.specs.Prelude.{◌≡◌, ◌≤◌, [], IfOk};
 ghost use Rattle.ps_time.specs.declared.moment.TheConstants.{MAX_MOMENT};
 ghost use Rattle.limit_apply.specs.Limits.{Config as LimitsSeen};
-ghost use Rattle.live_rows.specs.Still.{live_keys};
+ghost use Rattle.ps_time.specs.declared.key.RunKey.{RunKey};
+ghost use Rattle.run_states.specs.Life.{settled_rows};
+ghost use Rattle.run_states.specs.Rows.{find_row};
 ghost use Rattle.host_draft.specs.Draft.{is_full, opened};
+ghost use Rattle.host_draft.specs.Overlay.{over};
 
 use crate::log::Log;
 use crate::overlay::lapsed;
@@ -61,8 +64,8 @@ impl<'a> Model for Draft<'a> {
 
 impl<'a> Draft<'a> {
     /// Of the book as it settles at the moment, in seconds since 1970 UTC, without changes; `first` are the limits of
-    /// the configuration, which hold where none were set. Looks at the live rows alone, and copies those of them that have
-    /// lapsed by then.
+    /// the configuration, which hold where none were set. Where a row may lapse by then it looks at the live rows alone, and
+    /// copies those of them that do; else at none.
     pub fn new(
         alloc: Global,
         book: &'a HostBook,
@@ -80,7 +83,7 @@ impl<'a> Draft<'a> {
         if u64::MAX - MOST_CHANGE_BYTES < bytes {
             return Err(Memory);
         }
-        let touched = lapsed(alloc, book.live(), book.rows(), moment)?;
+        let touched = lapsed_rows(alloc, book, moment)?;
         Ok(Draft {
             book,
             moment,
@@ -128,4 +131,14 @@ impl<'a> Draft<'a> {
     {
         self.book.epochs()
     }
+}
+
+// Copies of the rows that lapse by the moment, closed, to lie over those of the book.
+fn lapsed_rows(alloc: Global, book: &HostBook, moment: Moment) -> Result<Rows, Memory>
+    ensures { IfOk result (λ made. (k : RunKey) → find_row (settled_rows moment book.now.book.rows) k ≡ over made.list [] book.now.book.rows k) }
+{
+    if !book.may_lapse(moment) {
+        return Ok(Rows::new(alloc));
+    }
+    lapsed(alloc, book.live(), book.rows(), moment)
 }

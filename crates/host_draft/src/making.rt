@@ -12,12 +12,13 @@ ghost use Rattle.host_draft.specs.Draft.{with_draft};
 ghost use Rattle.host_draft.specs.Making.{IsAdmitted, IsReadOn, made_in};
 ghost use Rattle.host_draft.specs.Way.{IsPlannedWay};
 
-use crate::bringing::{asked_row, states_due};
+use crate::bringing::asked_row;
 use crate::counting::{bytes_over, mark, note};
 use crate::draft::Draft;
 use crate::giving_way::{Incoming, close_each, copy_way, planned_way};
 use crate::length::change_length;
 use crate::overlay::{find_over, touch};
+use host_book::merging::{archive_places, states_due};
 use host_model::change::Change;
 use ps_time::asker::Asker;
 use ps_time::items::Items;
@@ -220,8 +221,9 @@ impl<'a> Draft<'a> {
         self.log.reserve()?;
         let gone = self.gone.as_slice();
         touch(alloc, &mut self.touched, gone, self.book.rows(), key)?;
-        let archives = states_due(alloc, self.moment, self.book.tasks(), key)?;
+        let places = archive_places(alloc)?;
         let kept = body.copy(alloc)?;
+        let archives = states_due(self.moment, self.book.tasks(), key, places);
         let fact = Fact::Merged {
             body: kept,
             archives,

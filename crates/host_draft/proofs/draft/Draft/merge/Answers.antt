@@ -8,6 +8,7 @@ use Rattle.run_states.specs.Effect.{merge_row, noted_row}
 use Rattle.run_states.specs.Rows.{find_row}
 use Rattle.run_states.specs.declared.fact.Fact.TheVariants.{Merged as MergedFact}
 use Rattle.host_model.specs.Effect.{archives_of, states_due}
+use Rattle.host_book.proofs.MergingLemmas.{few_archives}
 use Rattle.host_book.specs.Ready.{is_merged}
 use Rattle.row_ledger.specs.Ledger.{most_counted}
 use Rattle.row_ledger.proofs.RowLemmas.{fact_brings}
@@ -17,9 +18,19 @@ use Rattle.host_draft.proofs.MakeLemmas.{after, brought_within, can, copy_within
 use Rattle.host_draft.specs.Overlay.{below}
 use Rattle.host_draft.proofs.draft.Draft.merge.Goals as goal
 
+-- the task has few archives
+pub states_due-archives-requires-clause-enough : goal.states_due-archives-requires-clause-enough
+states_due-archives-requires-clause-enough c =
+    let d = c.self.inside in
+    let now = book_now d.moment d.log.changes d.book.now.book in
+    let few = few_archives now.moment now.tasks c.args.key c.self.invariant.lawful.tasks in
+    let places = c.in_ok-places.ensures.places in
+    let same = ap (λ l. length (archives_of l c.args.key)) (c.tasks.ensures ∙ sym c.self.invariant.tasks) in
+    omega (arith, few, places, same)
+
 -- one more copy changes nothing
-pub invariant_of-self-in_err-archives : goal.invariant_of-self-in_err-archives
-invariant_of-self-in_err-archives c =
+pub invariant_of-self-in_err-places : goal.invariant_of-self-in_err-places
+invariant_of-self-in_err-places c =
     let d = c.self.inside in
     let copied = c.in_ok-touch.ensures.ok ∙ ap₂ (λ g l. put_new (below g l c.args.key) d.touched.list) c.as_slice-gone.ensures.value c.rows.ensures.list in
     touched_kept d.book.now.number d.moment d.book.now.book d.log.changes d.touched.list d.gone.items d.epoch d.count d.bytes d.log.left c.self.invariant c.args.key c.touch.new.touched.list c.reserve.new.self.changes c.reserve.new.self.left c.in_ok-reserve.ensures.changes c.in_ok-reserve.ensures.left copied
@@ -55,7 +66,7 @@ pub invariant_of-self-2 : goal.invariant_of-self-2
 invariant_of-self-2 c =
     let d = c.self.inside in
     let copied : c.touch.new.touched.list ≡ put_new (below d.gone.items d.book.now.book.rows c.args.key) d.touched.list = c.in_ok-touch.ensures.ok ∙ ap₂ (λ g l. put_new (below g l c.args.key) d.touched.list) c.as_slice-gone.ensures.value c.rows.ensures.list in
-    let states : c.in_ok-archives.archives ≡ (states_due d.moment (archives_of (book_now d.moment d.log.changes d.book.now.book).tasks c.args.key)) = c.in_ok-archives.ensures ∙ ap (λ l. states_due d.moment (archives_of l c.args.key)) (c.tasks.ensures ∙ sym c.self.invariant.tasks) in
+    let states : c.states_due-archives.result ≡ (states_due d.moment (archives_of (book_now d.moment d.log.changes d.book.now.book).tasks c.args.key)) = c.states_due-archives.ensures ∙ ap (λ l. states_due d.moment (archives_of l c.args.key)) (c.tasks.ensures ∙ sym c.self.invariant.tasks) in
     grown_kept d.book.now.number d.moment d.limits.now d.book.now.book d.log.changes d.touched.list d.gone.items d.epoch d.count d.bytes d.log.places d.log.left c.self.invariant c.args.self.now c.self.view_is c.args.length (Merged c.args.key c.args.body) c.requires.admitted (noted_row (MergedFact c.args.body (states_due d.moment (archives_of (book_now d.moment d.log.changes d.book.now.book).tasks c.args.key))) d.moment) (λ r. refl) c.args.key refl refl refl (length c.args.body) (λ r. fact_brings (MergedFact c.args.body (states_due d.moment (archives_of (book_now d.moment d.log.changes d.book.now.book).tasks c.args.key))) d.moment r) (let long = c.requires.admitted.bytes in omega (arith, long)) c.push.new.self.changes c.touch.new.touched.list c.note-self-inside.new.rows.list c.note-self-inside.result c.push.new.self.left
     (c.push.ensures.changes ∙ ap (λ l. l ++ Merged c.args.key c.args.body ∷ []) c.in_ok-reserve.ensures.changes)
     copied
