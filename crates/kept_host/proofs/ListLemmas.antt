@@ -11,7 +11,7 @@ use Rattle.row_check.proofs.AllLeft.{next_left}
 use Rattle.kept_host.specs.Stands.{IsRecord, IsSnapshot, Leads, StandsFor, StandsIn}
 
 -- one record more behind others
-lead_on : (second : Bool) (self : ℕ) (bytes : List ℕ) (b after : Book) (k : Changes) → IsRecord second bytes k → MayFollow self b k → after ≡ recorded b k → (from : Book) (xs : List (List ℕ)) → Leads second self from xs b → Leads second self from (xs ++ bytes ∷ []) after
+pub lead_on : (second : Bool) (self : ℕ) (bytes : List ℕ) (b after : Book) (k : Changes) → IsRecord second bytes k → MayFollow self b k → after ≡ recorded b k → (from : Book) (xs : List (List ℕ)) → Leads second self from xs b → Leads second self from (xs ++ bytes ∷ []) after
 lead_on second self bytes b after k is may taken from [] here = (k, is, subst (λ a. MayFollow self a k) (sym here) may, ap (λ a. recorded a k) here ∙ sym taken)
 lead_on second self bytes b after k is may taken from (x ∷ xs) leads = (leads.0, leads.1, leads.2, lead_on second self bytes b after k is may taken (recorded from leads.0) xs leads.3)
 

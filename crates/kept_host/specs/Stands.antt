@@ -31,7 +31,12 @@ pub record StandsIn (second : Bool) (self : ℕ) (snapshot : List ℕ) (records 
   pub lawful : Lawful self from
   pub leads : Leads second self from records b
 
--- a list stands for a book of the host with this number
+-- a list of one format stands for a book of the host with this number
+abbrev pub StandsAs : Bool → ℕ → List (List ℕ) → Book → Type 0
+StandsAs second self [] b = ⊥
+StandsAs second self (snapshot ∷ records) b = StandsIn second self snapshot records b
+
+-- so does a list of either
 abbrev pub StandsFor : ℕ → List (List ℕ) → Book → Type 0
 StandsFor self [] b = ⊥
 StandsFor self (snapshot ∷ records) b = StandsIn true self snapshot records b ⊎ StandsIn false self snapshot records b

@@ -1,8 +1,8 @@
 //! The book for which a list stands.
-ghost use Rattle.std.specs.Prelude.{◌≡◌, ◌⊎◌, ◌+◌, ◌<◌, ◌≤◌, Err, IfErr, IfOk, false, length, take, true, ℕ};
+ghost use Rattle.std.specs.Prelude.{◌≡◌, ◌⊎◌, ◌+◌, ◌<◌, ◌≤◌, Err, IfErr, IfOk, false, length, not, take, true, ℕ};
 ghost use Rattle.host_model.specs.Book.{Book};
 ghost use Rattle.machine_keep.specs.declared.machine.RestoreFault.TheVariants.{NotARecord};
-ghost use Rattle.kept_host.specs.Stands.{Leads, StandsFor, StandsIn};
+ghost use Rattle.kept_host.specs.Stands.{Leads, StandsAs, StandsFor, StandsIn};
 
 use crate::record::take_bytes;
 use crate::snapshot::open_snapshot;
@@ -66,34 +66,48 @@ fn later(index: usize, other: usize) -> usize
     if index < other { other } else { index }
 }
 
+/// The book for which a list stands.
+#[derive(Drop)]
+pub struct Restored {
+    pub book: HostBook,
+    /// The list is in the first format, which is read only.
+    pub is_first: bool,
+}
+
 // In the second format, or else in the first: where neither goes on to the end, the one that goes on longer tells the index.
 fn restore_either(
     alloc: Global,
     number: u16,
     snapshot: &[u8],
     records: &[Items<u8>],
-) -> Result<Result<HostBook, usize>, Memory>
-    ensures number { IfOk result (λ r. IfOk r (λ h. h.number ≡ number)) }
-    ensures stands { IfOk result (λ r. IfOk r (λ h. StandsIn true number snapshot.now records.now h.book ⊎ StandsIn false number snapshot.now records.now h.book)) }
+) -> Result<Result<Restored, usize>, Memory>
+    ensures number { IfOk result (λ r. IfOk r (λ h. h.book.number ≡ number)) }
+    ensures stands { IfOk result (λ r. IfOk r (λ h. StandsIn (not h.is_first) number snapshot.now records.now h.book.book)) }
     ensures within { IfOk result (λ r. IfErr r (λ index. index ≤ length records.now)) }
     ensures refused { IfOk result (λ r. IfErr r (λ index. (b : Book) → StandsIn true number snapshot.now records.now b ⊎ StandsIn false number snapshot.now records.now b → ⊥)) }
     ensures front { IfOk result (λ r. IfErr r (λ index. (n : ℕ) → index ≡ n + 1 → (b : Book) × (StandsIn true number snapshot.now (take n records.now) b ⊎ StandsIn false number snapshot.now (take n records.now) b))) }
 {
     match restore_in(alloc, number, true, snapshot, records)? {
-        Ok(book) => Ok(Ok(book)),
+        Ok(book) => Ok(Ok(Restored {
+            book,
+            is_first: false,
+        })),
         Err(index) => match restore_in(alloc, number, false, snapshot, records)? {
-            Ok(book) => Ok(Ok(book)),
+            Ok(book) => Ok(Ok(Restored {
+                book,
+                is_first: true,
+            })),
             Err(other) => Ok(Err(later(index, other))),
         },
     }
 }
 
-/// The book of the host with this number for which a list stands, a snapshot and then records. The index that is refused is
+/// The book of the host with this number for which a list stands, a snapshot and then records, and in which format. The index that is refused is
 /// that of the first item that is no snapshot of a lawful book, or no record that may follow. A list has a snapshot; without
 /// one the answer is want of memory.
-pub fn restore(alloc: Global, number: u16, list: &[Items<u8>]) -> Result<HostBook, RestoreFault>
-    ensures number { IfOk result (λ h. h.number ≡ number) }
-    ensures stands { IfOk result (λ h. StandsFor number list.now h.book) }
+pub fn restore(alloc: Global, number: u16, list: &[Items<u8>]) -> Result<Restored, RestoreFault>
+    ensures number { IfOk result (λ r. r.book.number ≡ number) }
+    ensures stands { IfOk result (λ r. StandsAs (not r.is_first) number list.now r.book.book) }
     ensures refused { (index : ℕ) → result ≡ Err (NotARecord index) → index < length list.now × ((b : Book) → StandsFor number list.now b → ⊥) }
     // What stands before the item that is refused still stands for a book.
     ensures front { (n : ℕ) → result ≡ Err (NotARecord (n + 1)) → (b : Book) × StandsFor number (take (n + 1) list.now) b }
@@ -102,7 +116,7 @@ pub fn restore(alloc: Global, number: u16, list: &[Items<u8>]) -> Result<HostBoo
         return Err(RestoreFault::Memory);
     };
     match restore_either(alloc, number, snapshot.as_slice(), records) {
-        Ok(Ok(book)) => Ok(book),
+        Ok(Ok(restored)) => Ok(restored),
         Ok(Err(index)) => Err(RestoreFault::NotARecord(index)),
         Err(Memory) => Err(RestoreFault::Memory),
     }
