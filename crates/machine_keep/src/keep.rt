@@ -93,6 +93,7 @@ impl<M: Machine, D: Disk> Keep<M, D> {
 
     /// What is known of a kept machine whose last call met no fault. Does nothing.
     pub fn known(&self)
+        ensures sure { IsTrue (is_ready self.now.journal.pending) → self.now.unsure ≡ None }
         ensures stands { D.premise → IsTrue (is_ready self.now.journal.pending) → StandsFor M.stands_for (M.state self.now.machine) (stored D.seen self.now.journal) }
         ensures durable { D.premise → IsTrue (is_ready self.now.journal.pending) → EachImage D.may_leave self.now.journal (StandsFor M.stands_for (M.state self.now.machine)) }
         ensures place { D.premise → IsTrue (is_ready self.now.journal.pending) → IsAt self.now.journal (stored D.seen self.now.journal) }
