@@ -1,0 +1,25 @@
+use Rattle.std.proofs.Common.{◌≡◌, ◌∙◌, ap, subst}
+use Rattle.host_journal.specs.State.{has_record, stored}
+use Rattle.host_model.specs.declared.input.Input.TheVariants.{Open}
+use Rattle.machine_keep.specs.Kept.{after_step, caught}
+use Rattle.host_keep.specs.Laws.{book_answered}
+use Rattle.host_keep.specs.Standing.{Answers, Standing, after}
+use Rattle.host_keep.specs.declared.call.HostCall.{HostCall}
+use Rattle.host_keep.proofs.open.begin.Goals as goal
+
+-- no step was unsure, so the first one is of the host that was opened
+pub returns-in-Ok : goal.returns-in-Ok
+returns-in-Ok g c =
+    let s : Standing = c.args.keep.machine.standing in
+    let call : HostCall = record { clock = c.args.clock; input = Open } in
+    let stood = has_record c.args.keep.journal.pending (stored g.D.Disk.seen c.args.keep.journal) in
+    let is : caught after s c.args.keep.unsure stood ≡ s = ap (λ u. caught after s u stood) (c.known.ensures.sure c.requires.ready) in
+    record {
+      config = c.in-Ok.ensures.fixed;
+      book = λ p.
+          let done = c.in-Ok.ensures.done p in
+          let answers = subst (λ (x : Standing). Answers x call c.in-Ok.reply done.0) is done.1 in
+          ap (λ (x : Standing). x.book) (done.2 ∙ ap (λ x. after_step after x done.0) is) ∙ book_answered s call c.in-Ok.reply done.0 answers;
+      durable = λ p. c.in-Ok.ensures.durable p;
+      no_place = tt;
+    }

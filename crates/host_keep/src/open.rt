@@ -1,0 +1,130 @@
+//! Opening a host that is kept.
+ghost use Rattle.std.specs.Prelude.{◌≡◌, ◌⊎◌, ◌≤◌, IfErr, IfOk, IsTrue};
+ghost use Rattle.ps_time.specs.declared.moment.TheConstants.{MAX_MOMENT};
+ghost use Rattle.host_journal.specs.Pair.{pair_of};
+ghost use Rattle.host_journal.specs.State.{is_ready, EachImage, first_disk, second_disk};
+ghost use Rattle.host_model.specs.Book.{Book};
+ghost use Rattle.host_model.specs.Conditions.{IsConfig};
+ghost use Rattle.host_model.specs.Step.{step_book};
+ghost use Rattle.host_model.specs.declared.input.Input.TheVariants.{Open as OpenInput};
+ghost use Rattle.machine_keep.specs.Kept.{StandsEither, StandsFor};
+ghost use Rattle.host_keep.specs.Standing.{StandsNow, StoodOnce};
+
+use crate::call::HostCall;
+use crate::host::Host;
+use host_journal::fault::{OpenFault, OpenReason};
+use host_journal::reading::DiskPlace;
+use host_model::config::Config;
+use host_model::input::Input;
+use host_model::reply::{LimitsWrong, Reply};
+use machine_keep::fault::StepFault;
+use machine_keep::keep::Keep;
+use ps_disks::disk::Disk;
+use ps_time::moment::Moment;
+use std::alloc::Global;
+
+/// Why no host was opened.
+#[derive(Clone, Copy, PartialEq, Eq)]
+pub enum KeepReason {
+    /// The disks stand for no book of a host with this number: the first byte of the record or snapshot that is refused.
+    NotAJournal(DiskPlace),
+    /// A disk failed.
+    DiskFault,
+    Memory,
+    /// The limits of the configuration can't be kept.
+    Limits(LimitsWrong),
+}
+
+/// No host was opened; both disks are handed back.
+#[derive(Drop)]
+pub struct KeepFault<D> {
+    pub first: D,
+    pub second: D,
+    pub reason: KeepReason,
+}
+
+/// The host for which two disks stand, after its first step at a clock, in seconds since 1970 UTC: the limits of the
+/// configuration become the first epoch of a book that has none, and every run that was going on ends as failed. A pair of
+/// new disks stands for a host that has kept nothing. A list of the first format is written anew in the second.
+pub fn open<D: Disk>(
+    alloc: Global,
+    config: Config,
+    clock: Moment,
+    first: D,
+    second: D,
+) -> Result<Keep<Host, D>, KeepFault<D>>
+    requires config { IsConfig config }
+    requires clock { clock ≤ MAX_MOMENT }
+    ensures config { IfOk result (λ keep. keep.machine.standing.config ≡ config) }
+    ensures book { D.premise → IfOk result (λ keep. (before : Book) × StandsEither StandsNow StoodOnce (record { config = config; book = before }) (pair_of (D.seen first) (D.seen second))
+        × (keep.machine.standing.book ≡ step_book config before clock OpenInput)) }
+    ensures durable { D.premise → IfOk result (λ keep. EachImage D.may_leave keep.journal (StandsFor StandsNow keep.machine.standing)) }
+    ensures nothing { D.premise → IfErr result (λ f. (place : _) → f.reason ≡ KeepReason.NotAJournal place → (b : Book) → StandsEither StandsNow StoodOnce (record { config = config; book = b }) (pair_of (D.seen first) (D.seen second)) → ⊥) }
+{
+    match Keep::open(alloc, config, first, second) {
+        Ok(keep) => begin(alloc, keep, clock),
+        Err(
+            OpenFault {
+                first,
+                second,
+                reason,
+            },
+        ) => Err(KeepFault {
+            first,
+            second,
+            reason: reason_of(reason),
+        }),
+    }
+}
+
+// The host after its first step.
+fn begin<D: Disk>(
+    alloc: Global,
+    keep: Keep<Host, D>,
+    clock: Moment,
+) -> Result<Keep<Host, D>, KeepFault<D>>
+    requires config { IsConfig keep.machine.standing.config }
+    requires clock { clock ≤ MAX_MOMENT }
+    requires ready { IsTrue (is_ready keep.journal.pending) }
+    ensures config { IfOk result (λ k. k.machine.standing.config ≡ keep.machine.standing.config) }
+    ensures book { D.premise → IfOk result (λ k. k.machine.standing.book ≡ step_book keep.machine.standing.config keep.machine.standing.book clock OpenInput) }
+    ensures durable { D.premise → IfOk result (λ k. EachImage D.may_leave k.journal (StandsFor StandsNow k.machine.standing)) }
+    ensures no_place { IfErr result (λ f. (place : _) → f.reason ≡ KeepReason.NotAJournal place → ⊥) }
+{
+    let mut keep = keep;
+    keep.known();
+    let call = HostCall {
+        clock,
+        input: Input::Open,
+    };
+    match keep.apply(alloc, call) {
+        Ok(Reply::LimitsWrong(wrong)) => Err(refused(keep, KeepReason::Limits(wrong))),
+        Ok(reply) => {
+            drop(reply);
+            Ok(keep)
+        }
+        Err(StepFault::Disk) => Err(refused(keep, KeepReason::DiskFault)),
+        Err(StepFault::Memory) => Err(refused(keep, KeepReason::Memory)),
+    }
+}
+
+fn reason_of(reason: OpenReason) -> KeepReason
+    ensures place { (place : _) → result ≡ KeepReason.NotAJournal place → reason ≡ OpenReason.NotAJournal place }
+{
+    match reason {
+        OpenReason::NotAJournal(place) => KeepReason::NotAJournal(place),
+        OpenReason::DiskFault => KeepReason::DiskFault,
+        OpenReason::Memory => KeepReason::Memory,
+    }
+}
+
+fn refused<D: Disk>(keep: Keep<Host, D>, reason: KeepReason) -> KeepFault<D>
+    ensures reason { result.reason ≡ reason }
+{
+    let (first, second) = keep.into_disks();
+    KeepFault {
+        first,
+        second,
+        reason,
+    }
+}
