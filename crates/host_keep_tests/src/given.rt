@@ -1,13 +1,16 @@
 //! Host a, alone, kept on two disks in memory.
-ghost use Rattle.std.specs.Prelude.{◌∷◌, ◌≡◌, ◌≤◌, [], IfOk};
+ghost use Rattle.std.specs.List.{list_all};
+ghost use Rattle.std.specs.Prelude.{◌∷◌, ◌≡◌, ◌≤◌, [], IfOk, codes, true};
 ghost use Rattle.ps_time.specs.declared.moment.TheConstants.{MAX_MOMENT};
 ghost use Rattle.limit_apply.specs.Read.{IsKept};
+ghost use Rattle.plugin_core.specs.ReadTest.{all_differ};
+ghost use Rattle.task_spec.specs.ReadTask.{is_tool};
 ghost use Rattle.host_model.specs.Conditions.{IsConfig};
 
 use host_keep::call::HostCall;
 use host_keep::host::Host;
 use host_keep::open::open;
-use host_model::config::Config;
+use host_model::config::{Config, Peer};
 use host_model::input::Input;
 use host_model::reply::Reply;
 use lawful_check::epochs::law_one_kept;
@@ -42,40 +45,65 @@ fn limits(alloc: Global) -> Result<Limits, Fail>
     Ok(limits)
 }
 
-fn tools(alloc: Global, with_tools: bool) -> Result<Items<Text>, Memory> {
+fn tools(alloc: Global) -> Result<Items<Text>, Memory>
+    ensures { IfOk result (λ names. names ≡ codes "sleep" ∷ []) }
+{
     let mut names = Items::new(alloc);
-    if with_tools {
-        names.push(Text::new(alloc, "sleep")?)?;
-    }
+    names.push(Text::new(alloc, "sleep")?)?;
     Ok(names)
 }
 
-fn config_of(alloc: Global, limits: Limits, with_tools: bool) -> Result<Config, Memory>
-    requires { IsKept limits }
+fn no_text(alloc: Global) -> Text
+    ensures { result ≡ [] }
+{
+    Text::from_string(String::new(alloc))
+}
+
+fn no_peers(alloc: Global) -> Items<Peer>
+    ensures { result ≡ [] }
+{
+    Items::new(alloc)
+}
+
+fn config_of(alloc: Global, limits: Limits, installed: Items<Text>) -> Result<Config, Memory>
+    requires kept { IsKept limits }
+    requires known { list_all is_tool installed ≡ true }
+    requires different { all_differ installed ≡ true }
     ensures may_be { IfOk result IsConfig }
     ensures number { IfOk result (λ c. c.number ≡ 1) }
-    ensures name { IfOk result (λ c. c.name ≡ 97 ∷ []) }
+    ensures name { IfOk result (λ c. c.name ≡ codes "a") }
 {
     let name = Text::new(alloc, "a")?;
-    let installed = tools(alloc, with_tools)?;
     Ok(Config {
         number: 1,
         name,
-        authority: Text::from_string(String::new(alloc)),
-        peers: Items::new(alloc),
+        authority: no_text(alloc),
+        peers: no_peers(alloc),
         installed,
         limits,
     })
 }
 
-/// The configuration of host a, with the tool `sleep` or with none.
-pub(crate) fn config(alloc: Global, with_tools: bool) -> Result<Config, Fail>
+/// The configuration of host a, with the tool `sleep`.
+pub(crate) fn config(alloc: Global) -> Result<Config, Fail>
     ensures may_be { IfOk result IsConfig }
     ensures number { IfOk result (λ c. c.number ≡ 1) }
-    ensures name { IfOk result (λ c. c.name ≡ 97 ∷ []) }
+    ensures name { IfOk result (λ c. c.name ≡ codes "a") }
 {
     let limits = limits(alloc)?;
-    Ok(config_of(alloc, limits, with_tools)?)
+    let installed = tools(alloc)?;
+    Ok(config_of(alloc, limits, installed)?)
+}
+
+/// The configuration of host a without a tool.
+pub(crate) fn bare_config(alloc: Global) -> Result<Config, Fail>
+    ensures may_be { IfOk result IsConfig }
+    ensures number { IfOk result (λ c. c.number ≡ 1) }
+    ensures name { IfOk result (λ c. c.name ≡ codes "a") }
+{
+    let limits = limits(alloc)?;
+    let installed = Items::new(alloc);
+    Ok(config_of(alloc, limits, installed)?)
 }
 
 fn disk_of(alloc: Global, bytes: &[u8]) -> Result<MemoryDisk, AllocError> {
@@ -93,10 +121,10 @@ pub(crate) fn opened(alloc: Global, clock: Moment, pair: Pair) -> Result<Kept, F
     requires { clock ≤ MAX_MOMENT }
     ensures may_be { IfOk result (λ keep. IsConfig keep.machine.standing.config) }
     ensures number { IfOk result (λ keep. keep.machine.standing.config.number ≡ 1) }
-    ensures name { IfOk result (λ keep. keep.machine.standing.config.name ≡ 97 ∷ []) }
+    ensures name { IfOk result (λ keep. keep.machine.standing.config.name ≡ codes "a") }
 {
     let (first, second) = pair;
-    let config = config(alloc, true)?;
+    let config = config(alloc)?;
     match open(alloc, config, clock, first, second) {
         Ok(keep) => Ok(keep),
         Err(fault) => {

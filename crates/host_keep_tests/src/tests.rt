@@ -2,7 +2,7 @@
 ghost use Rattle.std.specs.Prelude.{◌≤◌, IfOk, length};
 ghost use Rattle.host_model.specs.Conditions.{IsConfig};
 
-use crate::given::{Kept, Pair, book, config, new_pair, opened};
+use crate::given::{Kept, Pair, bare_config, book, config, new_pair, opened};
 use host_model::reply::Reply;
 use machine_keep::fault::StepFault;
 use ps_disks::image::Image;
@@ -176,9 +176,9 @@ fn a_crash_in_an_opening_leaves_a_pair_that_opens(rt: HostRuntime) -> Result<(),
 // A configuration without a tool denies the next booking.
 fn is_configured(alloc: Global) -> Result<bool, Fail> {
     let mut keep = opened(alloc, 1_000, new_pair(alloc)?)?;
-    keep.configure(config(alloc, false)?);
+    keep.configure(bare_config(alloc)?);
     let denied = !is_booked(book(alloc, &mut keep, 1_001, 1_100));
-    keep.configure(config(alloc, true)?);
+    keep.configure(config(alloc)?);
     let booked = is_booked(book(alloc, &mut keep, 1_001, 1_100));
     Ok(denied && booked && stands(&keep).1 == 1)
 }
