@@ -1,0 +1,6 @@
+pub mod FitLemmas
+pub mod JoinLemmas
+pub mod LawfulLemmas
+pub mod LineLemmas
+pub mod TextLemmas
+pub mod Worked
