@@ -5,7 +5,7 @@ use Rattle.std.proofs.lemmas.List.Splits.{length-slice_split}
 use Rattle.std.proofs.lemmas.List.Sums.{count_by-le-length}
 use Rattle.std.proofs.Math.Seq.{drop-cons}
 use Rattle.psched_script.specs.Script.{line_of, lines_from, lines_of, with_line}
-use Rattle.psched_script.specs.declared.read.Content.{Content}
+use Rattle.psched_script.specs.declared.lines.Content.{Content}
 use Rattle.psched_script.specs.declared.script.Reason.{Reason}
 use Rattle.psched_script.specs.declared.script.Script.{Script}
 use Rattle.psched_script.specs.declared.script.ScriptFault.TheVariants.{Refused}

@@ -1,15 +1,10 @@
 -- The grammar, computed: lines after two declared hosts, and whole scripts.
 use Rattle.std.proofs.Common.{◌≡◌, ℕ, pos, negsuc, List, [], ◌∷◌, ◌++◌, Result, Ok, Err, refl}
 use Rattle.std.specs.Prelude.{codes}
-use Rattle.std.specs.Str.{is_utf8, chars}
-use lib.Utf8.{encode}
 use Rattle.ps_time.specs.declared.class.Class.TheVariants.{Normal, Exclusive}
 use Rattle.limit_apply.specs.Open.{open_config, open_text}
 use Rattle.limit_apply.proofs.OpenLemmas.{open_again}
-use Rattle.psched_script.specs.Kind.{kind_of}
-use Rattle.psched_script.specs.Line.{line_by_kind}
 use Rattle.psched_script.specs.Script.{line_of, script_of}
-use Rattle.psched_script.specs.Words.{priority_of, tools_of}
 use Rattle.psched_script.specs.declared.lines.Content.{Content}
 use Rattle.psched_script.specs.declared.lines.Content.TheVariants.{Nothing, NewHost, Event}
 use Rattle.psched_script.specs.declared.script.Reason.{Reason}
@@ -17,6 +12,7 @@ use Rattle.psched_script.specs.declared.script.Reason.TheVariants.{NotUtf8, Unkn
 use Rattle.psched_script.specs.declared.script.ScriptFault.TheVariants.{Refused}
 use Rattle.psched_script.specs.declared.script.ScriptHost.{ScriptHost}
 use Rattle.psched_script.specs.declared.script.ScriptLine.TheVariants.{Host, Tools, Limits, Book, Post, Get, Delete, Turn, Archive, Deliver, Repeat, Lose}
+use Rattle.psched_script.proofs.OnLiterals.{script_on_literals}
 
 abbrev declared : List ScriptHost
 declared = record { name = codes "a"; number = 1 } ∷ record { name = codes "deliver"; number = 2 } ∷ []
@@ -43,12 +39,12 @@ read_lines :
     × (says (codes "5 deliver 7") ≡ Ok (Event (Deliver 5 7)))
     × (says (codes "5 repeat 0") ≡ Ok (Event (Repeat 5 0)))
     × (says (codes "lose 9999999999") ≡ Ok (Event (Lose 9999999999)))
-unfolding line_of kind_of line_by_kind priority_of tools_of is_utf8 chars encode
+unfolding script_on_literals
 read_lines = (refl, refl, refl, refl, refl, refl, refl, refl, refl, refl, refl, refl, refl, refl, refl, refl, refl)
 
 -- the limits are the rest of the line
 read_limits : says (codes "limits a " ++ open_text) ≡ Ok (Event (Limits 0 open_config))
-unfolding line_of kind_of line_by_kind is_utf8 chars encode
+unfolding script_on_literals
 read_limits = rw open_again refl
 
 refused_lines :
@@ -77,16 +73,16 @@ refused_lines :
     × (says (codes "tools a ") ≡ Err BadTool)
     × (says (codes "tools a ping") ≡ Err BadTool)
     × (says (codes "tools a sleep,snooze,sleep") ≡ Err BadTool)
-unfolding line_of kind_of line_by_kind priority_of tools_of is_utf8 chars encode
+unfolding script_on_literals
 refused_lines = (refl, refl, refl, refl, refl, refl, refl, refl, refl, refl, refl, refl, refl, refl, refl, refl, refl, refl, refl, refl, refl, refl, refl, refl, refl)
 
 read_script : script_of (codes "# one\nhost a 1\n\n0 a turn\nlose 1") ≡ Ok (record {
   hosts = record { name = codes "a"; number = 1 } ∷ [];
   lines = record { number = 2; line = Host 0 } ∷ record { number = 4; line = Turn 0 0 } ∷ record { number = 5; line = Lose 1 } ∷ [];
 })
-unfolding line_of kind_of line_by_kind is_utf8 chars encode
+unfolding script_on_literals
 read_script = refl
 
 refused_script : script_of (codes "host a 1\n0 b book loud 0 100 10\nhost a 1\n") ≡ Err (Refused 2 NoSuchHost)
-unfolding line_of kind_of line_by_kind priority_of is_utf8 chars encode
+unfolding script_on_literals
 refused_script = refl
