@@ -1,0 +1,218 @@
+-- The move of each line, and its events: what each of them leaves of what is seen.
+use Rattle.std.specs.List.{list_all}
+use Rattle.std.specs.Prelude.{codes, set}
+use Rattle.std.proofs.Common.{◌≡◌, ◌≤◌, ◌<◌, ◌-◌, ℕ, suc, Bool, true, false, cond, List, [], ◌∷◌, ◌++◌, length, reverse, Option, Some, None, Result, Ok, Err, refl, sym, ap, ◌∙◌, subst, arith}
+use Rattle.ps_time.specs.Numbers.{greatest_moment}
+use Rattle.ps_http.specs.declared.message.Response.{Response}
+use Rattle.plugin_core.specs.ReadTest.{all_differ}
+use Rattle.task_spec.specs.ReadTask.{is_tool}
+use Rattle.host_model.specs.Conditions.{IsInput}
+use Rattle.host_model.specs.Orders.{orders}
+use Rattle.host_model.specs.Step.{step_reply}
+use Rattle.host_model.specs.declared.input.Input.{Input}
+use Rattle.host_model.specs.declared.input.Input.TheVariants as input
+use Rattle.host_model.specs.declared.lead.Due.{Due}
+use Rattle.host_model.specs.declared.reply.Reply.{Reply}
+use Rattle.psched_world.specs.Events.{MayRun, Right, answered, arrived, brings, delivered, goes_to, idle_stage, is_client, is_inner, reply_now, run, stepped}
+use Rattle.psched_world.specs.World.{Letter, Stage, World, aged, stages, start}
+use Rattle.psched_world.proofs.Stages.{aged_last}
+use Rattle.psched_world.proofs.Worlds.{stages_same}
+use Rattle.psched_script.specs.Lawful.{AreLawfulHosts, IsLawfulLine}
+use Rattle.psched_script.specs.declared.script.ScriptHost.{ScriptHost}
+use Rattle.psched_script.specs.declared.script.ScriptLine.{ScriptLine}
+use Rattle.psched_script.specs.declared.script.ScriptLine.TheVariants as line
+use Rattle.rehearsal_model.specs.After.{arrived_at, stages_after, stepped_at}
+use Rattle.rehearsal_model.specs.Hosts.{config_numbered, first_config, name_numbered}
+use Rattle.rehearsal_model.specs.Moves.{Move, asking, attempt, joining, moment_of_line, move_of, place_numbered, replied, replies, reply_to, sent_at, trying}
+use Rattle.rehearsal_model.specs.Reaching.{IsHost, MayMove, Reaches}
+use Rattle.rehearsal_model.specs.Rehearsal.{Show, events_of, number_at, retooled, seen}
+use Rattle.rehearsal_model.specs.Requests.{delete, get, post}
+use Rattle.rehearsal_model.specs.Seen.{Seen, acted, config_at, has_arrived, is_flying, reply_at, stage_at}
+use Rattle.rehearsal_model.proofs.AskLemmas.{asked_by_client}
+use Rattle.rehearsal_model.proofs.HostLemmas.{differ, host_at, number_is, right_with, stands}
+use Rattle.rehearsal_model.proofs.ListLemmas.{aged_is, all_aged}
+use Rattle.rehearsal_model.proofs.SeenLemmas.{present, pushed_at, stage_numbered, step_seen}
+use Rattle.rehearsal_model.proofs.TurnLemmas.{tells_may, turn_told, with_letters}
+use Rattle.rehearsal_model.proofs.WorldLemmas.{run_named}
+
+-- ---- moves of lines
+-- a move is about a host of the script, at a moment, and asks what may be asked there
+abbrev pub IsMove : List ScriptHost → Move → Type 0
+IsMove hosts Move.Rests = Unit {0}
+IsMove hosts (Move.Asks place clock i) = (place < length hosts) × (clock ≤ greatest_moment) × (is_client i ≡ true)
+IsMove hosts (Move.Tries place clock i) = (place < length hosts) × (clock ≤ greatest_moment) × (is_inner i ≡ true)
+IsMove hosts (Move.Turns place clock) = (place < length hosts) × (clock ≤ greatest_moment)
+IsMove hosts (Move.Retools place tools) = (place < length hosts) × (list_all is_tool tools ≡ true) × (all_differ tools ≡ true)
+IsMove hosts (Move.Arrives n clock) = clock ≤ greatest_moment
+IsMove hosts (Move.Lost n) = Unit {0}
+
+asking_is : (hosts : List ScriptHost) (place clock : ℕ) (r : Result Input Response) → place < length hosts → clock ≤ greatest_moment → ((i : Input) → r ≡ Ok i → is_client i ≡ true) → IsMove hosts (asking place clock r)
+asking_is hosts place clock (Ok i) within low client = (within, low, client i refl)
+asking_is hosts place clock (Err response) within low client = tt
+
+trying_is : (hosts : List ScriptHost) (place clock : ℕ) (o : Option Due) → place < length hosts → clock ≤ greatest_moment → IsMove hosts (trying place clock o)
+trying_is hosts place clock None within low = tt
+trying_is hosts place clock (Some d) within low = (within, low, refl)
+
+either_is : (hosts : List ScriptHost) (t : Bool) (move other : Move) → IsMove hosts move → IsMove hosts other → IsMove hosts (cond t move other)
+either_is hosts true move other is is_other = is
+either_is hosts false move other is is_other = is_other
+
+pub move_is : (hosts : List ScriptHost) (b : Seen) → b.last ≤ greatest_moment → (l : ScriptLine) → IsLawfulLine (length hosts) l → IsMove hosts (move_of b l)
+move_is hosts b low (line.Host place) is = tt
+move_is hosts b low (line.Tools host tools) is = is
+move_is hosts b low (line.Limits host limits) is = (is.0, low, refl)
+move_is hosts b low (line.Book at host class priority start len) is = (is.1, is.0, refl)
+move_is hosts b low (line.Post at host address body) is =
+    asking_is hosts host at (post (config_at b host) address body at) is.1 is.0 (asked_by_client (config_at b host) (codes "POST") (codes "/pscheduler/tasks") body address at)
+move_is hosts b low (line.Get at host path) is = asking_is hosts host at (get (config_at b host) path at) is.1 is.0 (asked_by_client (config_at b host) (codes "GET") path [] (codes "127.0.0.1") at)
+move_is hosts b low (line.Delete at host address path) is =
+    asking_is hosts host at (delete (config_at b host) address path at) is.1 is.0 (asked_by_client (config_at b host) (codes "DELETE") path [] address at)
+move_is hosts b low (line.Turn at host) is = (is.1, is.0)
+move_is hosts b low (line.Archive at host) is = trying_is hosts host at (attempt b host at) is.1 is.0
+move_is hosts b low (line.Deliver at n) is = either_is hosts (is_flying b n) (Move.Arrives n at) Move.Rests is tt
+move_is hosts b low (line.Repeat at n) is = either_is hosts (has_arrived b n) (Move.Arrives n at) Move.Rests is tt
+move_is hosts b low (line.Lose n) is = either_is hosts (is_flying b n) (Move.Lost n) Move.Rests tt tt
+
+-- no line is later than the last moment
+pub moment_within : (hosts : ℕ) (l : ScriptLine) → IsLawfulLine hosts l → moment_of_line l ≤ greatest_moment
+moment_within hosts (line.Host place) is = omega arith
+moment_within hosts (line.Tools host tools) is = omega arith
+moment_within hosts (line.Limits host limits) is = omega arith
+moment_within hosts (line.Book at host class priority start len) is = is.0
+moment_within hosts (line.Post at host address body) is = is.0
+moment_within hosts (line.Get at host path) is = is.0
+moment_within hosts (line.Delete at host address path) is = is.0
+moment_within hosts (line.Turn at host) is = is.0
+moment_within hosts (line.Archive at host) is = is.0
+moment_within hosts (line.Deliver at n) is = is
+moment_within hosts (line.Repeat at n) is = is
+moment_within hosts (line.Lose n) is = omega arith
+
+-- ---- what the events of a move leave
+pub goes_known : (hosts : List ScriptHost) (l : Letter) → IsHost hosts l.asker → IsHost hosts l.asked → (r : Option Reply) → IsHost hosts (goes_to l r)
+goes_known hosts l asker asked None = asked
+goes_known hosts l asker asked (Some said) = asker
+
+module _ (hosts : List ScriptHost) (lawful : AreLawfulHosts hosts) (s : Show) (reach : Reaches hosts s) where
+  abbrev w : World
+  w = s.world
+
+  abbrev b : Seen
+  b = seen hosts s
+
+  abbrev Known : Letter → Type 0
+  Known l = IsHost hosts l.asker × IsHost hosts l.asked
+
+  pub known : (j : ℕ) (l : Letter) → aged w.letters j ≡ Some l → Known l
+  known j l e = (all_aged (λ (x : Letter). IsHost hosts x.asker) w.letters j l reach.askers e, all_aged (λ (x : Letter). IsHost hosts x.asked) w.letters j l reach.asked e)
+
+  -- ---- the host at a place
+  module _ (place : ℕ) (within : place < length hosts) where
+    abbrev h : ScriptHost
+    h = (host_at hosts place within).0
+
+    abbrev n : ℕ
+    n = number_at hosts place
+
+    number : h.number ≡ n
+    number = sym (number_is hosts place h (host_at hosts place within).1)
+
+    stage_here : stage_at b place ≡ (w.hosts n).now
+    stage_here = stage_numbered hosts (differ hosts lawful) w place h (host_at hosts place within).1 n number
+
+    step_here : (clock : ℕ) (i : Input) → present hosts (stepped w n clock i) ≡ stepped_at b place clock i
+    step_here clock i = step_seen hosts (differ hosts lawful) w place h (host_at hosts place within).1 n number clock i
+
+    asked_stages : (clock : ℕ) (i : Input) → is_client i ≡ true → present hosts (cond (is_client i) (answered w n clock i) w) ≡ stepped_at b place clock i
+    asked_stages clock i client = ap (λ t. present hosts (cond t (answered w n clock i) w)) client ∙ step_here clock i
+
+    asked_letters : (clock : ℕ) (i : Input) → is_client i ≡ true → (cond (is_client i) (answered w n clock i) w).letters ≡ w.letters
+    asked_letters clock i client = ap (λ t. (cond t (answered w n clock i) w).letters) client
+
+    tried_stages : (clock : ℕ) (i : Input) → is_inner i ≡ true → present hosts (cond (is_inner i) (stepped w n clock i) w) ≡ stepped_at b place clock i
+    tried_stages clock i inner = ap (λ t. present hosts (cond t (stepped w n clock i) w)) inner ∙ step_here clock i
+
+    tried_letters : (clock : ℕ) (i : Input) → is_inner i ≡ true → (cond (is_inner i) (stepped w n clock i) w).letters ≡ w.letters
+    tried_letters clock i inner = ap (λ t. (cond t (stepped w n clock i) w).letters) inner
+
+    pub bounds_here : (i : Input) → IsInput (config_at b place) i → IsInput (w.hosts n).now.config i
+    bounds_here i is = subst (λ x. IsInput x.config i) stage_here is
+
+    -- ---- a turn
+    module _ (clock : ℕ) where
+      abbrev turned_stage : Stage
+      turned_stage = acted (stage_at b place) clock input.Turn
+
+      turned_there : aged (stages (stepped w n clock input.Turn) n) (suc (length (w.hosts n).before)) ≡ Some turned_stage
+      turned_there =
+          let new : Stage = acted (w.hosts n).now clock input.Turn in
+          subst (λ xs. aged xs (length (stages w n)) ≡ Some new) (sym (stages_same w n new)) (aged_last new (stages w n)) ∙ ap (λ x. Some (acted x clock input.Turn)) (sym stage_here)
+
+      turned : run (events_of hosts s (Move.Turns place clock)) w ≡ with_letters (stepped w n clock input.Turn) (reverse (sent_at b place clock) ++ w.letters)
+      turned = turn_told b (stepped w n clock input.Turn) n (suc (length (w.hosts n).before)) clock turned_stage turned_there (ap (λ c. c.number) (reach.configs place h (host_at hosts place within).1).1 ∙ number)
+
+    -- ---- other tools
+    retooled_stages : (tools : List (List ℕ)) → present hosts (run (events_of hosts s (Move.Retools place tools)) w) ≡ stages_after hosts b (Move.Retools place tools)
+    retooled_stages tools =
+        pushed_at hosts (differ hosts lawful) w place h (host_at hosts place within).1 n number (idle_stage w n (retooled tools (config_at b place)))
+        ∙ ap (λ x. set b.stages place (record { config = retooled tools (config_at b place); book = x.book })) (sym stage_here)
+
+    retooled_right : (tools : List (List ℕ)) → list_all is_tool tools ≡ true → all_differ tools ≡ true → Right w.names n (retooled tools (config_at b place))
+    retooled_right tools known different =
+        let names : w.names ≡ name_numbered hosts = ap (λ v. v.names) reach.world ∙ run_named reach.events (start (name_numbered hosts) (config_numbered hosts)) in
+        let first : retooled tools (config_at b place) ≡ retooled tools (first_config hosts h) = ap (retooled tools) (reach.configs place h (host_at hosts place within).1).1 in
+        subst (λ ns. Right ns n (retooled tools (config_at b place))) (sym names) (subst (λ k. Right (name_numbered hosts) k (retooled tools (config_at b place))) number (subst (λ c. Right (name_numbered hosts) h.number c) (sym first) (right_with hosts lawful place h (host_at hosts place within).1 tools known different)))
+
+  -- ---- a message that arrives
+  module _ (clock : ℕ) (l : Letter) where
+    arrived_stages : (r : Option Reply) → IsHost hosts (goes_to l r) → present hosts (arrived w clock l r) ≡ stepped_at b (place_numbered hosts (goes_to l r)) clock (brings l r)
+    arrived_stages None is = let x = stands hosts l.asked is in step_seen hosts (differ hosts lawful) w (place_numbered hosts l.asked) x.0 x.1 l.asked x.2 clock (brings l None)
+    arrived_stages (Some said) is = let x = stands hosts l.asker is in step_seen hosts (differ hosts lawful) w (place_numbered hosts l.asker) x.0 x.1 l.asker x.2 clock (brings l (Some said))
+
+    arrived_letters : (r : Option Reply) → l.reply ≡ r → IsHost hosts (goes_to l r) → (arrived w clock l r).letters ≡ reverse (replied hosts b clock l r) ++ w.letters
+    arrived_letters None e is =
+        let x = stands hosts l.asked is in
+        let stage : stage_at b (place_numbered hosts l.asked) ≡ (w.hosts l.asked).now = stage_numbered hosts (differ hosts lawful) w (place_numbered hosts l.asked) x.0 x.1 l.asked x.2 in
+        let same : reply_now w l.asked clock (brings l None) ≡ reply_to hosts b clock l =
+        ap (λ y. step_reply y.config y.book clock (brings l None)) (sym stage) ∙ ap (λ y. reply_at b (place_numbered hosts (goes_to l y)) clock (brings l y)) (sym e) in
+        ap (λ said. record l { reply = Some said } ∷ w.letters) same
+    arrived_letters (Some said) e is = refl
+
+  delivered_stages : (clock : ℕ) (o : Option Letter) → ((l : Letter) → o ≡ Some l → Known l) → present hosts (delivered w clock o) ≡ arrived_at hosts b clock o
+  delivered_stages clock None each = refl
+  delivered_stages clock (Some l) each = arrived_stages clock l l.reply (goes_known hosts l (each l refl).0 (each l refl).1 l.reply)
+
+  delivered_letters : (clock : ℕ) (o : Option Letter) → ((l : Letter) → o ≡ Some l → Known l) → (delivered w clock o).letters ≡ reverse (replies hosts b clock o) ++ w.letters
+  delivered_letters clock None each = refl
+  delivered_letters clock (Some l) each = arrived_letters clock l l.reply refl (goes_known hosts l (each l refl).0 (each l refl).1 l.reply)
+
+  -- ---- every move
+  pub stages_moved : (move : Move) → IsMove hosts move → present hosts (run (events_of hosts s move) w) ≡ stages_after hosts b move
+  stages_moved Move.Rests is = refl
+  stages_moved (Move.Asks place clock i) is = asked_stages place is.0 clock i is.2
+  stages_moved (Move.Tries place clock i) is = tried_stages place is.0 clock i is.2
+  stages_moved (Move.Turns place clock) is = ap (present hosts) (turned place is.0 clock) ∙ step_here place is.0 clock input.Turn
+  stages_moved (Move.Retools place tools) is = retooled_stages place is.0 tools
+  stages_moved (Move.Arrives n clock) is = delivered_stages clock (aged w.letters (n - 1)) (known (n - 1)) ∙ ap (arrived_at hosts b clock) (sym (aged_is w.letters (n - 1)))
+  stages_moved (Move.Lost n) is = refl
+
+  pub letters_moved : (move : Move) → IsMove hosts move → (run (events_of hosts s move) w).letters ≡ reverse (joining hosts b move) ++ w.letters
+  letters_moved Move.Rests is = refl
+  letters_moved (Move.Asks place clock i) is = asked_letters place is.0 clock i is.2
+  letters_moved (Move.Tries place clock i) is = tried_letters place is.0 clock i is.2
+  letters_moved (Move.Turns place clock) is = ap (λ v. v.letters) (turned place is.0 clock)
+  letters_moved (Move.Retools place tools) is = refl
+  letters_moved (Move.Arrives n clock) is = delivered_letters clock (aged w.letters (n - 1)) (known (n - 1)) ∙ ap (λ o. reverse (replies hosts b clock o) ++ w.letters) (sym (aged_is w.letters (n - 1)))
+  letters_moved (Move.Lost n) is = refl
+
+  -- its events may happen
+  pub may_moved : (move : Move) → IsMove hosts move → MayMove b move → MayRun w (events_of hosts s move)
+  may_moved Move.Rests is may = tt
+  may_moved (Move.Asks place clock i) is may = ((is.1, bounds_here place is.0 i may), tt)
+  may_moved (Move.Tries place clock i) is may = ((is.1, bounds_here place is.0 i may), tt)
+  may_moved (Move.Turns place clock) is may =
+      ((is.1, tt), tells_may b (number_at hosts place) (suc (length (w.hosts (number_at hosts place)).before)) clock is.1 (orders (acted (stage_at b place) clock input.Turn).book clock) 0 (stepped w (number_at hosts place) clock input.Turn))
+  may_moved (Move.Retools place tools) is may = (retooled_right place is.0 tools is.1 is.2, tt)
+  may_moved (Move.Arrives n clock) is may = (is, tt)
+  may_moved (Move.Lost n) is may = (tt, tt)

@@ -1,0 +1,53 @@
+-- What is seen after a line, over what was seen before it.
+use Rattle.std.specs.Prelude.{◌++◌, List, [], ◌∷◌, None, Option, Some, map, max, set, ℕ}
+use Rattle.host_model.specs.Book.{empty_book}
+use Rattle.host_model.specs.declared.input.Input.{Input}
+use Rattle.host_model.specs.declared.input.Input.TheVariants as input
+use Rattle.psched_world.specs.Events.{brings}
+use Rattle.psched_world.specs.World.{Letter, Stage}
+use Rattle.psched_script.specs.declared.script.Numbered.{Numbered}
+use Rattle.psched_script.specs.declared.script.ScriptHost.{ScriptHost}
+use Rattle.psched_script.specs.declared.script.ScriptLine.{ScriptLine}
+use Rattle.rehearsal_model.specs.Hosts.{first_config}
+use Rattle.rehearsal_model.specs.Moves.{Move, flying_after, joining, moment_of_line, move_of, receiver}
+use Rattle.rehearsal_model.specs.Rehearsal.{retooled}
+use Rattle.rehearsal_model.specs.Seen.{Seen, acted, book_at, config_at, message, stage_at}
+
+-- a host after it was opened
+abbrev pub opened_stage : List ScriptHost → ScriptHost → Stage
+opened_stage hosts h = acted (record { config = first_config hosts h; book = empty_book }) 0 input.Open
+
+abbrev pub first_seen : List ScriptHost → Seen
+first_seen hosts = record { stages = map (opened_stage hosts) hosts; letters = []; flying = []; last = 0 }
+
+-- the stages after a step of the host at the place
+abbrev pub stepped_at : Seen → ℕ → ℕ → Input → List Stage
+stepped_at b place clock i = set b.stages place (acted (stage_at b place) clock i)
+
+abbrev pub arrived_at : List ScriptHost → Seen → ℕ → Option Letter → List Stage
+arrived_at hosts b clock None = b.stages
+arrived_at hosts b clock (Some l) = stepped_at b (receiver hosts l) clock (brings l l.reply)
+
+abbrev pub stages_after : List ScriptHost → Seen → Move → List Stage
+stages_after hosts b Move.Rests = b.stages
+stages_after hosts b (Move.Asks place clock i) = stepped_at b place clock i
+stages_after hosts b (Move.Tries place clock i) = stepped_at b place clock i
+stages_after hosts b (Move.Turns place clock) = stepped_at b place clock input.Turn
+stages_after hosts b (Move.Retools place tools) = set b.stages place (record { config = retooled tools (config_at b place); book = book_at b place })
+stages_after hosts b (Move.Arrives n clock) = arrived_at hosts b clock (message b n)
+stages_after hosts b (Move.Lost n) = b.stages
+
+abbrev pub moved_seen : List ScriptHost → Seen → ScriptLine → Move → Seen
+moved_seen hosts b l move = record {
+  stages = stages_after hosts b move;
+  letters = b.letters ++ joining hosts b move;
+  flying = flying_after hosts b move;
+  last = max b.last (moment_of_line l);
+}
+
+abbrev pub seen_after : List ScriptHost → Seen → ScriptLine → Seen
+seen_after hosts b l = moved_seen hosts b l (move_of b l)
+
+abbrev pub seen_after_all : List ScriptHost → Seen → List Numbered → Seen
+seen_after_all hosts b [] = b
+seen_after_all hosts b (l ∷ ls) = seen_after_all hosts (seen_after hosts b l.line) ls

@@ -1,0 +1,174 @@
+-- What each line of a script does in a world.
+use Rattle.std.specs.Prelude.{◌&&◌, ◌+◌, ◌==◌, ◌∷◌, ◌++◌, Bool, Err, List, None, Ok, Option, Result, Some, [], codes, false, filter, filter_map, if◌then◌else◌, length, not, option_and_then, option_map, slice_get, true, unwrap_or, ℕ}
+use Rattle.std.specs.List.{list_any, position_or_len}
+use Rattle.std.specs.Str.{bytes_eq}
+use Rattle.ps_time.specs.declared.key.RunKey.{RunKey}
+use Rattle.ps_doors.specs.declared.archiver.Tried.{Tried}
+use Rattle.ps_doors.specs.declared.archiver.Tried.TheVariants.{Failed, Succeeded}
+use Rattle.archivers.specs.Outcome.{failer_outcome}
+use Rattle.ps_http.specs.declared.message.Response.{Response}
+use Rattle.host_model.specs.Archives.{attempt_of, due}
+use Rattle.host_model.specs.Orders.{orders}
+use Rattle.host_model.specs.declared.config.Config.{Config}
+use Rattle.host_model.specs.declared.input.Input.{Input}
+use Rattle.host_model.specs.declared.input.Input.TheVariants as input
+use Rattle.host_model.specs.declared.lead.Due.{Due}
+use Rattle.host_model.specs.declared.order.Order.{Order}
+use Rattle.host_model.specs.declared.order.OrderBody.{OrderBody}
+use Rattle.host_model.specs.declared.order.OrderBody.TheVariants as order
+use Rattle.host_model.specs.declared.reply.Reply.{Reply}
+use Rattle.psched_world.specs.Events.{brings, goes_to}
+use Rattle.psched_world.specs.World.{Letter, Stage, number_of}
+use Rattle.psched_script.specs.Told.{moment_told}
+use Rattle.psched_script.specs.declared.script.ScriptHost.{ScriptHost}
+use Rattle.psched_script.specs.declared.script.ScriptLine.{ScriptLine}
+use Rattle.psched_script.specs.declared.script.ScriptLine.TheVariants as line
+use Rattle.rehearsal_model.specs.Requests.{delete, get, post}
+use Rattle.rehearsal_model.specs.Seen.{Seen, acted, book_at, config_at, has_arrived, is_flying, landed, message, reply_at, stage_at}
+
+-- a host is told by its place among the script's hosts, a message by its number
+pub data Move : Type 0 where
+  -- nothing happens
+  Rests : Move
+  -- somebody asks a host
+  Asks : (place clock : ℕ) (asked : Input) → Move
+  -- an archiver was tried
+  Tries : (place clock : ℕ) (outcome : Input) → Move
+  -- a host does what is due, and then says what it has to say
+  Turns : (place clock : ℕ) → Move
+  -- a host gets other tools
+  Retools : (place : ℕ) (tools : List (List ℕ)) → Move
+  Arrives : (number clock : ℕ) → Move
+  Lost : (number : ℕ) → Move
+
+-- ---- requests
+-- one that is refused as it is read asks nothing
+abbrev pub asking : ℕ → ℕ → Result Input Response → Move
+asking place clock (Ok i) = Asks place clock i
+asking place clock (Err response) = Rests
+
+-- ---- archives
+-- what the archiver of a name makes of an attempt; the two that need nothing but themselves are there
+abbrev pub archived : List ℕ → List ℕ → ℕ → Tried
+archived archiver settings tried =
+    if bytes_eq archiver (codes "bitbucket") then Succeeded
+    else if bytes_eq archiver (codes "failer") then failer_outcome settings tried
+    else Failed (codes "no such archiver") None
+
+abbrev pub is_good : Tried → Bool
+is_good Succeeded = true
+is_good _ = false
+
+abbrev pub retry_of : Tried → Option ℕ
+retry_of (Failed error retry) = retry
+retry_of _ = None
+
+abbrev pub tried_as : Due → Tried → Input
+tried_as d t = input.Tried d.key d.index (is_good t) (retry_of t)
+
+-- the first archive that is due is tried
+abbrev pub attempt : Seen → ℕ → ℕ → Option Due
+attempt b place clock = option_and_then (λ pair. attempt_of (book_at b place) pair.0 pair.1) (slice_get (due (book_at b place) clock) 0)
+
+abbrev pub trying : ℕ → ℕ → Option Due → Move
+trying place clock None = Rests
+trying place clock (Some d) = Tries place clock (tried_as d (archived d.archiver d.settings d.tried))
+
+-- ---- lines
+abbrev pub move_of : Seen → ScriptLine → Move
+move_of b (line.Host place) = Rests
+move_of b (line.Tools host tools) = Retools host tools
+move_of b (line.Limits host limits) = Asks host b.last (input.Limits limits)
+move_of b (line.Book at host class priority start len) = Asks host at (input.Book class priority start len)
+move_of b (line.Post at host address body) = asking host at (post (config_at b host) address body at)
+move_of b (line.Get at host path) = asking host at (get (config_at b host) path at)
+move_of b (line.Delete at host address path) = asking host at (delete (config_at b host) address path at)
+move_of b (line.Turn at host) = Turns host at
+move_of b (line.Archive at host) = trying host at (attempt b host at)
+move_of b (line.Deliver at n) = if is_flying b n then Arrives n at else Rests
+move_of b (line.Repeat at n) = if has_arrived b n then Arrives n at else Rests
+move_of b (line.Lose n) = if is_flying b n then Lost n else Rests
+
+-- ---- what a turn sends
+abbrev pub same_key : RunKey → RunKey → Bool
+same_key k j = (k.lead == j.lead) && ((k.task == j.task) && ((k.number == j.number) && (k.attempt == j.attempt)))
+
+abbrev pub same_kind : OrderBody → OrderBody → Bool
+same_kind (order.Free q) (order.Free r) = true
+same_kind (order.Propose p) (order.Propose q) = true
+same_kind order.Confirm order.Confirm = true
+same_kind order.Cancel order.Cancel = true
+same_kind (order.Material s) (order.Material t) = true
+same_kind order.Result order.Result = true
+same_kind _ _ = false
+
+-- the letter is this order, or the reply to it
+abbrev pub is_of : Order → Letter → Bool
+is_of o l = same_key o.key l.order.key && ((o.place == l.order.place) && same_kind o.body l.order.body)
+
+-- a message of this number is of the order
+abbrev pub tells : Order → Option Letter → Bool
+tells o None = false
+tells o (Some l) = is_of o l
+
+-- neither the order nor the reply to it is in flight
+abbrev pub is_untold : Seen → Order → Bool
+is_untold b o = not (list_any (λ n. tells o (message b n)) b.flying)
+
+-- the letter by which a host with this configuration sends the order; none where it knows no such peer
+abbrev pub letter_of : Config → Order → Option Letter
+letter_of c o = option_map (λ asked. record { asker = c.number; asked = asked; order = o; reply = None }) (number_of c.peers o.to)
+
+-- what the host in this stage sends at a clock, where these messages are in flight
+abbrev pub sent_by : Seen → Stage → ℕ → List Letter
+sent_by b s clock = filter_map (letter_of s.config) (filter (is_untold b) (orders s.book clock))
+
+-- what the host at the place sends after its turn
+abbrev pub sent_at : Seen → ℕ → ℕ → List Letter
+sent_at b place clock = sent_by b (acted (stage_at b place) clock input.Turn) clock
+
+-- the numbers of so many messages more
+abbrev pub numbers_from : ℕ → List Letter → List ℕ
+numbers_from n [] = []
+numbers_from n (l ∷ ls) = n ∷ numbers_from (n + 1) ls
+
+-- ---- what the host of a number is asked by a letter
+-- the place of the host that has the number
+abbrev pub place_numbered : List ScriptHost → ℕ → ℕ
+place_numbered hosts number = position_or_len (λ h. h.number == number) hosts
+
+abbrev pub receiver : List ScriptHost → Letter → ℕ
+receiver hosts l = place_numbered hosts (goes_to l l.reply)
+
+-- the reply to an order that arrives
+abbrev pub reply_to : List ScriptHost → Seen → ℕ → Letter → Reply
+reply_to hosts b clock l = reply_at b (receiver hosts l) clock (brings l l.reply)
+
+-- an order is replied to, a reply isn't
+abbrev pub replied : List ScriptHost → Seen → ℕ → Letter → Option Reply → List Letter
+replied hosts b clock l None = record l { reply = Some (reply_to hosts b clock l) } ∷ []
+replied hosts b clock l (Some said) = []
+
+abbrev pub replies : List ScriptHost → Seen → ℕ → Option Letter → List Letter
+replies hosts b clock None = []
+replies hosts b clock (Some l) = replied hosts b clock l l.reply
+
+-- the letters that join by a move
+abbrev pub joining : List ScriptHost → Seen → Move → List Letter
+joining hosts b (Turns place clock) = sent_at b place clock
+joining hosts b (Arrives n clock) = replies hosts b clock (message b n)
+joining hosts b _ = []
+
+-- ---- what is in flight afterwards
+abbrev pub still_flying : Seen → Move → List ℕ
+still_flying b (Arrives n clock) = landed n b.flying
+still_flying b (Lost n) = landed n b.flying
+still_flying b _ = b.flying
+
+abbrev pub flying_after : List ScriptHost → Seen → Move → List ℕ
+flying_after hosts b move = still_flying b move ++ numbers_from (length b.letters + 1) (joining hosts b move)
+
+-- ---- the moment of a line
+-- 0 where it tells none
+abbrev pub moment_of_line : ScriptLine → ℕ
+moment_of_line l = unwrap_or (moment_told l) 0

@@ -1,0 +1,58 @@
+-- What is seen of a world by a script: the present stage of each of its hosts, the messages, and which of these are in flight.
+use Rattle.std.specs.Prelude.{◌-◌, ◌==◌, ◌&&◌, List, [], Bool, Option, filter, length, nat_le, not, slice_get, slice_index_or, ℕ}
+use Rattle.std.specs.List.{list_any}
+use Rattle.host_model.specs.Book.{Book, empty_book}
+use Rattle.host_model.specs.Step.{step_book, step_reply}
+use Rattle.host_model.specs.declared.config.Config.{Config}
+use Rattle.host_model.specs.declared.input.Input.{Input}
+use Rattle.host_model.specs.declared.reply.Reply.{Reply}
+use Rattle.psched_world.specs.World.{Letter, Stage}
+use Rattle.rehearsal_model.specs.Hosts.{opened_host, stranger}
+
+pub record Seen : Type 0 where
+  -- of the script's hosts, in the order of their declaration
+  pub stages : List Stage
+  -- in the order in which they were sent; messages are numbered from 1
+  pub letters : List Letter
+  -- the numbers of those in flight, ascending
+  pub flying : List ℕ
+  -- the greatest moment of the lines so far; 0 at first
+  pub last : ℕ
+
+-- a place without a host is read as one that never acts
+abbrev pub nobody : Stage
+nobody = record { config = opened_host (stranger 0) []; book = empty_book }
+
+abbrev pub stage_at : Seen → ℕ → Stage
+stage_at b place = slice_index_or b.stages place nobody
+
+abbrev pub config_at : Seen → ℕ → Config
+config_at b place = (stage_at b place).config
+
+abbrev pub book_at : Seen → ℕ → Book
+book_at b place = (stage_at b place).book
+
+-- what the host at the place answers
+abbrev pub reply_at : Seen → ℕ → ℕ → Input → Reply
+reply_at b place clock i = step_reply (config_at b place) (book_at b place) clock i
+
+-- the stage after a step
+abbrev pub acted : Stage → ℕ → Input → Stage
+acted s clock i = record { config = s.config; book = step_book s.config s.book clock i }
+
+-- the message of a number
+abbrev pub message : Seen → ℕ → Option Letter
+message b n = slice_get b.letters (n - 1)
+
+abbrev pub is_sent : Seen → ℕ → Bool
+is_sent b n = nat_le 1 n && nat_le n (length b.letters)
+
+abbrev pub is_flying : Seen → ℕ → Bool
+is_flying b n = list_any (λ f. f == n) b.flying
+
+-- it was sent, and is no longer in flight
+abbrev pub has_arrived : Seen → ℕ → Bool
+has_arrived b n = is_sent b n && not (is_flying b n)
+
+abbrev pub landed : ℕ → List ℕ → List ℕ
+landed n flying = filter (λ f. not (f == n)) flying

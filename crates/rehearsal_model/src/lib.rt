@@ -1,0 +1,4 @@
+//! What a rehearsal of a script is: its world, and its report.
+#![tactic(auto)]
+
+pub mod law;
