@@ -1,0 +1,12 @@
+use Rattle.std.proofs.Common.{◌≡◌, ◌++◌}
+use Rattle.std.specs.Vec.Iter.{into_iter_items}
+use Rattle.rehearsal_state.specs.Moved.{sent_of}
+use Rattle.rehearsal_state.proofs.turn.letters_of.Given as goal
+
+-- those of the orders that are left are still to come
+abbrev pub invariant-loop-order : goal.invariant-loop-order
+invariant-loop-order l = record {
+  can_next : (goal.iterator-loop-order).can_next l.order-iterator;
+  is_finite : (goal.iterator-loop-order).is_finite l.order-iterator;
+  sent : sent_of l.now l.config l.fn.orders ≡ l.letters.items ++ sent_of l.now l.config (into_iter_items l.order-iterator);
+}

@@ -1,0 +1,194 @@
+//! How far a rehearsal has come: its hosts, and the messages between them.
+ghost use Rattle.std.specs.List.{list_any};
+ghost use Rattle.std.specs.Prelude.{◌∷◌, ◌==◌, ◌≡◌, ◌<◌, [], IfOk, OnOk, Some, length, max, true};
+ghost use Rattle.host_model.specs.Conditions.{IsInput};
+ghost use Rattle.rehearsal_model.specs.Seen.{config_at, has_arrived, is_flying, is_sent, landed, message, reply_at, stage_at};
+ghost use Rattle.rehearsal_state.specs.Moved.{with_letters, with_step, with_tools};
+ghost use Rattle.rehearsal_state.specs.Ready.{IsReady};
+
+use crate::message::Message;
+use crate::seat::Seat;
+use host_model::input::Input;
+use host_model::reply::Reply;
+use ps_time::items::Items;
+use ps_time::memory::Memory;
+use ps_time::moment::Moment;
+use ps_time::text::Text;
+use std::alloc::Global;
+use std::marker::Model;
+
+/// The hosts of a script as they stand, in the order of their declaration, and all messages that they sent, in that
+/// order. Messages are numbered from 1.
+pub struct Rehearsal {
+    seats: Vec<Seat>,
+    messages: Vec<Message>,
+    // the numbers of those in flight, ascending
+    flying: Vec<u64>,
+    // the greatest moment of the lines so far
+    last: Moment,
+}
+
+impl Model for Rehearsal {
+    ghost use Rattle.rehearsal_model.specs.Seen.{Seen};
+
+    ghost Value = { Seen };
+
+    ghost view = { λ r. record { stages = r.seats.items; letters = r.messages.items; flying = r.flying.items; last = r.last } };
+}
+
+// Written out, so that a drop elsewhere is one call.
+impl Drop for Rehearsal {
+    fn drop(self) {
+        let Rehearsal {
+            seats: _,
+            messages: _,
+            flying: _,
+            last: _,
+        } = self;
+    }
+}
+
+impl Rehearsal {
+    /// These hosts, before the first line.
+    pub fn new(alloc: Global, seats: Vec<Seat>) -> Rehearsal
+        ensures { result ≡ record { stages = seats.items; letters = []; flying = []; last = 0 } }
+    {
+        Rehearsal {
+            seats,
+            messages: Vec::new(alloc),
+            flying: Vec::new(alloc),
+            last: 0,
+        }
+    }
+
+    pub fn seats(&self) -> &[Seat]
+        ensures { result.now ≡ self.now.stages }
+    {
+        self.seats.as_slice()
+    }
+
+    pub fn messages(&self) -> &[Message]
+        ensures { result.now ≡ self.now.letters }
+    {
+        self.messages.as_slice()
+    }
+
+    pub fn flying(&self) -> &[u64]
+        ensures { result.now ≡ self.now.flying }
+    {
+        self.flying.as_slice()
+    }
+
+    /// The greatest moment of the lines so far, in seconds since 1970 UTC; 0 at first.
+    pub fn last(&self) -> Moment
+        ensures { result ≡ self.now.last }
+    {
+        self.last
+    }
+
+    /// A line of this moment has been run.
+    pub fn advance(&mut self, moment: Moment)
+        ensures { self.new ≡ record self.old { last = max self.old.last moment } }
+    {
+        self.last = self.last.max(moment);
+    }
+
+    /// The host at a place.
+    pub fn seat(&self, place: usize) -> &Seat
+        requires { place < length self.now.stages }
+        ensures { result.now ≡ stage_at self.now place }
+    {
+        &self.seats[place]
+    }
+
+    /// A step of the host at a place, at a clock in seconds since 1970 UTC.
+    pub fn ask(
+        &mut self,
+        alloc: Global,
+        place: usize,
+        clock: Moment,
+        input: Input,
+    ) -> Result<Reply, Memory>
+        requires ready { IsReady self.old place clock }
+        requires input { IsInput (config_at self.old place) input }
+        ensures reply { IfOk result (λ reply. reply ≡ reply_at self.old place clock input) }
+        ensures seen { OnOk result (self.new ≡ with_step self.old place clock input) }
+    {
+        let seat = &mut self.seats[place];
+        seat.act(alloc, clock, input)
+    }
+
+    /// Gives the host at a place other tools.
+    pub fn retool(&mut self, place: usize, tools: Items<Text>)
+        requires { place < length self.old.stages }
+        ensures { self.new ≡ with_tools self.old place tools }
+    {
+        let seat = &mut self.seats[place];
+        seat.retool(tools);
+    }
+
+    pub fn is_flying(&self, number: u64) -> bool
+        ensures { result ≡ is_flying self.now number }
+    {
+        is_among(self.flying.as_slice(), number)
+    }
+
+    /// Whether the message of this number was sent, and is no longer in flight.
+    pub fn has_arrived(&self, number: u64) -> bool
+        ensures { result ≡ has_arrived self.now number }
+    {
+        let is_sent = 1 <= number && number <= self.messages.len() as u64;
+        is_sent && !self.is_flying(number)
+    }
+
+    /// The message of a number.
+    pub fn message(&self, number: u64) -> &Message
+        requires { is_sent self.now number ≡ true }
+        ensures { message self.now number ≡ Some result.now }
+    {
+        &self.messages[(number - 1) as usize]
+    }
+
+    /// The message of this number is no longer in flight.
+    pub fn land(&mut self, number: u64)
+        ensures { self.new ≡ record self.old { flying = landed number self.old.flying } }
+    {
+        take_out(&mut self.flying, number);
+    }
+
+    /// Sends a message.
+    pub fn send(&mut self, message: Message) -> Result<(), Memory>
+        ensures { OnOk result (self.new ≡ with_letters self.old (message ∷ [])) }
+    {
+        self.messages.push(message)?;
+        self.flying.push(self.messages.len() as u64)?;
+        Ok(())
+    }
+
+    /// Sends messages, the first one first.
+    pub fn send_all(&mut self, messages: Vec<Message>) -> Result<(), Memory>
+        ensures { OnOk result (self.new ≡ with_letters self.old messages.items) }
+    {
+        for message in messages {
+            self.send(message)?;
+        }
+        Ok(())
+    }
+}
+
+fn is_among(numbers: &[u64], number: u64) -> bool
+    ensures { result ≡ list_any (λ n. n == number) numbers.now }
+{
+    for other in numbers {
+        if *other == number {
+            return true;
+        }
+    }
+    false
+}
+
+fn take_out(numbers: &mut Vec<u64>, number: u64)
+    ensures { numbers.new.items ≡ landed number numbers.old.items }
+{
+    numbers.retain(|other| *other != number);
+}
