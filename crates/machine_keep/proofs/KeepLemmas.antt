@@ -214,3 +214,12 @@ pub around : {S C R T : Type 0} (stands : List (List ℕ) → S → Type 0) (ans
     → StandsFor stands s from → answers s call reply decided → (pair : Result Counted DiskPlace) → (pair ≡ from) ⊎ ((step : T) × ((decided ≡ Some step) × IsMade stands from (after s step) pair)) → StandsAround stands answers after s call pair
 around stands answers after s call reply decided from stood answered pair (inl is) = inl (subst (StandsFor stands s) (sym is) stood)
 around stands answers after s call reply decided from stood answered pair (inr made) = inr (reply, (made.0, (subst (answers s call reply) made.1.0 answered, made.1.1.0)))
+
+-- what a step adds, as one that was decided
+pub adds_decided : {D S T : Type 0} (moment : D → ℕ) (left_since : D → ℕ → List ℕ → Type 0) (stands : List (List ℕ) → S → Type 0) (after : T → S) (old new : State D) (from : Result Counted DiskPlace) (decided : Option T) (step : T) → decided ≡ Some step
+    → Adds moment left_since old new (LeftIn from (IsMade stands from (after step)))
+    → Adds moment left_since old new (LeftIn from (λ pair. (x : T) × ((decided ≡ Some x) × IsMade stands from (after x) pair)))
+adds_decided {T = T} moment left_since stands after old new from decided step is adds =
+    run_more moment left_since old new (LeftIn from (IsMade stands from (after step))) (LeftIn from (λ pair. (x : T) × ((decided ≡ Some x) × IsMade stands from (after x) pair))) adds (λ second c. ⊎_elim
+    (λ fits. inl fits)
+    (λ made. inr (made.0, (step, (is, made.1)), made.2)))

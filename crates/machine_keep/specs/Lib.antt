@@ -1,1 +1,3 @@
+pub mod Calls
+pub mod Course
 pub mod Kept

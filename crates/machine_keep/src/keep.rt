@@ -1,12 +1,14 @@
 //! A machine that is kept.
-ghost use Rattle.std.specs.Prelude.{◌≡◌, ◌⊎◌, ◌+◌, ◌-◌, ◌≤◌, ℕ, List, Option, Some, None, Err, IsSome, IsTrue, IfOk, IfSome, OnOk, OnErr, false, length};
+ghost use Rattle.std.specs.Prelude.{◌≡◌, ◌⊎◌, ◌∷◌, ◌+◌, ◌-◌, ◌≤◌, ℕ, Bool, List, Option, Some, None, Err, IsSome, IsTrue, IfOk, IfSome, OnOk, OnErr, [], false, length, true};
 ghost use Rattle.ps_disks.specs.MemoryDisk.{armed, armed_number};
 ghost use Rattle.ps_ports.specs.Causes.{Rose};
 ghost use Rattle.host_journal.specs.Calls.{IsRead};
 ghost use Rattle.host_journal.specs.Moments.{Adds, LeftIn, Shows};
 ghost use Rattle.host_journal.specs.Pair.{pair_of};
-ghost use Rattle.host_journal.specs.State.{is_ready, stored, has_record, which, with_record, EachImage, EachSince, IsAt, KeepsPlace, first_disk, second_disk};
-ghost use Rattle.machine_keep.specs.Kept.{HasFew, IsMade, Snapped, StandsAround, StandsFor, after_step, caught, is_many};
+ghost use Rattle.host_journal.specs.State.{append_calls, is_ready, stored, has_record, which, with_record, EachImage, EachSince, IsAt, KeepsPlace, SameButRoom, first_disk, second_disk};
+ghost use Rattle.machine_keep.specs.Calls.{TellsIn, TellsSomeIn, all_on, image_calls, record_calls, sync_calls};
+ghost use Rattle.machine_keep.specs.Course.{Answered, Breaks, IsFound, IsShortened, Keeps, Unfound, Unkept, Wanting};
+ghost use Rattle.machine_keep.specs.Kept.{HasFew, IsMade, Snapped, StandsAround, StandsBut, StandsFor, after_step, caught, is_many};
 ghost use Rattle.machine_keep.specs.declared.fault.StepFault.TheVariants.{Disk as disk_fault, Memory as no_memory};
 
 use crate::fault::StepFault;
@@ -79,6 +81,27 @@ impl<M: Machine, D: Disk> Keep<M, D> {
         self.put_off
     }
 
+    /// Whether the last call met no fault.
+    pub fn is_ready(&self) -> bool
+        ensures { result ≡ is_ready self.now.journal.pending }
+    {
+        self.journal.is_ready()
+    }
+
+    /// The generation of the disk that counts: it rises by one with each snapshot.
+    pub fn generation(&self) -> u64
+        ensures { result ≡ self.now.journal.generation }
+    {
+        self.journal.generation()
+    }
+
+    /// The bytes of the records behind the snapshot: for each a length of four, the record and a gate.
+    pub fn record_bytes(&self) -> u64
+        ensures { result ≡ self.now.journal.end - self.now.journal.start }
+    {
+        self.journal.record_bytes()
+    }
+
     /// Sets an origin again, as a configuration. What is kept, and what is not yet known after a fault, stays. Takes no
     /// memory.
     pub fn configure(&mut self, origin: M::Origin)
@@ -91,8 +114,11 @@ impl<M: Machine, D: Disk> Keep<M, D> {
         self.machine.configure(origin);
     }
 
-    /// What is known of a kept machine whose last call met no fault. Does nothing.
+    /// What is known of a kept machine, and what more of one whose last call met no fault. Does nothing.
     pub fn known(&self)
+        // The disks stand for its state; after a fault, but for a step that is unsure.
+        ensures but { D.premise → StandsBut M.stands_for M.record_of (M.state self.now.machine) self.now.journal.pending (stored D.seen self.now.journal) self.now.unsure }
+        ensures order { self.now.journal.start ≤ self.now.journal.end }
         ensures sure { IsTrue (is_ready self.now.journal.pending) → self.now.unsure ≡ None }
         ensures stands { D.premise → IsTrue (is_ready self.now.journal.pending) → StandsFor M.stands_for (M.state self.now.machine) (stored D.seen self.now.journal) }
         ensures durable { D.premise → IsTrue (is_ready self.now.journal.pending) → EachImage D.may_leave self.now.journal (StandsFor M.stands_for (M.state self.now.machine)) }
@@ -125,8 +151,16 @@ impl<M: Machine, D: Disk> Keep<M, D> {
         // A step leaves few records, or a snapshot that was put off is counted.
         ensures few { D.premise → OnOk result ((M.state self.new.machine ≡ caught M.after (M.state self.old.machine) self.old.unsure (has_record self.old.journal.pending (stored D.seen self.old.journal)))
             ⊎ (HasFew self.new.journal ⊎ Rose self.old.put_off self.new.put_off)) }
+        // What it does, and the calls that the disks tell of it: all at an answer, those before a step where memory was wanting, and
+        // at a fault those up to the one that failed. On no premise.
+        ensures answered { IfOk result (λ reply. Answered D.premise D.seen D.told M.state M.stands_for M.record_of M.answers M.follows M.after self.old self.new call reply) }
+        ensures wanting { result ≡ Err no_memory → Wanting D.premise D.seen D.told M.state M.stands_for M.record_of M.answers M.follows M.after self.old self.new }
+        ensures failed { result ≡ Err disk_fault → Unfound D.told M.state self.old self.new
+            ⊎ Unkept D.premise D.seen D.told M.state M.stands_for M.record_of M.answers M.follows M.after self.old self.new call }
+        ensures ready { (result ≡ Err disk_fault → ⊥) → IsTrue (is_ready self.new.journal.pending) }
         // Whatever it comes to.
         ensures fixed { M.fixed (M.state self.new.machine) ≡ M.fixed (M.state self.old.machine) }
+        ensures later { (D.disk_faults (first_disk self.old.journal) ≤ D.disk_faults (first_disk self.new.journal)) × (D.disk_faults (second_disk self.old.journal) ≤ D.disk_faults (second_disk self.new.journal)) }
         ensures calm { (result ≡ Err disk_fault → ⊥) → (D.disk_faults (first_disk self.new.journal) ≡ D.disk_faults (first_disk self.old.journal)) × (D.disk_faults (second_disk self.new.journal) ≡ D.disk_faults (second_disk self.old.journal)) }
         ensures cause { result ≡ Err disk_fault → Rose (D.disk_faults (first_disk self.old.journal)) (D.disk_faults (first_disk self.new.journal)) ⊎ Rose (D.disk_faults (second_disk self.old.journal)) (D.disk_faults (second_disk self.new.journal)) }
     {
@@ -147,11 +181,16 @@ impl<M: Machine, D: Disk> Keep<M, D> {
         ensures still { IsTrue (is_ready self.old.journal.pending) → self.new ≡ self.old }
         ensures fixed { M.fixed (M.state self.new.machine) ≡ M.fixed (M.state self.old.machine) }
         ensures put_off { self.new.put_off ≡ self.old.put_off }
+        ensures found { OnOk result ((stood : Bool) × IsFound D.premise D.seen self.old.journal stood self.new.journal × (M.state self.new.machine ≡ caught M.after (M.state self.old.machine) self.old.unsure stood)) }
+        ensures told { OnOk result (TellsIn D.told self.old.journal self.new.journal (sync_calls (is_ready self.old.journal.pending))) }
+        ensures unfound { OnErr result (Unfound D.told M.state self.old self.new) }
         ensures first { D.premise → is_ready self.old.journal.pending ≡ false → IsRead D.seen D.may_leave D.moment D.left_since (first_disk self.old.journal) (first_disk self.new.journal) }
         ensures second { D.premise → is_ready self.old.journal.pending ≡ false → IsRead D.seen D.may_leave D.moment D.left_since (second_disk self.old.journal) (second_disk self.new.journal) }
+        ensures later { (D.disk_faults (first_disk self.old.journal) ≤ D.disk_faults (first_disk self.new.journal)) × (D.disk_faults (second_disk self.old.journal) ≤ D.disk_faults (second_disk self.new.journal)) }
         ensures calm { OnOk result ((D.disk_faults (first_disk self.new.journal) ≡ D.disk_faults (first_disk self.old.journal)) × (D.disk_faults (second_disk self.new.journal) ≡ D.disk_faults (second_disk self.old.journal))) }
         ensures cause { OnErr result (Rose (D.disk_faults (first_disk self.old.journal)) (D.disk_faults (first_disk self.new.journal)) ⊎ Rose (D.disk_faults (second_disk self.old.journal)) (D.disk_faults (second_disk self.new.journal))) }
     {
+        self.known();
         if self.journal.is_ready() {
             return Ok(());
         }
@@ -181,7 +220,11 @@ impl<M: Machine, D: Disk> Keep<M, D> {
         ensures adds { D.premise → Adds D.moment D.left_since self.old.journal self.new.journal
             (LeftIn (stored D.seen self.old.journal) (λ pair. (step : M.Step) × ((decided.step ≡ Some step) × IsMade M.stands_for (stored D.seen self.old.journal) (M.after (M.state self.old.machine) step) pair))) }
         ensures few { OnOk result (IsSome decided.step → HasFew self.new.journal ⊎ Rose self.old.put_off self.new.put_off) }
+        ensures keeps { OnOk result (Keeps D.told M.state M.stands_for M.record_of M.after self.old self.new decided.step) }
+        ensures breaks { result ≡ Err disk_fault → Breaks D.told M.state M.stands_for M.record_of M.after self.old self.new decided.step }
+        ensures unmoved { result ≡ Err no_memory → SameButRoom self.old.journal self.new.journal × (M.state self.new.machine ≡ M.state self.old.machine) × (self.new.put_off ≡ self.old.put_off) }
         ensures fixed { M.fixed (M.state self.new.machine) ≡ M.fixed (M.state self.old.machine) }
+        ensures later { (D.disk_faults (first_disk self.old.journal) ≤ D.disk_faults (first_disk self.new.journal)) × (D.disk_faults (second_disk self.old.journal) ≤ D.disk_faults (second_disk self.new.journal)) }
         ensures calm { (result ≡ Err disk_fault → ⊥) → (D.disk_faults (first_disk self.new.journal) ≡ D.disk_faults (first_disk self.old.journal)) × (D.disk_faults (second_disk self.new.journal) ≡ D.disk_faults (second_disk self.old.journal)) }
         ensures cause { result ≡ Err disk_fault → Rose (D.disk_faults (first_disk self.old.journal)) (D.disk_faults (first_disk self.new.journal)) ⊎ Rose (D.disk_faults (second_disk self.old.journal)) (D.disk_faults (second_disk self.new.journal)) }
     {
@@ -212,7 +255,11 @@ impl<M: Machine, D: Disk> Keep<M, D> {
         ensures adds { D.premise → Adds D.moment D.left_since self.old.journal self.new.journal
             (LeftIn (stored D.seen self.old.journal) (IsMade M.stands_for (stored D.seen self.old.journal) (M.after (M.state self.old.machine) step))) }
         ensures few { OnOk result (HasFew self.new.journal ⊎ Rose self.old.put_off self.new.put_off) }
+        ensures keeps { OnOk result (Keeps D.told M.state M.stands_for M.record_of M.after self.old self.new (Some step)) }
+        ensures breaks { result ≡ Err disk_fault → Breaks D.told M.state M.stands_for M.record_of M.after self.old self.new (Some step) }
+        ensures unmoved { result ≡ Err no_memory → SameButRoom self.old.journal self.new.journal × (M.state self.new.machine ≡ M.state self.old.machine) × (self.new.put_off ≡ self.old.put_off) }
         ensures fixed { M.fixed (M.state self.new.machine) ≡ M.fixed (M.state self.old.machine) }
+        ensures later { (D.disk_faults (first_disk self.old.journal) ≤ D.disk_faults (first_disk self.new.journal)) × (D.disk_faults (second_disk self.old.journal) ≤ D.disk_faults (second_disk self.new.journal)) }
         ensures calm { (result ≡ Err disk_fault → ⊥) → (D.disk_faults (first_disk self.new.journal) ≡ D.disk_faults (first_disk self.old.journal)) × (D.disk_faults (second_disk self.new.journal) ≡ D.disk_faults (second_disk self.old.journal)) }
         ensures cause { result ≡ Err disk_fault → Rose (D.disk_faults (first_disk self.old.journal)) (D.disk_faults (first_disk self.new.journal)) ⊎ Rose (D.disk_faults (second_disk self.old.journal)) (D.disk_faults (second_disk self.new.journal)) }
     {
@@ -237,8 +284,14 @@ impl<M: Machine, D: Disk> Keep<M, D> {
         ensures adds { D.premise → Adds D.moment D.left_since self.old.journal self.new.journal
             (λ second c. Shows (stored D.seen self.old.journal) second c ⊎ Shows (with_record (M.record_of step) (stored D.seen self.old.journal)) second c) }
         ensures kept { KeepsPlace self.old.journal self.new.journal }
+        ensures end { OnOk result (self.new.journal.end ≡ self.old.journal.end + 5 + length (M.record_of step)) }
+        ensures told { OnOk result (TellsIn D.told self.old.journal self.new.journal (record_calls self.old.journal (Some (M.record_of step)))) }
+        ensures told_first { OnErr result (TellsSomeIn D.told self.old.journal self.new.journal (record_calls self.old.journal (Some (M.record_of step)))) }
+        ensures unsure { OnErr result ((M.state self.new.machine ≡ M.state self.old.machine) × (self.new.unsure ≡ Some step)) }
+        ensures sure { OnOk result (self.new.unsure ≡ None) }
         ensures fixed { M.fixed (M.state self.new.machine) ≡ M.fixed (M.state self.old.machine) }
         ensures put_off { self.new.put_off ≡ self.old.put_off }
+        ensures later { (D.disk_faults (first_disk self.old.journal) ≤ D.disk_faults (first_disk self.new.journal)) × (D.disk_faults (second_disk self.old.journal) ≤ D.disk_faults (second_disk self.new.journal)) }
         ensures calm { OnOk result ((D.disk_faults (first_disk self.new.journal) ≡ D.disk_faults (first_disk self.old.journal)) × (D.disk_faults (second_disk self.new.journal) ≡ D.disk_faults (second_disk self.old.journal))) }
         ensures ready { OnOk result (IsTrue (is_ready self.new.journal.pending)) }
         ensures cause { OnErr result (Rose (D.disk_faults (first_disk self.old.journal)) (D.disk_faults (first_disk self.new.journal)) ⊎ Rose (D.disk_faults (second_disk self.old.journal)) (D.disk_faults (second_disk self.new.journal))) }
@@ -253,10 +306,16 @@ impl<M: Machine, D: Disk> Keep<M, D> {
     fn shorten(&mut self, alloc: Global) -> Result<(), DiskFault>
         requires ready { IsTrue (is_ready self.old.journal.pending) }
         ensures machine { self.new.machine ≡ self.old.machine }
+        ensures unsure { self.new.unsure ≡ self.old.unsure }
+        ensures shortened { OnOk result ((image : Option (List ℕ)) × IsShortened M.stands_for (M.state self.old.machine) self.old.put_off self.new.put_off self.old.journal image self.new.journal
+            × TellsIn D.told self.old.journal self.new.journal (image_calls self.old.journal image)) }
+        ensures told_first { OnErr result ((image : List ℕ) × (is_many (self.old.journal.end - self.old.journal.start) (self.old.journal.start - 21) ≡ true) × M.stands_for (image ∷ []) (M.state self.old.machine)
+            × TellsSomeIn D.told self.old.journal self.new.journal (image_calls self.old.journal (Some image))) }
         ensures few { OnOk result (HasFew self.new.journal ⊎ Rose self.old.put_off self.new.put_off) }
         ensures ready { OnOk result (IsTrue (is_ready self.new.journal.pending)) }
         ensures adds { D.premise → Adds D.moment D.left_since self.old.journal self.new.journal
             (Snapped D.seen M.stands_for (M.state self.old.machine) self.old.journal) }
+        ensures later { (D.disk_faults (first_disk self.old.journal) ≤ D.disk_faults (first_disk self.new.journal)) × (D.disk_faults (second_disk self.old.journal) ≤ D.disk_faults (second_disk self.new.journal)) }
         ensures calm { OnOk result ((D.disk_faults (first_disk self.new.journal) ≡ D.disk_faults (first_disk self.old.journal)) × (D.disk_faults (second_disk self.new.journal) ≡ D.disk_faults (second_disk self.old.journal))) }
         ensures cause { OnErr result (Rose (D.disk_faults (first_disk self.old.journal)) (D.disk_faults (first_disk self.new.journal)) ⊎ Rose (D.disk_faults (second_disk self.old.journal)) (D.disk_faults (second_disk self.new.journal))) }
     {
@@ -339,8 +398,12 @@ fn append<S: Drop, D: Disk>(
     ensures which { D.premise → OnErr result (stored D.seen journal.new ≡ which bytes.now (has_record journal.new.pending (stored D.seen journal.new)) (stored D.seen journal.old)) }
     ensures adds { D.premise → Adds D.moment D.left_since journal.old journal.new (λ second c. Shows (stored D.seen journal.old) second c ⊎ Shows (with_record bytes.now (stored D.seen journal.old)) second c) }
     ensures kept { KeepsPlace journal.old journal.new }
+    ensures end { OnOk result (journal.new.end ≡ journal.old.end + 5 + length bytes.now) }
+    ensures told { OnOk result (TellsIn D.told journal.old journal.new (all_on journal.old.second (append_calls journal.old.end bytes.now))) }
+    ensures told_first { OnErr result (TellsSomeIn D.told journal.old journal.new (all_on journal.old.second (append_calls journal.old.end bytes.now))) }
     ensures ready { OnOk result (IsTrue (is_ready journal.new.pending)) }
     ensures failed { OnErr result (is_ready journal.new.pending ≡ false) }
+    ensures later { (D.disk_faults (first_disk journal.old) ≤ D.disk_faults (first_disk journal.new)) × (D.disk_faults (second_disk journal.old) ≤ D.disk_faults (second_disk journal.new)) }
     ensures calm { OnOk result ((D.disk_faults (first_disk journal.new) ≡ D.disk_faults (first_disk journal.old)) × (D.disk_faults (second_disk journal.new) ≡ D.disk_faults (second_disk journal.old))) }
     ensures cause { OnErr result (Rose (D.disk_faults (first_disk journal.old)) (D.disk_faults (first_disk journal.new)) ⊎ Rose (D.disk_faults (second_disk journal.old)) (D.disk_faults (second_disk journal.new))) }
 {

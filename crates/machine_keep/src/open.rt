@@ -1,5 +1,5 @@
 //! Opening a machine that is kept.
-ghost use Rattle.std.specs.Prelude.{◌≡◌, ◌⊎◌, ◌+◌, ◌<◌, ◌^◌, ℕ, List, IsFalse, IsTrue, IfOk, IfErr, length, take};
+ghost use Rattle.std.specs.Prelude.{◌≡◌, ◌⊎◌, ◌∷◌, ◌+◌, ◌<◌, ◌^◌, ℕ, List, Option, IsFalse, IsTrue, IfOk, IfErr, Some, [], false, length, take};
 ghost use Rattle.ps_ports.specs.Causes.{Rose};
 ghost use Rattle.host_journal.specs.Calls.{IsRead};
 ghost use Rattle.host_journal.specs.Format.{record_bytes};
@@ -7,6 +7,8 @@ ghost use Rattle.host_journal.specs.Moments.{Adds, LeftIn};
 ghost use Rattle.host_journal.specs.Pair.{pair_of};
 ghost use Rattle.host_journal.specs.State.{is_ready, stored, opened_as, EachImage, first_disk, second_disk};
 ghost use Rattle.machine_keep.specs.declared.fault.StepFault.TheVariants.{Disk as disk_fault, Memory as no_memory};
+ghost use Rattle.machine_keep.specs.Calls.{TellsIn, TellsSome, image_calls, sync_calls};
+ghost use Rattle.machine_keep.specs.Course.{IsRewritten, Opened, Unwritten};
 ghost use Rattle.machine_keep.specs.Kept.{EachFrom, IsMade, IsMigrating, StandsEither, StandsFor};
 
 use crate::fault::StepFault;
@@ -48,6 +50,12 @@ impl<M: Machine + Drop, D: Disk> Keep<M, D> {
         // Only where the disks stand for no state of that origin.
         ensures nothing { D.premise → IfErr result (λ f. (place : _) → f.reason ≡ OpenReason.NotAJournal place → (s : M.State) → M.fixed s ≡ M.fixed_of origin → StandsEither M.stands_for M.stood_for s (pair_of (D.seen first) (D.seen second)) → ⊥) }
         ensures fault { IfErr result (λ f. f.reason ≡ OpenReason.DiskFault → Rose (D.disk_faults first) (D.disk_faults f.first) ⊎ Rose (D.disk_faults second) (D.disk_faults f.second)) }
+        ensures calm { IfOk result (λ keep. (D.disk_faults (first_disk keep.journal) ≡ D.disk_faults first) × (D.disk_faults (second_disk keep.journal) ≡ D.disk_faults second)) }
+        ensures calm_err { IfErr result (λ f. (f.reason ≡ OpenReason.DiskFault → ⊥) → (D.disk_faults f.first ≡ D.disk_faults first) × (D.disk_faults f.second ≡ D.disk_faults second)) }
+        // The calls that the disks tell: the syncs, and a snapshot where the list was in the earlier form. On no premise.
+        ensures opened { IfOk result (λ keep. Opened D.premise D.seen D.told M.stands_for first second (M.state keep.machine) keep.journal) }
+        ensures told_err { IfErr result (λ f. TellsSome D.told first second f.first f.second (sync_calls false)
+            ⊎ ((f.reason ≡ OpenReason.DiskFault) × Unwritten D.premise D.seen D.told M.stands_for first second f.first f.second)) }
     {
         match Journal::open(alloc, first, second) {
             Ok((journal, list)) => Keep::of_list(alloc, origin, journal, list),
@@ -78,6 +86,10 @@ impl<M: Machine + Drop, D: Disk> Keep<M, D> {
         ensures left { D.premise → IfErr result (λ f. ((f.first ≡ first_disk journal) × (f.second ≡ second_disk journal)) ⊎ IsMigrating D.seen D.moment D.left_since M.stands_for M.stood_for journal f.first f.second) }
         ensures nothing { D.premise → IfErr result (λ f. (place : _) → f.reason ≡ OpenReason.NotAJournal place → (s : M.State) → M.fixed s ≡ M.fixed_of origin → StandsEither M.stands_for M.stood_for s (stored D.seen journal) → ⊥) }
         ensures fault { IfErr result (λ f. f.reason ≡ OpenReason.DiskFault → Rose (D.disk_faults (first_disk journal)) (D.disk_faults f.first) ⊎ Rose (D.disk_faults (second_disk journal)) (D.disk_faults f.second)) }
+        ensures calm { IfOk result (λ keep. (D.disk_faults (first_disk keep.journal) ≡ D.disk_faults (first_disk journal)) × (D.disk_faults (second_disk keep.journal) ≡ D.disk_faults (second_disk journal))) }
+        ensures told { IfOk result (λ keep. (image : Option (List ℕ)) × IsRewritten M.stands_for (M.state keep.machine) journal image keep.journal × TellsIn D.told journal keep.journal (image_calls journal image)) }
+        ensures told_first { IfErr result (λ f. f.reason ≡ OpenReason.DiskFault → (s : M.State) × (image : List ℕ) × M.stands_for (image ∷ []) s
+            × TellsSome D.told (first_disk journal) (second_disk journal) f.first f.second (image_calls journal (Some image))) }
     {
         match M::restore(alloc, origin, list.as_slice()) {
             Ok(restored) => Keep::of_restored(alloc, journal, restored),
@@ -110,6 +122,10 @@ impl<M: Machine + Drop, D: Disk> Keep<M, D> {
         ensures left { D.premise → IfErr result (λ f. IsMigrating D.seen D.moment D.left_since M.stands_for M.stood_for journal f.first f.second) }
         ensures no_place { IfErr result (λ f. (place : _) → f.reason ≡ OpenReason.NotAJournal place → ⊥) }
         ensures fault { IfErr result (λ f. f.reason ≡ OpenReason.DiskFault → Rose (D.disk_faults (first_disk journal)) (D.disk_faults f.first) ⊎ Rose (D.disk_faults (second_disk journal)) (D.disk_faults f.second)) }
+        ensures calm { IfOk result (λ keep. (D.disk_faults (first_disk keep.journal) ≡ D.disk_faults (first_disk journal)) × (D.disk_faults (second_disk keep.journal) ≡ D.disk_faults (second_disk journal))) }
+        ensures told { IfOk result (λ keep. (image : Option (List ℕ)) × IsRewritten M.stands_for (M.state keep.machine) journal image keep.journal × TellsIn D.told journal keep.journal (image_calls journal image)) }
+        ensures told_first { IfErr result (λ f. f.reason ≡ OpenReason.DiskFault → (s : M.State) × (image : List ℕ) × M.stands_for (image ∷ []) s
+            × TellsSome D.told (first_disk journal) (second_disk journal) f.first f.second (image_calls journal (Some image))) }
     {
         let Restored {
             machine,

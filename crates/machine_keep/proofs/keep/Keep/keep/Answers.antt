@@ -1,5 +1,7 @@
-use Rattle.std.proofs.Common.{◌∙◌, ap, subst}
+use Rattle.std.proofs.Common.{◌∙◌, ◌∷◌, Some, [], ap, subst, sym}
 use Rattle.host_journal.specs.State.{SameButRoom}
+use Rattle.machine_keep.specs.Course.{Shortens}
+use Rattle.machine_keep.proofs.CourseLemmas.{kept_late, kept_moves, kept_short, kept_told, many_same}
 use Rattle.machine_keep.proofs.KeepLemmas.{made_record, made_snapshot, since_record, since_snapshot, with_step}
 use Rattle.machine_keep.proofs.keep.Keep.keep.Goals as goal
 
@@ -62,3 +64,41 @@ returns-clause-adds g c p =
     c.args.self.now.journal c.reserve.new.self (subst (λ k. SameButRoom k.journal c.reserve.new.self) c.self.view_is c.reserve.ensures.same) at (c.known.ensures.each p c.requires.ready) stood
     (with_step g.M.Machine.stands_for g.M.Machine.record_of g.M.Machine.follows g.M.Machine.after g.met.M.Machine.stands_more (g.M.Machine.state c.args.self.now.machine) c.args.step _ c.requires.follows stood)
     c.put.new.self.journal c.shorten.new.self.journal (g.M.Machine.state c.put.new.self.machine) (c.put.ensures.adds p) (c.in_ok-put.ensures.appended p) c.put.ensures.kept (c.in_ok-put.ensures.state ∙ ap (λ k. g.M.Machine.after (g.M.Machine.state k.machine) c.args.step) c.self.view_is) (c.shorten.ensures.adds p)
+
+pub returns-in_err-shorten-clause-breaks : goal.returns-in_err-shorten-clause-breaks
+returns-in_err-shorten-clause-breaks g c _ =
+    let old = c.args.self.now.journal in
+    let mid = c.reserve.new.self in
+    let turned = c.put.new.self.journal in
+    let payload = g.M.Machine.record_of c.args.step in
+    let same = subst (λ k. SameButRoom k.journal mid) c.self.view_is c.reserve.ensures.same in
+    let became = c.in_ok-put.ensures.state ∙ ap (λ k. g.M.Machine.after (g.M.Machine.state k.machine) c.args.step) c.self.view_is in
+    let met = c.in_err-shorten.ensures.told_first in
+    record {
+      image = Some met.0;
+      due = (sym (many_same old mid turned same payload c.put.ensures.kept c.in_ok-put.ensures.end) ∙ met.1, subst (λ s. g.M.Machine.stands_for (met.0 ∷ []) s) became met.2);
+      left = (ap (λ m. g.M.Machine.state m) c.shorten.ensures.machine ∙ became, c.shorten.ensures.unsure ∙ c.in_ok-put.ensures.sure);
+      told = kept_late g.D.Disk.told old mid same payload turned c.shorten.new.self.journal c.put.ensures.kept c.in_ok-put.ensures.told met.0 met.3;
+    }
+
+pub returns-clause-keeps : goal.returns-clause-keeps
+returns-clause-keeps g c =
+    let old = c.args.self.now.journal in
+    let mid = c.reserve.new.self in
+    let turned = c.put.new.self.journal in
+    let new = c.shorten.new.self in
+    let payload = g.M.Machine.record_of c.args.step in
+    let same = subst (λ k. SameButRoom k.journal mid) c.self.view_is c.reserve.ensures.same in
+    let state_same = ap (λ m. g.M.Machine.state m) c.shorten.ensures.machine in
+    let made = c.in_ok-shorten.ensures.shortened in
+    let before = g.M.Machine.state c.put.new.self.machine in
+    let off = c.put.new.self.put_off in
+    record {
+      became = state_same ∙ (c.in_ok-put.ensures.state ∙ ap (λ k. g.M.Machine.after (g.M.Machine.state k.machine) c.args.step) c.self.view_is);
+      image = made.0;
+      shortened = subst (λ n. Shortens g.M.Machine.stands_for (g.M.Machine.state new.machine) n new.put_off old (Some payload) made.0) (c.put.ensures.put_off ∙ ap (λ k. k.put_off) c.self.view_is)
+          (subst (λ s. Shortens g.M.Machine.stands_for s off new.put_off old (Some payload) made.0) (sym state_same)
+          (kept_short old mid turned same payload c.put.ensures.kept c.in_ok-put.ensures.end g.M.Machine.stands_for before off new.put_off new.journal made.0 made.1));
+      moved = kept_moves old mid turned same payload c.put.ensures.kept c.in_ok-put.ensures.end g.M.Machine.stands_for before off new.put_off new.journal made.0 made.1;
+      told = kept_told g.D.Disk.told old mid same payload turned new.journal c.put.ensures.kept c.in_ok-put.ensures.told made.0 made.2;
+    }

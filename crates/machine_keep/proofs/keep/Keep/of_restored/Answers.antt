@@ -1,7 +1,10 @@
-use Rattle.std.proofs.Common.{false, inr, refl, subst, sym, true}
+use Rattle.std.proofs.Common.{List, None, Option, Some, false, inr, refl, subst, sym, true, ℕ}
 use Rattle.host_journal.specs.Moments.{Adds, AddsOnly, LeftIn}
 use Rattle.host_journal.specs.State.{first_disk, second_disk, stored}
+use Rattle.machine_keep.specs.Calls.{TellsIn, image_calls}
+use Rattle.machine_keep.specs.Course.{IsRewritten}
 use Rattle.machine_keep.specs.Kept.{IsMade}
+use Rattle.machine_keep.proofs.CourseLemmas.{room_told}
 use Rattle.machine_keep.proofs.KeepLemmas.{adds_none, made_alone}
 use Rattle.machine_keep.proofs.keep.Keep.of_restored.Goals.{then-is_earlier+in_default, else-is_earlier}
 use Rattle.machine_keep.proofs.keep.Keep.of_restored.Goals as goal
@@ -31,4 +34,17 @@ returns-clause-adds g c p =
           (c.known.ensures.place p c.requires.ready) (w.put_snapshot.ensures.adds p))
       | else-is_earlier w ↦ subst (λ j. Adds g.D.Disk.moment g.D.Disk.left_since c.args.journal j (LeftIn from (IsMade g.M.Machine.stands_for from now))) (sym w.journal-is)
           (adds_none g.D.Disk.moment g.D.Disk.left_since c.args.journal c.args.journal (LeftIn from (IsMade g.M.Machine.stands_for from now)) refl)
+    ]))
+
+pub returns-clause-told : goal.returns-clause-told
+returns-clause-told g c =
+    let now = g.M.Machine.state c.args.restored.machine in
+    subst (λ m. (x : Option (List ℕ)) × IsRewritten g.M.Machine.stands_for (g.M.Machine.state m) c.args.journal x c.over-keep.result.journal × TellsIn g.D.Disk.told c.args.journal c.over-keep.result.journal (image_calls c.args.journal x)) (sym c.over-keep.ensures.machine)
+    (subst (λ j. (x : Option (List ℕ)) × IsRewritten g.M.Machine.stands_for now c.args.journal x j × TellsIn g.D.Disk.told c.args.journal j (image_calls c.args.journal x)) (sym c.over-keep.ensures.journal)
+    (elim c.if-is_earlier.branch [
+      | then-is_earlier+in_default w ↦ let made = w.in_default.ensures.turned in
+          subst (λ j. (x : Option (List ℕ)) × IsRewritten g.M.Machine.stands_for now c.args.journal x j × TellsIn g.D.Disk.told c.args.journal j (image_calls c.args.journal x)) (sym w.journal-is)
+          (Some made.0, (made.1, made.2), made.3)
+      | else-is_earlier w ↦ subst (λ j. (x : Option (List ℕ)) × IsRewritten g.M.Machine.stands_for now c.args.journal x j × TellsIn g.D.Disk.told c.args.journal j (image_calls c.args.journal x)) (sym w.journal-is)
+          (None, refl, room_told g.D.Disk.told c.args.journal c.args.journal refl)
     ]))

@@ -1,10 +1,13 @@
-use Rattle.std.proofs.Common.{◌≡◌, IfErr, subst}
+use Rattle.std.proofs.Common.{◌≡◌, ◌⊎◌, ◌∷◌, IfErr, List, Option, Some, [], false, inl, subst, ℕ}
 use Rattle.std.proofs.lemmas.Result.{IfErr-weaker}
 use Rattle.host_journal.specs.Moments.{Adds, LeftIn}
 use Rattle.host_journal.specs.State.{first_disk, second_disk, stored}
 use Rattle.host_journal.specs.declared.fault.OpenReason.{OpenReason}
 use Rattle.host_journal.specs.declared.reading.DiskPlace.{DiskPlace}
+use Rattle.machine_keep.specs.Calls.{TellsIn, TellsSome, image_calls, sync_calls}
+use Rattle.machine_keep.specs.Course.{IsRewritten, Opened, Unwritten}
 use Rattle.machine_keep.specs.Kept.{EachFrom, IsMade, StandsEither}
+use Rattle.machine_keep.proofs.CourseLemmas.{err_both, ok_more, opened_so, read_at, refused_so, syncs_some}
 use Rattle.machine_keep.proofs.KeepLemmas.{left_so, not_opened, ok_both, opened}
 use Rattle.machine_keep.proofs.keep.Keep.open.Goals as goal
 
@@ -37,3 +40,26 @@ returns-in-Ok-clause-left g c p =
     c.args.first c.args.second c.in-Ok.journal (c.in-Ok.ensures.read_first p) (c.in-Ok.ensures.read_second p) (λ disk. g.met.D.Disk.reads_now disk p) (λ disk t bytes le now. g.met.D.Disk.counts_now disk t bytes p le now)
     c.in-Ok.list f.first f.second (c.in-Ok.ensures.stored p) (c.in-Ok.ensures.list p) (c.in-Ok.ensures.durable p) left)
     (c.of_list.ensures.left p)
+
+pub returns-in-Ok-clause-opened : goal.returns-in-Ok-clause-opened
+returns-in-Ok-clause-opened g c =
+    let journal = c.in-Ok.journal in
+    ok_more (λ keep. (image : Option (List ℕ)) × IsRewritten g.M.Machine.stands_for (g.M.Machine.state keep.machine) journal image keep.journal × TellsIn g.D.Disk.told journal keep.journal (image_calls journal image))
+    (λ keep. Opened g.D.Disk.premise g.D.Disk.seen g.D.Disk.told g.M.Machine.stands_for c.args.first c.args.second (g.M.Machine.state keep.machine) keep.journal)
+    (λ keep made. opened_so g.D.Disk.premise g.D.Disk.seen g.D.Disk.told g.M.Machine.stands_for c.args.first c.args.second journal
+    (record { ready = c.in-Ok.ensures.ready; at = λ p. read_at journal c.in-Ok.list _ (c.in-Ok.ensures.list p); shut = λ p. c.in-Ok.ensures.shut p }) c.in-Ok.ensures.told_first c.in-Ok.ensures.told_second (g.M.Machine.state keep.machine) keep.journal made)
+    c.of_list.result c.of_list.ensures.told
+
+pub returns-in-Ok-clause-told_err : goal.returns-in-Ok-clause-told_err
+returns-in-Ok-clause-told_err g c =
+    let journal = c.in-Ok.journal in
+    err_both (λ f. (f.reason ≡ OpenReason.DiskFault → ⊥) → (f.first ≡ first_disk journal) × (f.second ≡ second_disk journal))
+    (λ f. f.reason ≡ OpenReason.DiskFault → (s : g.M.Machine.State) × (image : List ℕ) × g.M.Machine.stands_for (image ∷ []) s × TellsSome g.D.Disk.told (first_disk journal) (second_disk journal) f.first f.second (image_calls journal (Some image)))
+    (λ f. TellsSome g.D.Disk.told c.args.first c.args.second f.first f.second (sync_calls false)
+    ⊎ ((f.reason ≡ OpenReason.DiskFault) × Unwritten g.D.Disk.premise g.D.Disk.seen g.D.Disk.told g.M.Machine.stands_for c.args.first c.args.second f.first f.second))
+    (λ f refused some. refused_so g.D.Disk.premise g.D.Disk.seen g.D.Disk.told g.M.Machine.stands_for c.args.first c.args.second journal
+    (record { ready = c.in-Ok.ensures.ready; at = λ p. read_at journal c.in-Ok.list _ (c.in-Ok.ensures.list p); shut = λ p. c.in-Ok.ensures.shut p }) c.in-Ok.ensures.told_first c.in-Ok.ensures.told_second f.reason f.first f.second refused some)
+    c.of_list.result c.of_list.ensures.refused c.of_list.ensures.told_first
+
+pub returns-in-Err-clause-told_err : goal.returns-in-Err-clause-told_err
+returns-in-Err-clause-told_err g c = inl (syncs_some g.D.Disk.told c.args.first c.args.second c.in-Err.fault.first c.in-Err.fault.second c.in-Err.ensures.told_err)

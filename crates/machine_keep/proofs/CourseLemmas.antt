@@ -1,0 +1,240 @@
+-- The course of a call of a kept machine, from the clauses of the journal's calls.
+use Rattle.std.proofs.Common.{◌≡◌, ◌⊎◌, inl, inr, ℕ, ◌+◌, ◌-◌, Bool, true, false, not, if◌then◌else◌, List, [], ◌∷◌, length, arith, ap, refl, sym, subst, ◌∙◌}
+use Rattle.std.specs.Prelude.{IfErr, IfOk, Option, Some, None, Result, Ok, Err}
+use Rattle.ps_ports.specs.Causes.{raised}
+use Rattle.ps_disks.specs.declared.disk.DiskCall.{DiskCall}
+use Rattle.ps_disks.specs.declared.disk.DiskCall.TheVariants.{Sync}
+use Rattle.host_journal.specs.State.{State, IsAt, KeepsPlace, SameButRoom, first_disk, has_record, is_ready, opened_as, second_disk, snapshot_calls, stored}
+use Rattle.host_journal.specs.Told.{TellsAll, TellsFirst, TellsSyncs}
+use Rattle.host_journal.specs.declared.fault.OpenReason.{OpenReason}
+use Rattle.host_journal.specs.declared.pending.Pending.{Pending}
+use Rattle.host_journal.specs.declared.pending.Pending.TheVariants.{Nothing, Unopened, Record, Snapshot}
+use Rattle.host_journal.specs.declared.reading.Counted.{Counted}
+use Rattle.host_journal.specs.declared.reading.DiskPlace.{DiskPlace}
+use Rattle.machine_keep.specs.Calls.{PairCalls, TellsIn, TellsPair, TellsSome, TellsSomeIn, all_on, image_calls, kept_calls, record_calls, sync_calls}
+use Rattle.machine_keep.specs.Course.{IsFound, IsRead, IsRewritten, IsShortened, IsTurned, Moves, Opened, Shortens, Unwritten, is_many_with}
+use Rattle.machine_keep.specs.Kept.{Kept, is_many}
+use Rattle.machine_keep.proofs.CallLemmas.{some_counting, some_early, some_later, some_other, tells_both, tells_counting, tells_none, tells_other}
+
+-- ---- the calls of the journal
+swapped : {D : Type 0} (side : Bool) (a b : D) → (if not side then a else b) ≡ (if side then b else a)
+swapped false a b = refl
+swapped true a b = refl
+
+module _ {D : Type 0} (told : D → Option (List DiskCall)) where
+  -- calls on the disk that counts, after which it still does
+  module _ (old new : State D) (kept : KeepsPlace old new) (same : new.other ≡ old.other) where
+    first_so : first_disk new ≡ (if old.second then old.other else new.counting)
+    first_so = ap (λ (b : Bool). if b then new.other else new.counting) kept.second ∙ ap (λ (d : D). if old.second then d else new.counting) same
+
+    second_so : second_disk new ≡ (if old.second then new.counting else old.other)
+    second_so = ap (λ (b : Bool). if b then new.counting else new.other) kept.second ∙ ap (λ (d : D). if old.second then new.counting else d) same
+
+    pub counting_told : (calls : List DiskCall) → TellsAll (told old.counting) (told new.counting) calls → TellsIn told old new (all_on old.second calls)
+    counting_told calls all =
+        subst (λ (d : D). TellsPair told (first_disk old) (second_disk old) d (second_disk new) (all_on old.second calls)) (sym first_so)
+        (subst (λ (d : D). TellsPair told (first_disk old) (second_disk old) (if old.second then old.other else new.counting) d (all_on old.second calls)) (sym second_so)
+        (tells_counting told old.second old.counting old.other new.counting calls all))
+
+    pub counting_some : (calls : List DiskCall) → TellsFirst (told old.counting) (told new.counting) calls → TellsSomeIn told old new (all_on old.second calls)
+    counting_some calls some =
+        subst (λ (d : D). TellsSome told (first_disk old) (second_disk old) d (second_disk new) (all_on old.second calls)) (sym first_so)
+        (subst (λ (d : D). TellsSome told (first_disk old) (second_disk old) (if old.second then old.other else new.counting) d (all_on old.second calls)) (sym second_so)
+        (some_counting told old.second old.counting old.other new.counting calls some))
+
+  -- a snapshot, after room was made for it
+  module _ (old mid new : State D) (image : List ℕ) (same : SameButRoom old mid) where
+    abbrev Images : List DiskCall
+    Images = snapshot_calls old.shut (old.generation + 1) image
+
+    pub turned_told : TellsAll (told mid.other) (told new.counting) (snapshot_calls mid.shut (mid.generation + 1) image) → new.other ≡ mid.counting → new.second ≡ not mid.second → TellsIn told old new (image_calls old (Some image))
+    turned_told all other side =
+        let all_old : TellsAll (told old.other) (told new.counting) Images = subst (λ (m : State D). TellsAll (told m.other) (told new.counting) (snapshot_calls m.shut (m.generation + 1) image)) same all in
+        let was : new.other ≡ old.counting = other ∙ ap (λ (m : State D). m.counting) same in
+        let turned : new.second ≡ not old.second = side ∙ ap (λ (m : State D). not m.second) same in
+        let one : first_disk new ≡ (if old.second then new.counting else old.counting) =
+        ap (λ (b : Bool). if b then new.other else new.counting) turned ∙ (ap (λ (d : D). if not old.second then d else new.counting) was ∙ swapped old.second old.counting new.counting) in
+        let two : second_disk new ≡ (if old.second then old.counting else new.counting) =
+        ap (λ (b : Bool). if b then new.counting else new.other) turned ∙ (ap (λ (d : D). if not old.second then new.counting else d) was ∙ swapped old.second new.counting old.counting) in
+        subst (λ (d : D). TellsPair told (first_disk old) (second_disk old) d (second_disk new) (all_on (not old.second) Images)) (sym one)
+        (subst (λ (d : D). TellsPair told (first_disk old) (second_disk old) (if old.second then new.counting else old.counting) d (all_on (not old.second) Images)) (sym two)
+        (tells_other told old.second old.counting old.other new.counting Images all_old))
+
+    pub turned_place : new.second ≡ not mid.second → new.generation ≡ mid.generation + 1 → new.start ≡ 21 + length image → new.end ≡ new.start → IsTurned image old new
+    turned_place side next start end = record {
+      second = side ∙ ap (λ (m : State D). not m.second) same;
+      generation = next ∙ ap (λ (m : State D). m.generation + 1) same;
+      start = start;
+      end = end;
+    }
+
+    pub turned_some : TellsFirst (told mid.other) (told new.other) (snapshot_calls mid.shut (mid.generation + 1) image) → new.counting ≡ mid.counting → new.second ≡ mid.second → TellsSomeIn told old new (image_calls old (Some image))
+    turned_some first counting side =
+        let first_old : TellsFirst (told old.other) (told new.other) Images = subst (λ (m : State D). TellsFirst (told m.other) (told new.other) (snapshot_calls m.shut (m.generation + 1) image)) same first in
+        let was : new.counting ≡ old.counting = counting ∙ ap (λ (m : State D). m.counting) same in
+        let is : new.second ≡ old.second = side ∙ ap (λ (m : State D). m.second) same in
+        let one : first_disk new ≡ (if old.second then new.other else old.counting) = ap (λ (b : Bool). if b then new.other else new.counting) is ∙ ap (λ (d : D). if old.second then new.other else d) was in
+        let two : second_disk new ≡ (if old.second then old.counting else new.other) = ap (λ (b : Bool). if b then new.counting else new.other) is ∙ ap (λ (d : D). if old.second then d else new.other) was in
+        subst (λ (d : D). TellsSome told (first_disk old) (second_disk old) d (second_disk new) (all_on (not old.second) Images)) (sym one)
+        (subst (λ (d : D). TellsSome told (first_disk old) (second_disk old) (if old.second then new.other else old.counting) d (all_on (not old.second) Images)) (sym two)
+        (some_other told old.second old.counting old.other new.other Images first_old))
+
+  -- only room was made
+  pub room_told : (old new : State D) → SameButRoom old new → TellsIn told old new []
+  room_told old new same = subst (λ (s : State D). TellsPair told (first_disk old) (second_disk old) (first_disk s) (second_disk s) []) (sym same) (tells_none told (first_disk old) (second_disk old))
+
+  pub synced_and_room : (old mid new : State D) (calls : PairCalls) → SameButRoom mid new → TellsIn told old mid calls → TellsIn told old new calls
+  synced_and_room old mid new calls same all = subst (λ (s : State D). TellsPair told (first_disk old) (second_disk old) (first_disk s) (second_disk s) calls) (sym same) all
+
+  -- both disks were synced, or a fault was met there or behind it
+  pub syncs_some : (first second first_now second_now : D) → TellsSyncs told first second first_now second_now → TellsSome told first second first_now second_now (sync_calls false)
+  syncs_some first second first_now second_now (one, inl same) = (1, omega arith, omega arith, (one, subst (λ (o : Option (List DiskCall)). TellsAll (told second) o []) (sym same) (tells_none told first second).1))
+  syncs_some first second first_now second_now (one, inr two) = (2, omega arith, omega arith, (one, two))
+
+-- ---- what is found
+not_itself : (b : Bool) → b ≡ not b → ⊥
+not_itself false is = cc
+not_itself true is = cc
+
+no_record : (pending : Pending) (pair : Result Counted DiskPlace) → is_ready pending ≡ true → false ≡ has_record pending pair
+no_record Nothing pair ready = refl
+no_record Unopened pair ready = cc
+no_record (Record next) pair ready = cc
+no_record (Snapshot start) pair ready = cc
+
+module _ {D : Type 0} (premise : Type 0) (seen : D → List ℕ) where
+  pub found_ready : (old : State D) → is_ready old.pending ≡ true → (premise → IsAt old (stored seen old)) → IsFound premise seen old false old
+  found_ready old ready at = record {
+    same = λ _. refl;
+    ready = ready;
+    at = at;
+    stands = λ _. no_record old.pending (stored seen old) ready;
+    shut = (λ _. refl, λ is. absurd (not_itself old.second is));
+  }
+
+  pub found_reloaded : (old new : State D) (stood : Bool) → is_ready old.pending ≡ false → is_ready new.pending ≡ true → (premise → stored seen new ≡ stored seen old) → (premise → IsAt new (stored seen new)) → (premise → stood ≡ has_record old.pending (stored seen old))
+      → (new.second ≡ old.second → new.shut ≡ old.shut) × (new.second ≡ not old.second → new.shut ≡ false) → IsFound premise seen old stood new
+  found_reloaded old new stood failed ready same at answer shut = record {
+    same = λ is. absurd (cc is);
+    ready = ready;
+    at = λ p. subst (IsAt new) (same p) (at p);
+    stands = answer;
+    shut = shut;
+  }
+
+-- ---- a record, and a snapshot behind it
+image_same : {D : Type 0} (a b : State D) (image : Option (List ℕ)) → a.second ≡ b.second → a.shut ≡ b.shut → a.generation ≡ b.generation → image_calls a image ≡ image_calls b image
+image_same a b None second shut generation = refl
+image_same a b (Some image) second shut generation = rw (second, shut, generation) refl
+
+module _ {D : Type 0} (told : D → Option (List DiskCall)) (old mid : State D) (same : SameButRoom old mid) (payload : List ℕ) where
+  pub kept_early : (new : State D) → TellsSomeIn told mid new (record_calls mid (Some payload)) → TellsSomeIn told old new (kept_calls old (Some payload) None)
+  kept_early new some =
+      some_early told (first_disk old) (second_disk old) (first_disk new) (second_disk new) (record_calls old (Some payload)) []
+      (subst (λ (m : State D). TellsSome told (first_disk m) (second_disk m) (first_disk new) (second_disk new) (record_calls m (Some payload))) same some)
+
+  module _ (turned new : State D) (kept : KeepsPlace mid turned) (all : TellsIn told mid turned (record_calls mid (Some payload))) where
+    recorded : TellsIn told old turned (record_calls old (Some payload))
+    recorded = subst (λ (m : State D). TellsPair told (first_disk m) (second_disk m) (first_disk turned) (second_disk turned) (record_calls m (Some payload))) same all
+
+    images : (image : Option (List ℕ)) → image_calls turned image ≡ image_calls old image
+    images image = image_same turned old image (kept.second ∙ ap (λ (m : State D). m.second) same) (kept.shut ∙ ap (λ (m : State D). m.shut) same) (kept.generation ∙ ap (λ (m : State D). m.generation) same)
+
+    pub kept_told : (image : Option (List ℕ)) → TellsIn told turned new (image_calls turned image) → TellsIn told old new (kept_calls old (Some payload) image)
+    kept_told image more =
+        tells_both told (first_disk old) (second_disk old) (first_disk turned) (second_disk turned) (first_disk new) (second_disk new) (record_calls old (Some payload)) (image_calls old image) recorded
+        (subst (TellsPair told (first_disk turned) (second_disk turned) (first_disk new) (second_disk new)) (images image) more)
+
+    pub kept_late : (image : List ℕ) → TellsSomeIn told turned new (image_calls turned (Some image)) → TellsSomeIn told old new (kept_calls old (Some payload) (Some image))
+    kept_late image more =
+        some_later told (first_disk old) (second_disk old) (first_disk turned) (second_disk turned) (first_disk new) (second_disk new) (record_calls old (Some payload)) (image_calls old (Some image)) recorded
+        (subst (TellsSome told (first_disk turned) (second_disk turned) (first_disk new) (second_disk new)) (images (Some image)) more)
+
+module _ {D : Type 0} (old mid turned : State D) (same : SameButRoom old mid) (payload : List ℕ) (kept : KeepsPlace mid turned) (longer : turned.end ≡ mid.end + 5 + length payload) where
+  start_same : turned.start ≡ old.start
+  start_same = kept.start ∙ ap (λ (m : State D). m.start) same
+
+  end_same : turned.end ≡ old.end + 5 + length payload
+  end_same = longer ∙ ap (λ (m : State D). m.end + 5 + length payload) same
+
+  pub many_same : is_many (turned.end - turned.start) (turned.start - 21) ≡ is_many_with old payload
+  many_same = rw (end_same, start_same) refl
+
+  pub kept_moves : {S : Type 0} (stands : List (List ℕ) → S → Type 0) (s : S) (off off_now : ℕ) (new : State D) (image : Option (List ℕ)) → IsShortened stands s off off_now turned image new → Moves old (Some payload) image new
+  kept_moves stands s off off_now new None short = record {
+    second = ap (λ (m : State D). m.second) short.1 ∙ (kept.second ∙ ap (λ (m : State D). m.second) same);
+    generation = ap (λ (m : State D). m.generation) short.1 ∙ (kept.generation ∙ ap (λ (m : State D). m.generation) same);
+    start = ap (λ (m : State D). m.start) short.1 ∙ start_same;
+    shut = ap (λ (m : State D). m.shut) short.1 ∙ (kept.shut ∙ ap (λ (m : State D). m.shut) same);
+    end = ap (λ (m : State D). m.end) short.1 ∙ end_same;
+  }
+  kept_moves stands s off off_now new (Some image) short = record {
+    second = short.3.second ∙ ap not (kept.second ∙ ap (λ (m : State D). m.second) same);
+    generation = short.3.generation ∙ ap (λ (n : ℕ). n + 1) (kept.generation ∙ ap (λ (m : State D). m.generation) same);
+    start = short.3.start;
+    end = short.3.end;
+  }
+
+  pub kept_short : {S : Type 0} (stands : List (List ℕ) → S → Type 0) (s : S) (off off_now : ℕ) (new : State D) (image : Option (List ℕ)) → IsShortened stands s off off_now turned image new → Shortens stands s off off_now old (Some payload) image
+  kept_short stands s off off_now new None short = short.0 ∙ ap (λ (b : Bool). if b then raised off else off) many_same
+  kept_short stands s off off_now new (Some image) short = (sym many_same ∙ short.0, short.1, short.2)
+
+-- the records were found to be many
+pub turned_many : {M D T : Type 0} (k now : Kept M D T) (found : Bool) → k ≡ now → found ≡ is_many (now.journal.end - now.journal.start) (now.journal.start - 21) → found ≡ true → is_many (k.journal.end - k.journal.start) (k.journal.start - 21) ≡ true
+turned_many {M = M} {D = D} {T = T} k now found same is test = ap (λ (x : Kept M D T). is_many (x.journal.end - x.journal.start) (x.journal.start - 21)) same ∙ (sym is ∙ test)
+
+-- ---- an opening
+pub ok_more : {A E : Type 0} (P R : A → Type 0) → ((a : A) → P a → R a) → (r : Result A E) → IfOk r P → IfOk r R
+ok_more P R f (Ok a) p = f a p
+ok_more P R f (Err e) p = tt
+
+pub err_both : {A E : Type 0} (P Q R : E → Type 0) → ((e : E) → P e → Q e → R e) → (r : Result A E) → IfErr r P → IfErr r Q → IfErr r R
+err_both P Q R f (Ok a) p q = tt
+err_both P Q R f (Err e) p q = f e p q
+
+pub read_at : {D : Type 0} (s : State D) (list : List (List ℕ)) (pair : Result Counted DiskPlace) → pair ≡ opened_as s list → IsAt s pair
+read_at s list pair is = subst (IsAt s) (sym is) (refl, refl, refl, refl)
+
+module _ {D S : Type 0} (premise : Type 0) (seen : D → List ℕ) (told : D → Option (List DiskCall)) (stands : List (List ℕ) → S → Type 0) (first second : D) (journal : State D)
+    (read : IsRead premise seen first second journal) (one : TellsAll (told first) (told (first_disk journal)) (Sync ∷ [])) (two : TellsAll (told second) (told (second_disk journal)) (Sync ∷ [])) where
+  pub opened_so : (s : S) (now : State D) → (image : Option (List ℕ)) × IsRewritten stands s journal image now × TellsIn told journal now (image_calls journal image) → Opened premise seen told stands first second s now
+  opened_so s now made = record {
+    place = journal;
+    read = read;
+    image = made.0;
+    rewritten = made.1;
+    told = tells_both told first second (first_disk journal) (second_disk journal) (first_disk now) (second_disk now) (sync_calls false) (image_calls journal made.0) (one, two) made.2;
+  }
+
+  abbrev Refused : OpenReason → D → D → Type 0
+  Refused reason first_now second_now = TellsSome told first second first_now second_now (sync_calls false) ⊎ ((reason ≡ OpenReason.DiskFault) × Unwritten premise seen told stands first second first_now second_now)
+
+  synced : (first_now second_now : D) → (first_now ≡ first_disk journal) × (second_now ≡ second_disk journal) → TellsSome told first second first_now second_now (sync_calls false)
+  synced first_now second_now same = (
+    2,
+    omega arith,
+    omega arith,
+    (
+      subst (λ (d : D). TellsAll (told first) (told d) (Sync ∷ [])) (sym same.0) one,
+      subst (λ (d : D). TellsAll (told second) (told d) (Sync ∷ [])) (sym same.1) two,
+    ),
+  )
+
+  pub refused_so : (reason : OpenReason) (first_now second_now : D) → ((reason ≡ OpenReason.DiskFault → ⊥) → (first_now ≡ first_disk journal) × (second_now ≡ second_disk journal))
+      → (reason ≡ OpenReason.DiskFault → (s : S) × (image : List ℕ) × stands (image ∷ []) s × TellsSome told (first_disk journal) (second_disk journal) first_now second_now (image_calls journal (Some image)))
+      → Refused reason first_now second_now
+  refused_so (OpenReason.NotAJournal place) first_now second_now refused some = inl (synced first_now second_now (refused (λ is. cc)))
+  refused_so OpenReason.Memory first_now second_now refused some = inl (synced first_now second_now (refused (λ is. cc)))
+  refused_so OpenReason.DiskFault first_now second_now refused some =
+      let met = some refl in
+      inr (
+        refl,
+        record {
+          place = journal;
+          read = read;
+          state = met.0;
+          image = met.1;
+          alone = met.2;
+          told = some_later told first second (first_disk journal) (second_disk journal) first_now second_now (sync_calls false) (image_calls journal (Some met.1)) (one, two) met.3;
+        },
+      )
