@@ -1,5 +1,6 @@
 //! Opening a host that is kept.
 ghost use Rattle.std.specs.Prelude.{◌≡◌, ◌⊎◌, ◌≤◌, IfErr, IfOk, IsTrue};
+ghost use Rattle.ps_ports.specs.Causes.{Rose};
 ghost use Rattle.ps_time.specs.declared.moment.TheConstants.{MAX_MOMENT};
 ghost use Rattle.host_journal.specs.Pair.{pair_of};
 ghost use Rattle.host_journal.specs.State.{is_ready, EachImage, first_disk, second_disk};
@@ -59,7 +60,11 @@ pub fn open<D: Disk>(
     ensures book { D.premise → IfOk result (λ keep. (before : Book) × StandsEither StandsNow StoodOnce (record { config = config; book = before }) (pair_of (D.seen first) (D.seen second))
         × (keep.machine.standing.book ≡ step_book config before clock OpenInput)) }
     ensures durable { D.premise → IfOk result (λ keep. EachImage D.may_leave keep.journal (StandsFor StandsNow keep.machine.standing)) }
+    ensures ready { IfOk result (λ keep. IsTrue (is_ready keep.journal.pending)) }
     ensures nothing { D.premise → IfErr result (λ f. (place : _) → f.reason ≡ KeepReason.NotAJournal place → (b : Book) → StandsEither StandsNow StoodOnce (record { config = config; book = b }) (pair_of (D.seen first) (D.seen second)) → ⊥) }
+    ensures fault { IfErr result (λ f. f.reason ≡ KeepReason.DiskFault → Rose (D.disk_faults first) (D.disk_faults f.first) ⊎ Rose (D.disk_faults second) (D.disk_faults f.second)) }
+    ensures calm { IfOk result (λ keep. (D.disk_faults (first_disk keep.journal) ≡ D.disk_faults first) × (D.disk_faults (second_disk keep.journal) ≡ D.disk_faults second)) }
+    ensures calm_err { IfErr result (λ f. (f.reason ≡ KeepReason.DiskFault → ⊥) → (D.disk_faults f.first ≡ D.disk_faults first) × (D.disk_faults f.second ≡ D.disk_faults second)) }
 {
     match Keep::open(alloc, config, first, second) {
         Ok(keep) => begin(alloc, keep, clock),
@@ -89,7 +94,11 @@ fn begin<D: Disk>(
     ensures config { IfOk result (λ k. k.machine.standing.config ≡ keep.machine.standing.config) }
     ensures book { D.premise → IfOk result (λ k. k.machine.standing.book ≡ step_book keep.machine.standing.config keep.machine.standing.book clock OpenInput) }
     ensures durable { D.premise → IfOk result (λ k. EachImage D.may_leave k.journal (StandsFor StandsNow k.machine.standing)) }
+    ensures ready { IfOk result (λ k. IsTrue (is_ready k.journal.pending)) }
     ensures no_place { IfErr result (λ f. (place : _) → f.reason ≡ KeepReason.NotAJournal place → ⊥) }
+    ensures fault { IfErr result (λ f. f.reason ≡ KeepReason.DiskFault → Rose (D.disk_faults (first_disk keep.journal)) (D.disk_faults f.first) ⊎ Rose (D.disk_faults (second_disk keep.journal)) (D.disk_faults f.second)) }
+    ensures calm { IfOk result (λ k. (D.disk_faults (first_disk k.journal) ≡ D.disk_faults (first_disk keep.journal)) × (D.disk_faults (second_disk k.journal) ≡ D.disk_faults (second_disk keep.journal))) }
+    ensures calm_err { IfErr result (λ f. (f.reason ≡ KeepReason.DiskFault → ⊥) → (D.disk_faults f.first ≡ D.disk_faults (first_disk keep.journal)) × (D.disk_faults f.second ≡ D.disk_faults (second_disk keep.journal))) }
 {
     let mut keep = keep;
     keep.known();
@@ -110,6 +119,8 @@ fn begin<D: Disk>(
 
 fn reason_of(reason: OpenReason) -> KeepReason
     ensures place { (place : _) → result ≡ KeepReason.NotAJournal place → reason ≡ OpenReason.NotAJournal place }
+    ensures disk { result ≡ KeepReason.DiskFault → reason ≡ OpenReason.DiskFault }
+    ensures no_disk { (result ≡ KeepReason.DiskFault → ⊥) → reason ≡ OpenReason.DiskFault → ⊥ }
 {
     match reason {
         OpenReason::NotAJournal(place) => KeepReason::NotAJournal(place),
@@ -119,6 +130,8 @@ fn reason_of(reason: OpenReason) -> KeepReason
 }
 
 fn refused<D: Disk>(keep: Keep<Host, D>, reason: KeepReason) -> KeepFault<D>
+    ensures first { result.first ≡ first_disk keep.journal }
+    ensures second { result.second ≡ second_disk keep.journal }
     ensures reason { result.reason ≡ reason }
 {
     let (first, second) = keep.into_disks();

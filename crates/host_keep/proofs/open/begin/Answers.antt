@@ -8,18 +8,12 @@ use Rattle.host_keep.specs.declared.call.HostCall.{HostCall}
 use Rattle.host_keep.proofs.open.begin.Goals as goal
 
 -- no step was unsure, so the first one is of the host that was opened
-pub returns-in-Ok : goal.returns-in-Ok
-returns-in-Ok g c =
+pub returns-in-Ok-clause-book : goal.returns-in-Ok-clause-book
+returns-in-Ok-clause-book g c p =
     let s : Standing = c.args.keep.machine.standing in
     let call : HostCall = record { clock = c.args.clock; input = Open } in
     let stood = has_record c.args.keep.journal.pending (stored g.D.Disk.seen c.args.keep.journal) in
     let is : caught after s c.args.keep.unsure stood ≡ s = ap (λ u. caught after s u stood) (c.known.ensures.sure c.requires.ready) in
-    record {
-      config = c.in-Ok.ensures.fixed;
-      book = λ p.
-          let done = c.in-Ok.ensures.done p in
-          let answers = subst (λ (x : Standing). Answers x call c.in-Ok.reply done.0) is done.1 in
-          ap (λ (x : Standing). x.book) (done.2 ∙ ap (λ x. after_step after x done.0) is) ∙ book_answered s call c.in-Ok.reply done.0 answers;
-      durable = λ p. c.in-Ok.ensures.durable p;
-      no_place = tt;
-    }
+    let done = c.in-Ok.ensures.done p in
+    let answers = subst (λ (x : Standing). Answers x call c.in-Ok.reply done.0) is done.1 in
+    ap (λ (x : Standing). x.book) (done.2 ∙ ap (λ x. after_step after x done.0) is) ∙ book_answered s call c.in-Ok.reply done.0 answers
