@@ -13,7 +13,7 @@ use crate::goes_on::{
 };
 use host_book::book::HostBook;
 use host_model::change::Change;
-use lawful_check::epochs::law_one_kept;
+use limit_apply::kept::law_one_kept;
 use limit_apply::limits::Limits;
 use ps_time::memory::Memory;
 use std::alloc::Global;

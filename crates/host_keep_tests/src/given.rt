@@ -13,7 +13,7 @@ use host_keep::open::open;
 use host_model::config::{Config, Peer};
 use host_model::input::Input;
 use host_model::reply::Reply;
-use lawful_check::epochs::law_one_kept;
+use limit_apply::kept::law_one_kept;
 use limit_apply::limits::Limits;
 use machine_keep::fault::StepFault;
 use machine_keep::keep::Keep;

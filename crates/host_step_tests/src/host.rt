@@ -11,7 +11,7 @@ use host_model::config::{Config, Peer};
 use host_model::input::Input;
 use host_model::reply::Reply;
 use host_step::act::act;
-use lawful_check::epochs::law_one_kept;
+use limit_apply::kept::law_one_kept;
 use limit_apply::limits::Limits;
 use ps_time::items::Items;
 use ps_time::memory::Memory;

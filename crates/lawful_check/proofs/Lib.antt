@@ -1,3 +1,2 @@
 mod ApartLemmas
-mod KeptLemmas
 mod ReadLemmas

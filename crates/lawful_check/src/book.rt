@@ -11,12 +11,12 @@ ghost use Rattle.host_codec.specs.FirstFormat.{IsFirstSnapshot};
 ghost use Rattle.lawful_check.specs.ReadBook.{IsReadBook};
 
 use crate::clash::are_apart;
-use crate::epochs::law_kept;
 use crate::tasks::are_tasks;
 use book_check::host_row::are_host_rows;
 use book_check::order::are_ascending;
 use book_check::pairs::{are_known, are_of_rows};
 use host_codec::book::{BookParts, law_read};
+use limit_apply::kept::law_kept;
 use part_core::fit::MOST_ROWS;
 use ps_time::memory::Memory;
 use ps_time::moment::MAX_MOMENT;

@@ -3,5 +3,4 @@
 
 pub mod book;
 pub mod clash;
-pub mod epochs;
 pub mod tasks;

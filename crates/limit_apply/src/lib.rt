@@ -3,6 +3,7 @@
 
 pub mod application;
 pub mod bare;
+pub mod kept;
 pub mod limits;
 pub mod open;
 pub mod read;

@@ -10,7 +10,7 @@ use crate::fields::Fields;
 use crate::kind::kind_of;
 use crate::lines::{Content, Read, read_by_kind};
 use crate::script::{Numbered, Reason, Script, ScriptFault, ScriptHost, ScriptLine};
-use lawful_check::epochs::law_one_kept;
+use limit_apply::kept::law_one_kept;
 use ps_time::items::Items;
 use ps_time::memory::Memory;
 use std::alloc::Global;

@@ -1,6 +1,6 @@
 use Rattle.std.proofs.Common.{All, take}
 use Rattle.limit_apply.specs.Read.{IsKept}
-use Rattle.lawful_check.proofs.epochs.law_kept.Given as goal
+use Rattle.limit_apply.proofs.kept.law_kept.Given as goal
 
 -- each so far
 abbrev pub invariant-loop-limits : goal.invariant-loop-limits

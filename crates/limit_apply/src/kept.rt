@@ -2,7 +2,7 @@
 ghost use Rattle.std.specs.Prelude.{◌<◌, ◌^◌, All};
 ghost use Rattle.limit_apply.specs.Read.{IsKept};
 
-use limit_apply::limits::Limits;
+use crate::limits::Limits;
 
 /// A law: each of them is read again from its text.
 pub fn law_kept(epochs: &[Limits])

@@ -1,8 +1,8 @@
 use Rattle.limit_apply.specs.Read.{config_in}
 use Rattle.std.proofs.Common.{◌≡◌, Ok, ◌<◌, ◌^◌, ℕ, ap, subst}
 use Rattle.limit_apply.specs.declared.limits.Counts.{Counts}
-use Rattle.lawful_check.proofs.KeptLemmas.{config_bounded}
-use Rattle.lawful_check.proofs.epochs.law_one_kept.Goals as goal
+use Rattle.limit_apply.proofs.KeptLemmas.{config_bounded}
+use Rattle.limit_apply.proofs.kept.law_one_kept.Goals as goal
 
 pub returns : goal.returns
 returns c =
