@@ -31,7 +31,8 @@ pub fn body_bytes(alloc: Global, value: &Value) -> Result<Items<u8>, Memory>
     Ok(Items::from_vec(write_tree(alloc, value)?))
 }
 
-fn reply_status(reply: &Reply) -> u16
+/// The status of HTTP with which a reply is shown.
+pub fn reply_status(reply: &Reply) -> u16
     ensures { result ≡ reply_status reply.now }
 {
     match reply {

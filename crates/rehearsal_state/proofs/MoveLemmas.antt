@@ -2,7 +2,6 @@
 use Rattle.std.proofs.Common.{◌≡◌, ◌+◌, ◌++◌, ◌<◌, ◌∷◌, ◌∙◌, Bool, List, None, Option, Some, [], ap, append_assoc, false, length, refl, sym, true, ℕ}
 use Rattle.std.proofs.lemmas.Grind.{get_or-set_at}
 use Rattle.std.proofs.lemmas.List.{append-nil, length-append}
-use Rattle.api_reply.specs.Replies.{reply_status}
 use Rattle.host_model.specs.declared.config.Config.{Config}
 use Rattle.host_model.specs.declared.input.Input.{Input}
 use Rattle.host_model.specs.declared.input.Input.TheVariants.{Turn}
@@ -14,7 +13,7 @@ use Rattle.psched_script.specs.declared.script.ScriptHost.{ScriptHost}
 use Rattle.rehearsal_model.specs.After.{arrived_at}
 use Rattle.rehearsal_model.specs.Moves.{Move.Arrives, Move.Asks, Move.Lost, Move.Rests, Move.Retools, Move.Tries, Move.Turns, is_untold, letter_of, numbers_from, receiver, replied, replies, reply_to, sent_by}
 use Rattle.rehearsal_model.specs.Seen.{Seen, acted, landed, message, nobody, stage_at}
-use Rattle.rehearsal_state.specs.Moved.{sent_of, status_by, status_told, with_letters, with_move, with_step, with_tools}
+use Rattle.rehearsal_state.specs.Moved.{sent_of, with_letters, with_move, with_step, with_tools}
 
 -- ---- letters
 abbrev made : Seen → List Letter → List ℕ → Seen
@@ -91,9 +90,3 @@ module _ (hosts : List ScriptHost) (b : Seen) (n clock : ℕ) (l : Letter) (sent
   replied_to is said said_is =
       ap (λ r. with_letters (with_step (record b { flying = landed n b.flying }) (receiver hosts l) clock (brings l l.reply)) (record l { reply = Some r } ∷ [])) said_is
       ∙ (ap (landed_by hosts b n clock l) (sym is) ∙ ap (landed_with hosts b n clock) (sym sent))
-
-  pub status_none : (said : Reply) → l.reply ≡ Some said → None ≡ status_told hosts b clock (message b n)
-  status_none said is = ap (status_by hosts b clock l) (sym is) ∙ ap (status_told hosts b clock) (sym sent)
-
-  pub status_some : l.reply ≡ None → Some (reply_status (reply_to hosts b clock l)) ≡ status_told hosts b clock (message b n)
-  status_some is = ap (status_by hosts b clock l) (sym is) ∙ ap (status_told hosts b clock) (sym sent)

@@ -1,14 +1,12 @@
 -- What is seen after a move, at the same greatest moment.
-use Rattle.std.specs.Prelude.{◌++◌, ◌+◌, List, None, Option, Some, filter, filter_map, length, set, ℕ}
-use Rattle.api_reply.specs.Replies.{reply_status}
+use Rattle.std.specs.Prelude.{◌++◌, ◌+◌, List, filter, filter_map, length, set, ℕ}
 use Rattle.host_model.specs.declared.config.Config.{Config}
 use Rattle.host_model.specs.declared.input.Input.{Input}
 use Rattle.host_model.specs.declared.order.Order.{Order}
-use Rattle.host_model.specs.declared.reply.Reply.{Reply}
 use Rattle.psched_world.specs.World.{Letter}
 use Rattle.psched_script.specs.declared.script.ScriptHost.{ScriptHost}
 use Rattle.rehearsal_model.specs.After.{stages_after, stepped_at}
-use Rattle.rehearsal_model.specs.Moves.{Move, flying_after, is_untold, joining, letter_of, numbers_from, reply_to}
+use Rattle.rehearsal_model.specs.Moves.{Move, flying_after, is_untold, joining, letter_of, numbers_from}
 use Rattle.rehearsal_model.specs.Rehearsal.{retooled}
 use Rattle.rehearsal_model.specs.Seen.{Seen, book_at, config_at}
 
@@ -31,12 +29,3 @@ with_letters b letters = record b { letters = b.letters ++ letters; flying = b.f
 -- what a host with this configuration sends of these orders
 abbrev pub sent_of : Seen → Config → List Order → List Letter
 sent_of b c os = filter_map (letter_of c) (filter (is_untold b) os)
-
--- ---- the status with which a letter is answered that arrives; none where it is a reply
-abbrev pub status_by : List ScriptHost → Seen → ℕ → Letter → Option Reply → Option ℕ
-status_by hosts b clock l None = Some (reply_status (reply_to hosts b clock l))
-status_by hosts b clock l (Some said) = None
-
-abbrev pub status_told : List ScriptHost → Seen → ℕ → Option Letter → Option ℕ
-status_told hosts b clock None = None
-status_told hosts b clock (Some l) = status_by hosts b clock l l.reply

@@ -9,6 +9,7 @@ ghost use Rattle.api_reply.specs.Replies.{answered};
 ghost use Rattle.api_reply.specs.Shown.{error};
 ghost use Rattle.rehearsal_model.specs.Requests.{asks, delete, get, is_target, is_too_large, or_refused, post, request_to};
 
+use api_body::bodies::MOST_BODY;
 use api_input::refusal::Refusal;
 use api_input::understand::read_input;
 use api_refusal::refusal::refuse;
@@ -22,9 +23,6 @@ use ps_time::memory::Memory;
 use ps_time::moment::Moment;
 use ps_time::text::Text;
 use std::alloc::Global;
-
-/// The most bytes of the body of a request.
-const MAX_BODY: usize = 1_048_576;
 
 /// What a request comes to: what it asks, or the response that refuses it.
 pub type Asked = Result<Input, Response>;
@@ -138,7 +136,7 @@ fn is_target(target: &str) -> bool
 fn is_too_large(target: &str, body: &str) -> bool
     ensures { result ≡ is_too_large target.now body.now }
 {
-    target.len() > MAX_HEAD as usize || body.len() > MAX_BODY
+    target.len() > MAX_HEAD as usize || body.len() > MOST_BODY
 }
 
 // The response of a refusal that says no more than this.
