@@ -49,7 +49,7 @@ pub lost : (hosts : List ScriptHost) (b : Seen) (n : ℕ) → record b { flying 
 lost hosts b n = sym (letters_none (record b { flying = landed n b.flying }))
 
 -- ---- a turn
-stage_stepped : (b : Seen) (place clock : ℕ) (i : Input) → place < length b.stages → stage_at (with_step b place clock i) place ≡ acted (stage_at b place) clock i
+pub stage_stepped : (b : Seen) (place clock : ℕ) (i : Input) → place < length b.stages → stage_at (with_step b place clock i) place ≡ acted (stage_at b place) clock i
 stage_stepped b place clock i lt = get_or-set_at b.stages place place (acted (stage_at b place) clock i) nobody refl lt
 
 pub turned : (hosts : List ScriptHost) (b : Seen) (place clock : ℕ) → place < length b.stages
