@@ -1,7 +1,7 @@
 -- A group of a turn over the keys of the rows that weren't still at its start is the group over all rows.
 use Rattle.std.specs.Ordering.{is_eq}
 use Rattle.std.specs.List.{AllByRecursion}
-use Rattle.std.proofs.Common.{◌≡◌, ℕ, Bool, true, false, not, cond, ◌&&◌, ◌||◌, nat_le, List, [], ◌∷◌, map, filter, find, Option, Some, None, is_some, option_map, option_and_then, unwrap_or, refl, ap, ap₂, sym, subst, ◌∙◌}
+use Rattle.std.proofs.Common.{◌≡◌, ℕ, Bool, true, false, not, cond, ◌&&◌, ◌||◌, nat_le, List, [], ◌∷◌, length, map, filter, find, Option, Some, None, is_some, option_map, option_and_then, unwrap_or, refl, ap, ap₂, sym, subst, ◌∙◌}
 use Rattle.std.proofs.lemmas.List.Elements.{recursion_from_All}
 use Rattle.ps_time.specs.Key.{key_cmp}
 use Rattle.ps_time.specs.Span.{Range}
@@ -45,10 +45,10 @@ use Rattle.host_model.proofs.RowLemmas.{all_of_found}
 use Rattle.host_model.proofs.Standing.{changed_key, changed_row, find_row-map}
 use Rattle.host_model.proofs.Wishes.{end_granted, merge_granted, plan_granted, start_granted}
 use Rattle.host_model.proofs.GrownLemmas.{settled_evolves}
-use Rattle.live_law.specs.Groups.{going_keys, make_keys, turned_by, turned_over}
-use Rattle.live_rows.specs.Still.{is_still, live_keys, live_rows}
+use Rattle.live_law.specs.Groups.{going_keys, make_keys, turned_by, turned_most, turned_over}
+use Rattle.live_rows.specs.Still.{is_still, live_keys, live_rows, StillStay}
 use Rattle.live_law.proofs.DraftLemmas.{made_keeps}
-use Rattle.live_law.proofs.PurgeLemmas.{purges_same}
+use Rattle.live_law.proofs.PurgeLemmas.{purges_live, purges_same}
 use Rattle.live_law.proofs.StillLemmas.{both, is_not, some_same, still_end, still_merge, still_parts, still_plan, still_settled, still_start}
 
 -- ---- rows that weren't accepted reserve nothing
@@ -347,4 +347,14 @@ turned_begun c m b lawful =
     let groups = led_same c m b.rows lawful.ascending d (settled_held c.number m b lawful) in
     let through : Draft = led c m b.rows lawful.ascending d (settled_held c.number m b lawful) in
     purges_same c m b.rows lawful.ascending through groups.1.keys groups.1.stand
+    ∙ ap (λ x. make_rows (purge_run c m) m (make_tasks (ask c m) m x)) groups.0
+
+-- and over those of the rows that weren't still alone, where none of the others may go and no row came
+pub turned_live : (c : Config) (m : ℕ) (b : Book) → Lawful c.number b → StillStay c.number b.rows m → length (turned_most c m (live_keys c.number b.rows) (fresh (settled m b))).book.rows ≡ length b.rows
+    → turned_by c m (live_keys c.number b.rows) (live_keys c.number b.rows) (fresh (settled m b)) ≡ turned c m (fresh (settled m b))
+turned_live c m b lawful stay many =
+    let d : Draft = fresh (settled m b) in
+    let groups = led_same c m b.rows lawful.ascending d (settled_held c.number m b lawful) in
+    let through : Draft = led c m b.rows lawful.ascending d (settled_held c.number m b lawful) in
+    purges_live c m b.rows lawful.ascending through groups.1.keys groups.1.stand stay many
     ∙ ap (λ x. make_rows (purge_run c m) m (make_tasks (ask c m) m x)) groups.0

@@ -3,14 +3,14 @@ use Rattle.std.specs.List.{AllByRecursion, list_any}
 use Rattle.std.specs.Ordering.{is_eq, match_ordering}
 use Rattle.std.specs.declared.cmp.Ordering.{Ordering}
 use Rattle.std.specs.declared.cmp.Ordering.TheVariants.{Less, Equal, Greater}
-use Rattle.std.proofs.Common.{◌≡◌, ◌⊎◌, inl, inr, ℕ, Bool, true, false, cond, ◌&&◌, ◌||◌, List, [], ◌∷◌, map, filter, Option, Some, None, is_some, option_and_then, not, refl, ap, ap₂, sym, subst, ◌∙◌}
+use Rattle.std.proofs.Common.{◌≡◌, ◌≤◌, ◌⊎◌, inl, inr, ℕ, Bool, true, false, cond, ◌&&◌, ◌||◌, List, [], ◌∷◌, length, map, filter, suc, Option, Some, None, is_some, option_and_then, not, refl, ap, ap₂, sym, subst, ◌∙◌, arith}
 use Rattle.std.specs.Prelude.{◌==◌}
 use Rattle.std.proofs.Math.Bool.{or-true}
 use Rattle.std.proofs.lemmas.List.Elements.{recursion_from_All}
 use Rattle.ps_time.specs.Key.{key_cmp}
 use Rattle.ps_time.specs.declared.asker.Asker.{Asker}
 use Rattle.ps_time.specs.declared.key.RunKey.{RunKey}
-use Rattle.run_states.specs.Purging.{is_led_out, is_long_past}
+use Rattle.run_states.specs.Purging.{is_led_out, is_later, is_long_past, is_purgeable}
 use Rattle.run_states.specs.Rows.{IsAscendingRows, find_row, lift_row, put_row}
 use Rattle.run_states.specs.declared.proposal.Question.{Question}
 use Rattle.run_states.specs.declared.row.RunRow.{RunRow}
@@ -31,7 +31,8 @@ use Rattle.host_model.proofs.RowLemmas.{all_of_found}
 use Rattle.host_model.proofs.Standing.{changed_row}
 use Rattle.host_model.proofs.Wishes.{ask_granted, purge_granted}
 use Rattle.live_law.specs.Groups.{going_keys, make_keys}
-use Rattle.live_rows.specs.Still.{is_still}
+use Rattle.live_rows.specs.Still.{is_still, live_keys, live_rows, StillStay}
+use Rattle.live_rows.proofs.StayLemmas.{fewer_stay, has_later, later_lifted}
 use Rattle.live_law.proofs.DraftLemmas.{made_keeps}
 use Rattle.live_law.proofs.StillLemmas.{some_same}
 
@@ -173,18 +174,22 @@ module _ (m : ℕ) (base : List RunRow) where
     abbrev gone : Book → RunKey → Option Change
     gone b k = option_and_then (purge_run c m b) (find_row b.rows k)
 
-    young_made : (k : RunKey) (d : Draft) → IsYoung d.book.rows → IsYoung (make m (gone d.book k) d).book.rows
-    young_made k d young = found (find_row d.book.rows k)
+    -- what each going keeps, a purge keeps
+    gone_keeps : (P : List RunRow → Type 0) → ((b : Book) (k : RunKey) → P b.rows → P (apply m (Purged k) b).rows) → (k : RunKey) (d : Draft) → P d.book.rows → P (make m (gone d.book k) d).book.rows
+    gone_keeps P keeps k d here = found (find_row d.book.rows k)
       where
-        one : (r : RunRow) (o : Option Change) → purge_run c m d.book r ≡ o → IsYoung (make m o d).book.rows
-        one r None is = young
+        one : (r : RunRow) (o : Option Change) → purge_run c m d.book r ≡ o → P (make m o d).book.rows
+        one r None is = here
         one r (Some x) is =
             let g = purge_granted c m d.book r x is in
-            made_keeps (λ b. IsYoung b.rows) m x d young (subst (λ y. IsYoung (apply m y d.book).rows) g.1 (young_purged d.book r.key young))
+            made_keeps (λ b. P b.rows) m x d here (subst (λ y. P (apply m y d.book).rows) g.1 (keeps d.book r.key here))
 
-        found : (o : Option RunRow) → IsYoung (make m (option_and_then (purge_run c m d.book) o) d).book.rows
-        found None = young
+        found : (o : Option RunRow) → P (make m (option_and_then (purge_run c m d.book) o) d).book.rows
+        found None = here
         found (Some r) = one r (purge_run c m d.book r) refl
+
+    young_made : (k : RunKey) (d : Draft) → IsYoung d.book.rows → IsYoung (make m (gone d.book k) d).book.rows
+    young_made k d young = gone_keeps IsYoung young_purged k d young
 
     young_stays : (b : Book) (k : RunKey) → IsYoung b.rows → there k ≡ false → gone b k ≡ None
     young_stays b k young new = go (find_row b.rows k) refl
@@ -237,17 +242,7 @@ module _ (c : Config) (m : ℕ) (base : List RunRow) where
   gone_purged b k stand = subst (λ rows. StandOrGone (lift_row rows k)) (sym (purged_same m b.tasks k b.rows b.rows)) (λ s r at still found. stand s r at still (lift_from k s.key b.rows r found))
 
   gone_made : (k : RunKey) (d : Draft) → StandOrGone d.book.rows → StandOrGone (make m (gone m base c d.book k) d).book.rows
-  gone_made k d stand = found (find_row d.book.rows k)
-    where
-      one : (r : RunRow) (o : Option Change) → purge_run c m d.book r ≡ o → StandOrGone (make m o d).book.rows
-      one r None is = stand
-      one r (Some x) is =
-          let g = purge_granted c m d.book r x is in
-          made_keeps (λ b. StandOrGone b.rows) m x d stand (subst (λ y. StandOrGone (apply m y d.book).rows) g.1 (gone_purged d.book r.key stand))
-
-      found : (o : Option RunRow) → StandOrGone (make m (option_and_then (purge_run c m d.book) o) d).book.rows
-      found None = stand
-      found (Some r) = one r (purge_run c m d.book r) refl
+  gone_made k d stand = gone_keeps m base c StandOrGone gone_purged k d stand
 
   -- what is neither long past nor live
   neither : (past live : Bool) → (past || not live) ≡ false → (past ≡ false) × (live ≡ true)
@@ -285,3 +280,78 @@ purges_same c m base up d same stand =
     let stood : (s : RunRow) → find_row base s.key ≡ Some s → is_still c.number s ≡ true → find_row asked.book.rows s.key ≡ Some s = stand_asks c m base (map (λ t. t.serial) d.book.tasks) d stand in
     going c m base base all asked (λ s r at still found. some_same r s (sym found ∙ stood s at still))
     ∙ (ap (λ ks. make_keys (purge_run c m) m ks asked) (sym extended.keys) ∙ skipped m base c (keys_of_rows asked.book.rows) asked extended.young)
+
+-- ---- where no row that is still may go, and no row came, only those that weren't still are looked at
+module _ (c : Config) (m : ℕ) (base : List RunRow) where
+  -- no task has a later row than before
+  abbrev Fewer : List RunRow → Type 0
+  Fewer rows = (k : RunKey) → has_later k rows ≡ true → has_later k base ≡ true
+
+  fewer_purged : (b : Book) (k : RunKey) → Fewer b.rows → Fewer (apply m (Purged k) b).rows
+  fewer_purged b k fewer = subst (λ rows. Fewer (lift_row rows k)) (sym (purged_same m b.tasks k b.rows b.rows)) (λ j later. fewer j (later_lifted j k b.rows later))
+
+  kept : (b : Book) (s : RunRow) → StandOrGone c m base b.rows → Fewer b.rows → find_row base s.key ≡ Some s → is_still c.number s ≡ true → is_purgeable c.number m base s ≡ false → gone m base c b s.key ≡ None
+  kept b s stand fewer at still stays = go (find_row b.rows s.key) refl
+    where
+      go : (o : Option RunRow) → find_row b.rows s.key ≡ o → option_and_then (purge_run c m b) o ≡ None
+      go None found = refl
+      go (Some r) found =
+          let same : r ≡ s = stand s r at still found in
+          let none : is_purgeable c.number m b.rows s ≡ false = fewer_stay c.number m base b.rows s (fewer s.key) stays in
+          ap (λ t. change_if t (Purged r.key)) (ap (is_purgeable c.number m b.rows) same ∙ none)
+
+  over_live : (rs : List RunRow) → AllByRecursion (λ s. find_row base s.key ≡ Some s) rs → AllByRecursion (λ s. is_still c.number s ≡ true → is_purgeable c.number m base s ≡ false) rs → (d : Draft) → StandOrGone c m base d.book.rows → Fewer d.book.rows
+      → make_keys (purge_run c m) m (live_keys c.number rs) d ≡ make_keys (purge_run c m) m (keys_of_rows rs) d
+  over_live [] all stay d stand fewer = refl
+  over_live (s ∷ rs) all stay d stand fewer = go (is_still c.number s) refl (over_live rs all.1 stay.1)
+    where
+      go : (t : Bool) → is_still c.number s ≡ t
+          → ((e : Draft) → StandOrGone c m base e.book.rows → Fewer e.book.rows → make_keys (purge_run c m) m (live_keys c.number rs) e ≡ make_keys (purge_run c m) m (keys_of_rows rs) e)
+          → make_keys (purge_run c m) m (keys_of_rows (cond (not t) (s ∷ live_rows c.number rs) (live_rows c.number rs))) d ≡ make_keys (purge_run c m) m (keys_of_rows (s ∷ rs)) d
+      go true is later = later d stand fewer ∙ sym (ap (λ o. make_keys (purge_run c m) m (keys_of_rows rs) (make m o d)) (kept d.book s stand fewer all.0 is (stay.0 is)))
+      go false is later = later (make m (gone m base c d.book s.key) d) (gone_made c m base s.key d stand) (gone_keeps m base c Fewer fewer_purged s.key d fewer)
+
+-- whether a later row is there is told by the keys
+later_keys : (k : RunKey) (rows : List RunRow) → has_later k rows ≡ list_any (is_later k) (keys_of_rows rows)
+later_keys k [] = refl
+later_keys k (r ∷ rs) = ap (λ t. is_later k r.key || t) (later_keys k rs)
+
+-- a filter that leaves as many leaves all
+module _ {X : Type 0} (p : X → Bool) where
+  filter_few : (xs : List X) → length (filter p xs) ≤ length xs
+  filter_few [] = omega arith
+  filter_few (x ∷ xs) = go (p x) (filter_few xs)
+    where
+      go : (t : Bool) → length (filter p xs) ≤ length xs → length (cond t (x ∷ filter p xs) (filter p xs)) ≤ suc (length xs)
+      go true few = omega (arith, few)
+      go false few = omega (arith, few)
+
+  filter_whole : (xs : List X) → length xs ≤ length (filter p xs) → filter p xs ≡ xs
+  filter_whole [] all = refl
+  filter_whole (x ∷ xs) all = go (p x) all (filter_whole xs)
+    where
+      go : (t : Bool) → suc (length xs) ≤ length (cond t (x ∷ filter p xs) (filter p xs)) → (length xs ≤ length (filter p xs) → filter p xs ≡ xs) → cond t (x ∷ filter p xs) (filter p xs) ≡ x ∷ xs
+      go true all later = ap (λ ys. x ∷ ys) (later (omega (arith, all)))
+      go false all later = let few = filter_few xs in absurd (omega (arith, all, few))
+
+count_keys : (rows : List RunRow) → length (keys_of_rows rows) ≡ length rows
+count_keys [] = refl
+count_keys (r ∷ rs) = ap suc (count_keys rs)
+
+-- the purges, where the rows are as many as these
+pub purges_live : (c : Config) (m : ℕ) (base : List RunRow) → IsAscendingRows base → (d : Draft) → keys_of_rows d.book.rows ≡ keys_of_rows base
+    → ((s : RunRow) → find_row base s.key ≡ Some s → is_still c.number s ≡ true → find_row d.book.rows s.key ≡ Some s)
+    → StillStay c.number base m → length (make_tasks (ask c m) m d).book.rows ≡ length base
+    → make_keys (purge_run c m) m (live_keys c.number base) (make_tasks (ask c m) m d) ≡ make_rows (purge_run c m) m (make_tasks (ask c m) m d)
+purges_live c m base up d same stand stay many =
+    let asked : Draft = make_tasks (ask c m) m d in
+    let all : AllByRecursion (λ s. find_row base s.key ≡ Some s) base = recursion_from_All (λ s. find_row base s.key ≡ Some s) base (all_of_found (λ s. find_row base s.key ≡ Some s) base up (λ r at. at)) in
+    let extended : Extended m base asked.book = extended_asks m base c (map (λ t. t.serial) d.book.tasks) d (extended_first m base up d.book same) in
+    let stood : (s : RunRow) → find_row base s.key ≡ Some s → is_still c.number s ≡ true → find_row asked.book.rows s.key ≡ Some s = stand_asks c m base (map (λ t. t.serial) d.book.tasks) d stand in
+    let first = count_keys asked.book.rows in
+    let second = count_keys base in
+    let third : length (filter (there m base) (keys_of_rows asked.book.rows)) ≡ length (keys_of_rows base) = ap length extended.keys in
+    let keys : keys_of_rows asked.book.rows ≡ keys_of_rows base = sym (filter_whole (there m base) (keys_of_rows asked.book.rows) (omega (arith, first, second, third, many))) ∙ extended.keys in
+    let fewer : Fewer c m base asked.book.rows = λ k later. later_keys k base ∙ (ap (list_any (is_later k)) (sym keys) ∙ (sym (later_keys k asked.book.rows) ∙ later)) in
+    over_live c m base base all (recursion_from_All (λ s. is_still c.number s ≡ true → is_purgeable c.number m base s ≡ false) base stay) asked (λ s r at still found. some_same r s (sym found ∙ stood s at still)) fewer
+    ∙ ap (λ ks. make_keys (purge_run c m) m ks asked) (sym keys)

@@ -20,11 +20,14 @@ use Rattle.live_rows.specs.Still.{is_live}
 abbrev pub make_keys : (Book → RunRow → Option Change) → ℕ → List RunKey → Draft → Draft
 make_keys wish m ks d = make_each (λ b k. option_and_then (wish b) (find_row b.rows k)) m ks d
 
+-- the first five groups: all but the purging
+abbrev pub turned_most : Config → ℕ → List RunKey → Draft → Draft
+turned_most c m live d =
+    make_tasks (ask c m) m (make_keys (plan_run c m) m live (make_keys (start_run m) m live (make_keys (merge_run c m) m live (make_keys (end_run c m) m live d))))
+
 -- the six groups
 abbrev pub turned_over : Config → ℕ → List RunKey → Draft → Draft
-turned_over c m live d =
-    make_rows (purge_run c m) m (make_tasks (ask c m) m (
-    make_keys (plan_run c m) m live (make_keys (start_run m) m live (make_keys (merge_run c m) m live (make_keys (end_run c m) m live d)))))
+turned_over c m live d = make_rows (purge_run c m) m (turned_most c m live d)
 
 -- the keys of the rows that may go at m: those that aren't still, and those that are long past
 abbrev pub going_keys : ℕ → ℕ → List RunRow → List RunKey
@@ -32,6 +35,4 @@ going_keys self m rows = keys_of_rows (filter (λ r. is_long_past m r || is_live
 
 -- the same, where the last goes over these keys
 abbrev pub turned_by : Config → ℕ → List RunKey → List RunKey → Draft → Draft
-turned_by c m live keys d =
-    make_keys (purge_run c m) m keys (make_tasks (ask c m) m (
-    make_keys (plan_run c m) m live (make_keys (start_run m) m live (make_keys (merge_run c m) m live (make_keys (end_run c m) m live d)))))
+turned_by c m live keys d = make_keys (purge_run c m) m keys (turned_most c m live d)

@@ -1,9 +1,9 @@
 -- Which rows are still: whatever the moment, nothing more comes of them, but that they are purged.
 use Rattle.std.specs.List.{list_all}
-use Rattle.std.specs.Prelude.{◌&&◌, ◌==◌, ◌||◌, Bool, List, filter, if◌then◌else◌, is_some, map, not, ℕ}
+use Rattle.std.specs.Prelude.{◌&&◌, ◌==◌, ◌||◌, ◌≡◌, All, Bool, List, false, filter, if◌then◌else◌, is_some, map, not, true, ℕ}
 use Rattle.ps_time.specs.declared.key.RunKey.{RunKey}
 use Rattle.run_states.specs.Life.{is_active}
-use Rattle.run_states.specs.Purging.{is_settled_archive}
+use Rattle.run_states.specs.Purging.{is_purgeable, is_settled_archive}
 use Rattle.run_states.specs.declared.answer.Other.{Other}
 use Rattle.run_states.specs.declared.row.RunRow.{RunRow}
 
@@ -40,3 +40,7 @@ live_rows self rows = filter (is_live self) rows
 -- and their keys
 abbrev pub live_keys : ℕ → List RunRow → List RunKey
 live_keys self rows = map (λ r. r.key) (live_rows self rows)
+
+-- none of these rows that is still may go at m
+abbrev pub StillStay : ℕ → List RunRow → ℕ → Type 0
+StillStay self rows m = All (λ r. is_still self r ≡ true → is_purgeable self m rows r ≡ false) rows

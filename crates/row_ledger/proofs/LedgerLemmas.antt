@@ -39,7 +39,7 @@ put_recursion P r (x ∷ xs) here all =
       | Greater ↦ (here, all)
     ]
 
-all_put : (P : RunRow → Type 0) (r : RunRow) (rows : List RunRow) → P r → All P rows → All P (put_row rows r)
+pub all_put : (P : RunRow → Type 0) (r : RunRow) (rows : List RunRow) → P r → All P rows → All P (put_row rows r)
 all_put P r rows here all = All-from_recursion P (put_row rows r) (put_recursion P r rows here (recursion_from_All P rows all))
 
 module _ (f : RunRow → RunRow) (same : (r : RunRow) → (f r).key ≡ r.key) (rows : List RunRow) (bytes until : ℕ) (k : RunKey) (n : ℕ) (counted : IsCounted rows bytes until) (up : IsAscendingRows rows)

@@ -4,3 +4,4 @@ pub mod LastLemmas
 pub mod LedgerLemmas
 pub mod LiveLemmas
 pub mod RowLemmas
+pub mod StayLemmas

@@ -121,7 +121,7 @@ module _ (n : ℕ) where
           ∙ ap (live_keys n) (put_back rows k r (f r) up at key ∙ sym (change_found f k r rows up at)))
 
   -- ---- a new row
-  found_put : (rows : List RunRow) (r : RunRow) → find_row rows r.key ≡ None → find_row (put_row rows r) r.key ≡ Some r
+  pub found_put : (rows : List RunRow) (r : RunRow) → find_row rows r.key ≡ None → find_row (put_row rows r) r.key ≡ Some r
   found_put [] r none = ap (λ c. cond (is_eq c) (Some r) None) (key_cmp_same r.key)
   found_put (x ∷ xs) r none = go (key_cmp x.key r.key) refl none (found_put xs r)
     where

@@ -72,7 +72,7 @@ module _ (f : RunRow → RunRow) where
   change_none k (r ∷ rs) all = ap₂ (λ b l. cond b (f r) r ∷ l) all.0 (change_none k rs all.1)
 
   module _ (same : (r : RunRow) → (f r).key ≡ r.key) where
-    either_key : (b : Bool) (r : RunRow) → (cond b (f r) r).key ≡ r.key
+    pub either_key : (b : Bool) (r : RunRow) → (cond b (f r) r).key ≡ r.key
     either_key true r = same r
     either_key false r = refl
 
@@ -111,19 +111,21 @@ module _ (f : RunRow → RunRow) where
             (bytes_cons r (change_row f rs k)) (bytes_cons r rs) later
             ∙ sym (ap (λ b. result_bytes (r ∷ rs) + bytes_at (cond b (Some r) (find_row (change_row f rs k) k))) is)
 
+    -- what holds of the changed row
+    module _ (P : RunRow → Type 0) where
+      pub own_row : (rows : List RunRow) (k : RunKey) (o : Option RunRow) → find_row rows k ≡ o → IfSome (find_row (change_row f rows k) k) P → IfSome o (λ r. P (f r))
+      own_row rows k None at holds = tt
+      own_row rows k (Some r) at holds = go (is_eq (key_cmp r.key k)) (found_is k rows r at) (subst (λ o. IfSome o P) (found_change rows k k ∙ ap (option_map (λ x. cond (is_eq (key_cmp x.key k)) (f x) x)) at) holds)
+        where
+          go : (b : Bool) → b ≡ true → P (cond b (f r) r) → P (f r)
+          go true is holds = holds
+          go false is holds = cc
+
     -- before an earlier moment none lapses, if the changed row doesn't
     module _ (next : ℕ) where
-      own_row : (rows : List RunRow) (k : RunKey) (o : Option RunRow) → find_row rows k ≡ o → IfSome (find_row (change_row f rows k) k) (StandsUntil next) → IfSome o (λ r. StandsUntil next (f r))
-      own_row rows k None at stands = tt
-      own_row rows k (Some r) at stands = go (is_eq (key_cmp r.key k)) (found_is k rows r at) (subst (λ o. IfSome o (StandsUntil next)) (found_change rows k k ∙ ap (option_map (λ x. cond (is_eq (key_cmp x.key k)) (f x) x)) at) stands)
-        where
-          go : (b : Bool) → b ≡ true → StandsUntil next (cond b (f r) r) → StandsUntil next (f r)
-          go true is stands = stands
-          go false is stands = cc
-
       pub stand_changed : (rows : List RunRow) (k : RunKey) (until : ℕ) → IsAscendingRows rows → next ≤ until → All (StandsUntil until) rows → IfSome (find_row (change_row f rows k) k) (StandsUntil next) → All (StandsUntil next) (change_row f rows k)
       stand_changed rows k until up sooner stand here =
-          changed_all (StandsUntil until) (StandsUntil next) (λ r stands m before. stands m (omega (arith, before, sooner))) f k (λ r. StandsUntil next (f r)) (λ r own stands. own) rows up (own_row rows k (find_row rows k) refl here) stand
+          changed_all (StandsUntil until) (StandsUntil next) (λ r stands m before. stands m (omega (arith, before, sooner))) f k (λ r. StandsUntil next (f r)) (λ r own stands. own) rows up (own_row (StandsUntil next) rows k (find_row rows k) refl here) stand
 
 -- ---- a row that comes or goes
 three : (a b c d x y : ℕ) → a ≡ x + b → b ≡ c + y → d ≡ x + c → a ≡ d + y

@@ -1,6 +1,7 @@
 -- What is counted over rows.
-use Rattle.std.specs.Prelude.{◌≡◌, ◌<◌, ◌≤◌, All, Bool, List, None, Option, Some, false, length, ℕ}
+use Rattle.std.specs.Prelude.{◌≡◌, ◌<◌, ◌≤◌, All, Bool, List, None, Option, Some, false, length, true, ℕ}
 use Rattle.run_states.specs.Life.{HasMoments, lapse_of}
+use Rattle.run_states.specs.Purging.{is_purgeable}
 use Rattle.run_states.specs.ResultBytes.{bytes_in, result_bytes, row_bytes}
 use Rattle.run_states.specs.declared.answer.Answer.{Answer}
 use Rattle.run_states.specs.declared.answer.Answer.TheVariants.{Free, Accepted, Acknowledged, Result}
@@ -10,7 +11,7 @@ use Rattle.run_states.specs.declared.life.LifeStep.{LifeStep}
 use Rattle.run_states.specs.declared.life.LifeStep.TheVariants.{Confirm, Start, End, Close}
 use Rattle.run_states.specs.declared.row.RunRow.{RunRow}
 use Rattle.live_rows.specs.LiveKeys.{LiveKeys}
-use Rattle.live_rows.specs.Still.{is_live, live_keys}
+use Rattle.live_rows.specs.Still.{is_live, is_still, live_keys}
 
 -- the rows of a host, ascending by key, and how many more fit
 pub record Ledger : Type 0 where
@@ -30,6 +31,10 @@ most_counted = 18_446_744_073_709_551_615
 -- the row doesn't lapse before this moment
 abbrev pub StandsUntil : ℕ → RunRow → Type 0
 StandsUntil until r = (m : ℕ) → m < until → lapse_of m r ≡ None
+
+-- where it is still, the row of a host that keeps these may not go before this moment
+abbrev pub StaysUntil : ℕ → List RunRow → ℕ → RunRow → Type 0
+StaysUntil self rows until r = (m : ℕ) → m < until → is_still self r ≡ true → is_purgeable self m rows r ≡ false
 
 -- the bytes of the results of a row that may be there
 abbrev pub bytes_at : Option RunRow → ℕ
@@ -69,8 +74,9 @@ pub record IsCounted (rows : List RunRow) (bytes next_lapse : ℕ) : Type 0 wher
   pub kept : bytes ≡ result_bytes rows
   pub stand : All (StandsUntil next_lapse) rows
 
--- that, and the keys of the rows that aren't still, with a place for each row
-pub record IsKept (number : ℕ) (rows : List RunRow) (bytes next_lapse : ℕ) (ks : LiveKeys) : Type 0 where
+-- that, the keys of the rows that aren't still, with a place for each row, and none that is may go before the next purge
+pub record IsKept (number : ℕ) (rows : List RunRow) (bytes next_lapse next_purge : ℕ) (ks : LiveKeys) : Type 0 where
   pub counted : IsCounted rows bytes next_lapse
   pub live : ks.list ≡ live_keys number rows
   pub places : length rows ≤ ks.places
+  pub stay : All (StaysUntil number rows next_purge) rows

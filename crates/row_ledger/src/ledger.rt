@@ -1,4 +1,5 @@
-//! Rows, with the bytes of their results, a moment before which none of them lapses, and the keys of those that aren't still.
+//! Rows, with the bytes of their results, a moment before which none of them lapses, the keys of those that aren't still, and a
+//! moment before which none of the others may go.
 ghost use Rattle.std.specs.Prelude.{◌≡◌, ◌≤◌, ◌<◌, ◌+◌, ◌-◌, ℕ, [], All, IfOk, IfSome, IsFalse, OnOk, None, length, min};
 ghost use Rattle.run_states.specs.Effect.{noted_row};
 ghost use Rattle.run_states.specs.LawfulRow.{BringsResult, BringsResults};
@@ -7,11 +8,12 @@ ghost use Rattle.run_states.specs.declared.why.Why.TheVariants.{Preempted};
 ghost use Rattle.run_states.specs.ResultBytes.{result_bytes as bytes_of_rows, row_bytes};
 ghost use Rattle.run_states.specs.Rows.{change_row, find_row, lift_row, put_row, IsAscendingRows};
 ghost use Rattle.live_rows.specs.LiveKeys.{marked};
-ghost use Rattle.live_rows.specs.Still.{live_keys};
+ghost use Rattle.live_rows.specs.Still.{live_keys, StillStay};
 ghost use Rattle.row_ledger.specs.Ledger.{bytes_at, fact_bytes, is_live_at, most_counted, step_bytes, StandsUntil};
 ghost use Rattle.row_ledger.specs.Closing.{closed_each};
 
 use crate::restore::restored_rows;
+use crate::staying::{newest_beside, next_purge, sooner};
 use host_timeline::booking::Booking;
 use host_timeline::timeline::Timeline;
 use live_rows::live_keys::LiveKeys;
@@ -41,6 +43,10 @@ pub struct Ledger {
     number: u16,
     // the keys of the rows that aren't still, with a place for each row
     live: LiveKeys,
+    // no other row may go before this moment
+    next_purge: Moment,
+    // rows went since that moment was looked for among all rows
+    has_gone: bool,
 }
 
 impl Model for Ledger {
@@ -51,7 +57,7 @@ impl Model for Ledger {
 
     ghost view = { λ l. record { number = l.number; list = l.rows.list; room = min l.rows.room (l.live.places - length l.rows.list) } };
 
-    ghost invariant = { λ l. IsKept l.number l.rows.list l.bytes l.next_lapse l.live };
+    ghost invariant = { λ l. IsKept l.number l.rows.list l.bytes l.next_lapse l.next_purge l.live };
 }
 
 impl Ledger {
@@ -66,6 +72,8 @@ impl Ledger {
             next_lapse: Moment::MAX,
             number,
             live: LiveKeys::new(alloc),
+            next_purge: Moment::MAX,
+            has_gone: false,
         }
     }
 
@@ -81,6 +89,7 @@ impl Ledger {
         let rows = restored_rows(alloc, rows)?;
         let bytes = counted_bytes(rows.list())?;
         let next_lapse = next_lapse(rows.list());
+        let next_purge = next_purge(&rows, number);
         live.refill(rows.list(), number);
         Ok(Ledger {
             rows,
@@ -88,6 +97,8 @@ impl Ledger {
             next_lapse,
             number,
             live,
+            next_purge,
+            has_gone: false,
         })
     }
 
@@ -148,6 +159,31 @@ impl Ledger {
         self.rows.settle(moment);
         self.next_lapse = next_lapse(self.rows.list());
         self.live.refill(self.rows.list(), self.number);
+        self.next_purge = next_purge(&self.rows, self.number);
+        self.has_gone = false;
+    }
+
+    /// Whether a row that is still may go at the moment. Once rows went, it may say so for nothing until `review_purges`.
+    pub fn may_purge(&self, moment: Moment) -> bool
+        ensures { IsFalse result → StillStay self.now.number self.now.list moment }
+    {
+        if moment < self.next_purge {
+            return false;
+        }
+        true
+    }
+
+    /// Where rows went since, looks among all for the first moment at which one that is still may go.
+    pub fn review_purges(&mut self)
+        ensures number { self.new.number ≡ self.old.number }
+        ensures same { self.new.list ≡ self.old.list }
+        ensures room { self.new.room ≡ self.old.room }
+    {
+        if !self.has_gone {
+            return;
+        }
+        self.next_purge = next_purge(&self.rows, self.number);
+        self.has_gone = false;
     }
 
     /// Sets what a step of life sets in the row of the key.
@@ -164,6 +200,7 @@ impl Ledger {
         let after = bytes_at(&self.rows, key);
         self.bytes = self.bytes - before + after;
         self.next_lapse = self.next_lapse.min(stands_at(&self.rows, key));
+        self.next_purge = sooner(self.next_purge, &self.rows, key, self.number);
         review(&mut self.live, &self.rows, key, self.number);
     }
 
@@ -181,6 +218,7 @@ impl Ledger {
         let after = bytes_at(&self.rows, key);
         self.bytes = self.bytes - before + after;
         self.next_lapse = self.next_lapse.min(stands_at(&self.rows, key));
+        self.next_purge = sooner(self.next_purge, &self.rows, key, self.number);
         review(&mut self.live, &self.rows, key, self.number);
     }
 
@@ -197,7 +235,10 @@ impl Ledger {
         self.next_lapse = self.next_lapse.min(stands_until(&row));
         let _ = self.rows.list();
         let key = row.key;
+        let older = newest_beside(&self.rows, key);
         self.rows.put(row);
+        let own = sooner(self.next_purge, &self.rows, key, self.number);
+        self.next_purge = sooner(own, &self.rows, older, self.number);
         review(&mut self.live, &self.rows, key, self.number);
     }
 
@@ -210,6 +251,7 @@ impl Ledger {
         self.bytes -= bytes_at(&self.rows, key);
         self.rows.purge(key);
         self.live.mark(key, false);
+        self.has_gone = true;
     }
 
     /// Closes the rows of the reservations in conflict with the run, in favour of it.

@@ -4,11 +4,12 @@ use Rattle.run_states.specs.Life.{HasMoments}
 use Rattle.run_states.specs.ResultBytes.{result_bytes}
 use Rattle.run_states.specs.Rows.{change_row, find_row}
 use Rattle.run_states.proofs.Place.{noted_key}
-use Rattle.row_ledger.specs.Ledger.{IsCounted, Ledger, StandsUntil, bytes_at, fact_bytes, is_live_at, most_counted}
+use Rattle.row_ledger.specs.Ledger.{IsCounted, Ledger, StandsUntil, StaysUntil, bytes_at, fact_bytes, is_live_at, most_counted}
 use Rattle.live_rows.specs.LiveKeys.{marked}
 use Rattle.live_rows.specs.Still.{live_keys}
 use Rattle.row_ledger.proofs.LiveLemmas.{length_changed, live_changed}
 use Rattle.row_ledger.proofs.LedgerLemmas.{changed_counted, changed_less, changed_more, found_if, sooner_if}
+use Rattle.row_ledger.proofs.StayLemmas.{stays_changed}
 use Rattle.row_ledger.proofs.RowLemmas.{fact_brings}
 use Rattle.row_ledger.proofs.ledger.Ledger.note.Goals as goal
 
@@ -53,6 +54,10 @@ invariant_of-self c =
           (changed_counted (noted_row c.args.fact c.args.moment) (λ r. noted_key c.args.fact c.args.moment r) rows c.self.inside.bytes c.self.inside.next_lapse c.args.key (fact_bytes c.args.fact) c.self.invariant.counted c.bytes_at-before.ensures.ascending (λ r. fact_brings c.args.fact c.args.moment r) room low c.bytes_at-before.result c.bytes_at-before.ensures.value c.bytes_at-after.result (subst (λ l. c.bytes_at-after.result ≡ min (bytes_at (find_row l c.args.key)) most_counted) c.note.ensures.rows c.bytes_at-after.ensures.value) c.min-self-inside.result moments sooner (sooner_if c.min-self-inside.result c.stands_at.result own (find_row (change_row (noted_row c.args.fact c.args.moment) rows c.args.key) c.args.key) stands));
       live = c.review.ensures.list;
       places = omega (arith, many, enough, places);
+      stay =
+          subst (λ l. All (StaysUntil c.self.inside.number l c.sooner-self-inside.result) l) (sym c.note.ensures.rows)
+          (stays_changed (noted_row c.args.fact c.args.moment) (λ r. noted_key c.args.fact c.args.moment r) c.self.inside.number rows c.args.key c.self.inside.next_purge c.sooner-self-inside.result c.bytes_at-before.ensures.ascending c.sooner-self-inside.ensures.earlier c.self.invariant.stay
+          (subst (λ l. IfSome (find_row l c.args.key) (StaysUntil c.self.inside.number l c.sooner-self-inside.result)) c.note.ensures.rows c.sooner-self-inside.ensures.stays));
     }
 
 -- the key of the row that changed is live where the row is

@@ -1,10 +1,11 @@
-use Rattle.std.proofs.Common.{◌≡◌, ◌≤◌, ◌-◌, ◌∙◌, length, ap, sym, subst, arith}
+use Rattle.std.proofs.Common.{◌≡◌, ◌≤◌, ◌-◌, ◌∙◌, All, length, ap, sym, subst, arith}
 use Rattle.run_states.specs.Rows.{lift_row}
 use Rattle.live_rows.specs.LiveKeys.{drop_key}
 use Rattle.live_rows.specs.Still.{live_keys}
-use Rattle.row_ledger.specs.Ledger.{most_counted, IsCounted, Ledger}
+use Rattle.row_ledger.specs.Ledger.{most_counted, IsCounted, Ledger, StaysUntil}
 use Rattle.row_ledger.proofs.LiveLemmas.{length_lifted, live_lifted}
 use Rattle.row_ledger.proofs.LedgerLemmas.{lifted_counted}
+use Rattle.row_ledger.proofs.StayLemmas.{stays_lifted}
 use Rattle.row_ledger.proofs.ledger.Ledger.purge.Goals as goal
 
 pub overflow_sub-self : goal.overflow_sub-self
@@ -25,6 +26,7 @@ invariant_of-self c =
           (lifted_counted c.self.inside.rows.list c.self.inside.bytes c.self.inside.next_lapse c.self.invariant.counted c.args.key c.bytes_at.result c.bytes_at.ensures.ascending low c.bytes_at.ensures.value).1;
       live = c.mark.ensures.list ∙ (ap (λ ks. drop_key ks c.args.key) c.self.invariant.live ∙ (sym (live_lifted c.self.inside.number c.self.inside.rows.list c.args.key) ∙ ap (live_keys c.self.inside.number) (sym c.purge.ensures.rows)));
       places = omega (arith, fewer, many, enough, places);
+      stay = subst (λ l. All (StaysUntil c.self.inside.number l c.self.inside.next_purge) l) (sym c.purge.ensures.rows) (stays_lifted c.self.inside.number c.self.inside.rows.list c.args.key c.self.inside.next_purge c.self.invariant.stay);
     }
 
 pub returns-clause-room : goal.returns-clause-room

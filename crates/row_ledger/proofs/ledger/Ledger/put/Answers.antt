@@ -1,11 +1,12 @@
-use Rattle.std.proofs.Common.{◌≡◌, ◌≤◌, ◌∙◌, None, length, suc, ap, sym, subst, arith}
+use Rattle.std.proofs.Common.{◌≡◌, ◌≤◌, ◌∙◌, All, IfSome, None, Some, length, suc, ap, ap₂, sym, subst, arith}
 use Rattle.run_states.specs.Rows.{find_row, put_row}
 use Rattle.live_rows.specs.LiveKeys.{marked}
 use Rattle.live_rows.specs.Still.{live_keys}
-use Rattle.row_ledger.specs.Ledger.{is_live_at, IsCounted, Ledger}
+use Rattle.row_ledger.specs.Ledger.{is_live_at, IsCounted, Ledger, StaysUntil}
 use Rattle.row_ledger.proofs.LiveLemmas.{length_put, live_new}
 use Rattle.row_ledger.proofs.LapseLemmas.{stands_less}
 use Rattle.row_ledger.proofs.LedgerLemmas.{put_counted}
+use Rattle.row_ledger.proofs.StayLemmas.{stays_less_if, stays_put}
 use Rattle.row_ledger.proofs.ledger.Ledger.put.Goals as goal
 
 pub invariant_of-self : goal.invariant_of-self
@@ -17,6 +18,11 @@ invariant_of-self c =
     let places = c.review.ensures.places in
     let room = ap (λ (t : Ledger). t.room) c.self.view_is in
     let some = c.requires.room in
+    let n = c.self.inside.number in
+    let next = c.sooner-self-inside.result in
+    let first = c.sooner-own.ensures.earlier in
+    let second = c.sooner-self-inside.ensures.earlier in
+    let none : find_row c.self.inside.rows.list c.args.row.key ≡ None = subst (λ (t : Ledger). find_row t.list c.args.row.key ≡ None) (sym c.self.view_is) c.requires.new_key in
     record {
       counted =
           subst (λ l. IsCounted l c.self.inside.bytes c.min-self-inside.result) (sym c.put.ensures.rows)
@@ -24,6 +30,15 @@ invariant_of-self c =
           (stands_less c.min-self-inside.result c.stands_until.result c.args.row own c.stands_until.ensures));
       live = c.review.ensures.list;
       places = omega (arith, many, places, room, some);
+      stay =
+          subst (λ l. All (StaysUntil n l next) l) (sym c.put.ensures.rows)
+          (stays_put n c.self.inside.rows.list c.args.row c.self.inside.next_purge next c.list.ensures.ascending none (omega (arith, first, second))
+          (λ w newest at.
+          let key : c.newest_beside-older.result ≡ w.key = subst (λ o. IfSome o (λ r. c.newest_beside-older.result ≡ r.key)) newest c.newest_beside-older.ensures in
+          let there : find_row c.put.new.self.list c.newest_beside-older.result ≡ Some w = ap₂ (λ l k. find_row l k) c.put.ensures.rows key ∙ at in
+          subst (λ l. StaysUntil n l next w) c.put.ensures.rows (subst (λ o. IfSome o (StaysUntil n c.put.new.self.list next)) there c.sooner-self-inside.ensures.stays))
+          c.self.invariant.stay
+          (subst (λ l. IfSome (find_row l c.args.row.key) (StaysUntil n l next)) c.put.ensures.rows (stays_less_if n c.put.new.self.list next c.sooner-own.result (find_row c.put.new.self.list c.args.row.key) second c.sooner-own.ensures.stays)));
     }
 
 -- a new row's key is live where it is

@@ -18,4 +18,5 @@ invariant_of-self c =
       counted = subst (λ l. IsCounted l c.self.inside.bytes c.next_lapse-self-inside.result) (sym c.settle.ensures.rows) (settled_counted rows c.self.inside.bytes c.self.inside.next_lapse c.self.invariant.counted c.args.moment c.next_lapse-self-inside.result moments stand);
       live = c.refill.ensures.list ∙ ap (live_keys c.self.inside.number) c.list-2.ensures.rows;
       places = omega (arith, many, enough, places);
+      stay = c.next_purge-self-inside.ensures;
     }
