@@ -13,7 +13,7 @@ ghost use Rattle.host_model.specs.Lawful.{Lawful};
 ghost use Rattle.host_model.specs.MayFollow.{CanApply, CanApplyAll};
 ghost use Rattle.host_model.specs.declared.change.Change.TheVariants.{AcceptHeard as AcceptHeardChange, Accepted as AcceptedChange, Asked as AskedChange, Closed as ClosedChange, Confirmed as ConfirmedChange, Ended as EndedChange, FreeHeard as FreeHeardChange, LimitsSet as LimitsSetChange, MaterialHeard as MaterialHeardChange, Merged as MergedChange, Planned as PlannedChange, Posted as PostedChange, Purged as PurgedChange, ResultHeard as ResultHeardChange, Started as StartedChange, TaskClosed as TaskClosedChange, Told as ToldChange, Tried as TriedChange};
 ghost use Rattle.run_states.specs.LawfulRow.{BringsResults};
-ghost use Rattle.live_rows.specs.Still.{live_keys};
+ghost use Rattle.live_rows.specs.Still.{live_keys, StillStay};
 ghost use Rattle.host_book.specs.Host.{noted};
 ghost use Rattle.row_ledger.specs.Ledger.{fact_bytes, most_counted, IsNoPlan};
 ghost use Rattle.host_model.specs.NewRow.{all_unheard};
@@ -200,6 +200,15 @@ impl HostBook {
         self.ledger.may_lapse(moment)
     }
 
+    /// Whether a row that is still may go at the moment, in seconds since 1970 UTC; where none may, a purging need look at the live
+    /// rows alone.
+    pub fn may_purge(&self, moment: Moment) -> bool
+        ensures { IsFalse result → StillStay self.now.number self.now.book.rows moment }
+    {
+        let _ = self.number;
+        self.ledger.may_purge(moment)
+    }
+
     /// How many bytes the results have that the rows keep.
     pub fn result_bytes(&self) -> u64
         ensures { result ≡ bytes_of_rows self.now.book.rows }
@@ -339,6 +348,7 @@ impl HostBook {
         let _ = self.rows();
         self.settle(moment);
         self.absorb_each(moment, list);
+        self.review_purges();
     }
 
     fn absorb_each(&mut self, moment: Moment, list: Items<Ready>)
@@ -352,6 +362,15 @@ impl HostBook {
         for ready in list.into_vec() {
             self.absorb(ready);
         }
+    }
+
+    // Where rows went, looks anew for the first moment at which one that is still may go.
+    fn review_purges(&mut self)
+        ensures number { self.new.number ≡ self.old.number }
+        ensures book { self.new.book ≡ self.old.book }
+        ensures room { self.new.room ≡ self.old.room }
+    {
+        self.ledger.review_purges();
     }
 
     // The run of the key is confirmed.

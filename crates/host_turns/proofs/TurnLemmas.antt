@@ -1,12 +1,12 @@
 -- The groups of a turn, one after another; the draft with which it begins, and what it ends with.
-use Rattle.std.proofs.Common.{◌≡◌, ◌≤◌, ℕ, List, map, option_and_then, refl, sym, ap, ap₂, subst, ◌∙◌}
+use Rattle.std.proofs.Common.{◌≡◌, ◌≤◌, ℕ, List, length, map, option_and_then, refl, sym, ap, ap₂, subst, ◌∙◌}
 use Rattle.ps_time.specs.Numbers.{greatest_moment}
 use Rattle.ps_time.specs.declared.key.RunKey.{RunKey}
 use Rattle.run_states.specs.Rows.{find_row}
 use Rattle.run_states.specs.declared.row.RunRow.{RunRow}
 use Rattle.host_model.specs.Apply.{settled}
 use Rattle.host_model.specs.Book.{Book, find_task}
-use Rattle.host_model.specs.Draft.{Draft, fresh, make_tasks}
+use Rattle.host_model.specs.Draft.{Draft, fresh, make_tasks, turned}
 use Rattle.host_model.specs.Lawful.{Lawful}
 use Rattle.host_model.specs.NextAttempt.{ask}
 use Rattle.host_model.specs.Purging.{purge_run}
@@ -15,9 +15,9 @@ use Rattle.host_model.specs.declared.config.Config.{Config}
 use Rattle.host_model.specs.declared.task_row.TaskRow.{TaskRow}
 use Rattle.host_model.proofs.DraftLemmas.{turned_is}
 use Rattle.host_model.proofs.SettledBook.{book_settled}
-use Rattle.live_rows.specs.Still.{live_keys}
-use Rattle.live_law.specs.Groups.{going_keys, make_keys, turned_by}
-use Rattle.live_law.proofs.GroupLemmas.{turned_begun}
+use Rattle.live_rows.specs.Still.{live_keys, StillStay}
+use Rattle.live_law.specs.Groups.{going_keys, make_keys, turned_by, turned_most}
+use Rattle.live_law.proofs.GroupLemmas.{turned_begun, turned_live}
 use Rattle.host_draft.specs.Draft.{Seen, opened, with_draft}
 use Rattle.host_turns.specs.Turns.{IsLiveTurn, wish_of}
 use Rattle.host_turns.specs.declared.due.Due.{Due}
@@ -55,25 +55,63 @@ module _ (c : Config) (live : List RunKey) where
   stays_asks : Stays asks
   stays_asks m d = moment_each (λ b serial. option_and_then (ask c m b) (find_task b.tasks serial)) m (map (λ t. t.serial) d.book.tasks) d
 
-  abbrev purges : List RunRow → ℕ → Draft → Draft
-  purges rows m = make_keys (purge_run c m) m (going_keys c.number m rows)
+  abbrev two : ℕ → Draft → Draft
+  two m d = due Merge m (due End m d)
 
-  pub six : (rows : List RunRow) (s0 s1 s2 s3 s4 s5 s6 : Seen) → s1 ≡ after (due End) s0 → s2 ≡ after (due Merge) s1 → s3 ≡ after (due Start) s2 → s4 ≡ after (due Plan) s3 → s5 ≡ after asks s4 → s6 ≡ after (purges rows) s5
-      → s6 ≡ with_draft (turned_by c s0.draft.book.moment live (going_keys c.number s0.draft.book.moment rows) s0.draft) s0
-  six rows s0 s1 s2 s3 s4 s5 s6 e1 e2 e3 e4 e5 e6 =
-      let g2 : ℕ → Draft → Draft = λ m d. due Merge m (due End m d) in
-      let g3 : ℕ → Draft → Draft = λ m d. due Start m (g2 m d) in
-      let g4 : ℕ → Draft → Draft = λ m d. due Plan m (g3 m d) in
-      let g5 : ℕ → Draft → Draft = λ m d. asks m (g4 m d) in
-      let k2 : Stays g2 = stays_both (due End) (due Merge) (stays_due End) (stays_due Merge) in
-      let k3 : Stays g3 = stays_both g2 (due Start) k2 (stays_due Start) in
-      let k4 : Stays g4 = stays_both g3 (due Plan) k3 (stays_due Plan) in
-      let k5 : Stays g5 = stays_both g4 asks k4 stays_asks in
-      let t2 : s2 ≡ after g2 s0 = joined (due End) (due Merge) (stays_due End) s0 s1 s2 e1 e2 in
-      let t3 : s3 ≡ after g3 s0 = joined g2 (due Start) k2 s0 s2 s3 t2 e3 in
-      let t4 : s4 ≡ after g4 s0 = joined g3 (due Plan) k3 s0 s3 s4 t3 e4 in
-      let t5 : s5 ≡ after g5 s0 = joined g4 asks k4 s0 s4 s5 t4 e5 in
-      joined g5 (purges rows) k5 s0 s5 s6 t5 e6
+  abbrev three : ℕ → Draft → Draft
+  three m d = due Start m (two m d)
+
+  abbrev four : ℕ → Draft → Draft
+  four m d = due Plan m (three m d)
+
+  stays_two : Stays two
+  stays_two = stays_both (due End) (due Merge) (stays_due End) (stays_due Merge)
+
+  stays_three : Stays three
+  stays_three = stays_both two (due Start) stays_two (stays_due Start)
+
+  stays_four : Stays four
+  stays_four = stays_both three (due Plan) stays_three (stays_due Plan)
+
+  stays_most : (m : ℕ) (d : Draft) → (turned_most c m live d).book.moment ≡ d.book.moment
+  stays_most = stays_both four asks stays_four stays_asks
+
+  pub five : (s0 s1 s2 s3 s4 s5 : Seen) → s1 ≡ after (due End) s0 → s2 ≡ after (due Merge) s1 → s3 ≡ after (due Start) s2 → s4 ≡ after (due Plan) s3 → s5 ≡ after asks s4
+      → s5 ≡ with_draft (turned_most c s0.draft.book.moment live s0.draft) s0
+  five s0 s1 s2 s3 s4 s5 e1 e2 e3 e4 e5 =
+      let t2 : s2 ≡ after two s0 = joined (due End) (due Merge) (stays_due End) s0 s1 s2 e1 e2 in
+      let t3 : s3 ≡ after three s0 = joined two (due Start) stays_two s0 s2 s3 t2 e3 in
+      let t4 : s4 ≡ after four s0 = joined three (due Plan) stays_three s0 s3 s4 t3 e4 in
+      joined four asks stays_four s0 s4 s5 t4 e5
+
+-- ---- the purging, behind the others
+module _ (c : Config) (number m : ℕ) (b : Book) (same : number ≡ c.number) (lawful : Lawful number b) (live : List RunKey) (s : Seen) (live_are : live ≡ live_keys number b.rows) (made : s.draft ≡ turned_most c m live (fresh (settled m b))) where
+  of_host : Lawful c.number b
+  of_host = subst (λ n. Lawful n b) same lawful
+
+  own : live ≡ live_keys c.number b.rows
+  own = live_are ∙ ap (λ n. live_keys n b.rows) same
+
+  at : s.draft.book.moment ≡ m
+  at = ap (λ d. d.book.moment) made ∙ stays_most c live m (fresh (settled m b))
+
+  purged : (keys : List RunKey) (t : Seen) → t ≡ with_draft (make_keys (purge_run c s.draft.book.moment) s.draft.book.moment keys s.draft) s → turned_by c m live keys (fresh (settled m b)) ≡ turned c m (fresh (settled m b)) → t.draft ≡ turned c m (fresh (settled m b))
+  purged keys t is turns = ap (λ x. x.draft) is ∙ (ap₂ (λ n d. make_keys (purge_run c n) n keys d) at made ∙ turns)
+
+  -- over all rows
+  pub all_purged : (rows : List RunRow) (t : Seen) → rows ≡ b.rows → t ≡ with_draft (make_keys (purge_run c s.draft.book.moment) s.draft.book.moment (going_keys c.number s.draft.book.moment rows) s.draft) s → t.draft ≡ turned c m (fresh (settled m b))
+  all_purged rows t rows_are is =
+      let m0 : ℕ = s.draft.book.moment in
+      let keys : going_keys c.number m0 rows ≡ going_keys c.number m b.rows = ap₂ (λ n rs. going_keys c.number n rs) at rows_are in
+      purged (going_keys c.number m b.rows) t (is ∙ ap (λ ks. with_draft (make_keys (purge_run c m0) m0 ks s.draft) s) keys)
+      (ap (λ ks. turned_by c m ks (going_keys c.number m b.rows) (fresh (settled m b))) own ∙ turned_begun c m b of_host)
+
+  -- over the live ones
+  pub live_purged : (t : Seen) → StillStay number b.rows m → length s.draft.book.rows ≡ length b.rows → t ≡ with_draft (make_keys (purge_run c s.draft.book.moment) s.draft.book.moment live s.draft) s → t.draft ≡ turned c m (fresh (settled m b))
+  live_purged t stay many is =
+      let count : length (turned_most c m (live_keys c.number b.rows) (fresh (settled m b))).book.rows ≡ length b.rows =
+      ap (λ ks. length (turned_most c m ks (fresh (settled m b))).book.rows) (sym own) ∙ (ap (λ d. length d.book.rows) (sym made) ∙ many) in
+      purged live t is (ap (λ ks. turned_by c m ks ks (fresh (settled m b))) own ∙ turned_live c m b of_host (subst (λ n. StillStay n b.rows m) same stay) count)
 
 -- ---- at first, and at last
 module _ (c : Config) (number m : ℕ) (b : Book) (same : number ≡ c.number) (lawful : Lawful number b) (tasks : List TaskRow) (live : List RunKey) (s : Seen) (live_are : live ≡ live_keys number b.rows) (opens : s ≡ opened number m c.limits b) where
@@ -90,9 +128,10 @@ module _ (c : Config) (number m : ℕ) (b : Book) (same : number ≡ c.number) (
       let three : IsLiveTurn c b.tasks live s = subst (λ ks. IsLiveTurn c b.tasks ks s) (sym live_are) two in
       subst (λ ts. IsLiveTurn c ts live s) (sym tasks_are) three
 
-  pub ended_turn : (rows : List RunRow) (t : Seen) → rows ≡ b.rows → t ≡ with_draft (turned_by c s.draft.book.moment live (going_keys c.number s.draft.book.moment rows) s.draft) s → t.draft.changes ≡ turn_changes c m (settled m b)
-  ended_turn rows t rows_are is =
-      let own : live ≡ live_keys c.number b.rows = live_are ∙ ap (λ n. live_keys n b.rows) same in
-      let here : turned_by c s.draft.book.moment live (going_keys c.number s.draft.book.moment rows) s.draft ≡ turned_by c m (live_keys c.number b.rows) (going_keys c.number m b.rows) (fresh (settled m b)) =
-      ap (λ x. turned_by c x.draft.book.moment live (going_keys c.number x.draft.book.moment rows) x.draft) opens ∙ ap₂ (λ ks rs. turned_by c m ks (going_keys c.number m rs) (fresh (settled m b))) own rows_are in
-      ap (λ x. x.draft.changes) is ∙ (ap (λ d. d.changes) (here ∙ turned_begun c m b (subst (λ n. Lawful n b) same lawful)) ∙ (turned_is m c (settled m b)).0)
+  -- the groups before the purging, from there
+  pub begun_most : (t : Seen) → t ≡ with_draft (turned_most c s.draft.book.moment live s.draft) s → t.draft ≡ turned_most c m live (fresh (settled m b))
+  begun_most t is = ap (λ x. x.draft) is ∙ ap (λ x. turned_most c x.draft.book.moment live x.draft) opens
+
+-- what a turn ends with are its changes
+pub ended_turn : (c : Config) (m : ℕ) (b : Book) (t : Seen) → t.draft ≡ turned c m (fresh (settled m b)) → t.draft.changes ≡ turn_changes c m (settled m b)
+ended_turn c m b t is = ap (λ d. d.changes) is ∙ (turned_is m c (settled m b)).0

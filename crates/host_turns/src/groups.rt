@@ -150,6 +150,23 @@ fn make_purge(
     }
 }
 
+// Lets the rows of these keys go that are long past.
+pub(crate) fn purge_keys(
+    alloc: Global,
+    draft: &mut Draft<'_>,
+    config: &Config,
+    tasks: &[TaskRow],
+    keys: &[RunKey],
+) -> Result<(), Memory>
+    requires { IsTurn config.now tasks.now draft.old }
+    ensures { OnOk result (draft.new ≡ with_draft (make_keys (purge_run config.now draft.old.draft.book.moment) draft.old.draft.book.moment keys.now draft.old.draft) draft.old) }
+{
+    for key in keys {
+        purge_key(alloc, draft, config, tasks, *key)?;
+    }
+    Ok(())
+}
+
 // Whether the row is long past, or isn't still: no other goes, whatever the turn has made so far.
 fn may_go(row: &RunRow, number: u16, moment: Moment) -> bool
     ensures { result ≡ (is_long_past moment row.now || is_live number row.now) }

@@ -1,26 +1,28 @@
 //! A turn: a host does what is due.
-ghost use Rattle.std.specs.Prelude.{◌≡◌, ◌≤◌, IfOk, OnOk, length, true};
+ghost use Rattle.std.specs.Prelude.{◌≡◌, ◌≤◌, IfOk, IsFalse, OnOk, length, true};
 ghost use Rattle.ps_time.specs.Name.{is_name};
 ghost use Rattle.ps_time.specs.Numbers.{most_changes};
 ghost use Rattle.ps_time.specs.declared.moment.TheConstants.{MAX_MOMENT};
-ghost use Rattle.live_law.specs.Groups.{going_keys, turned_by};
+ghost use Rattle.live_law.specs.Groups.{turned_most};
+ghost use Rattle.live_rows.specs.Still.{live_keys, StillStay};
 ghost use Rattle.host_model.specs.Apply.{settled};
+ghost use Rattle.host_model.specs.Draft.{fresh, turned};
 ghost use Rattle.host_model.specs.Turn.{changed, turn as turn_of};
 ghost use Rattle.host_draft.specs.Draft.{with_draft};
-ghost use Rattle.host_turns.specs.Turns.{IsLiveTurn};
+ghost use Rattle.host_turns.specs.Turns.{IsLiveTurn, IsTurn};
 
 use crate::due::Due;
-use crate::groups::{make_asks, make_purges};
+use crate::groups::{make_asks, make_purges, purge_keys};
 use crate::wishes::Turn;
 use host_book::book::HostBook;
 use host_draft::draft::Draft;
 use host_model::change::Change;
 use host_model::config::Config;
 use host_model::reply::{Outcome, Reply};
+use part_core::reading::Reading;
 use ps_time::items::Items;
 use ps_time::memory::Memory;
 use ps_time::moment::Moment;
-use run_states::row::RunRow;
 use std::alloc::Global;
 
 /// All that is due at a host at the moment, in seconds since 1970 UTC, with the number of its changes: runs end, are merged,
@@ -38,13 +40,15 @@ pub fn turn(
     requires bound { moment ≤ MAX_MOMENT }
     ensures { IfOk result (λ outcome. outcome ≡ turn_of config.now moment (settled moment host.now.book)) }
 {
+    let _ = host.rows();
     let mut draft = Draft::new(alloc, host, &config.limits, moment)?;
     let turn = Turn {
         config,
         tasks: host.tasks(),
         live: host.live(),
     };
-    turn.make_all(alloc, &mut draft, host.rows().list())?;
+    turn.make_most(alloc, &mut draft)?;
+    turn.make_last(alloc, &mut draft, host, moment)?;
     Ok(changed(draft.into_changes()))
 }
 
@@ -59,18 +63,47 @@ fn changed(list: Items<Change>) -> Outcome
     }
 }
 
+// Whether the purging has to look at all rows: one that is still may go, or the turn has brought one.
+fn looks_at_all(draft: &Draft<'_>, host: &HostBook, moment: Moment) -> bool
+    ensures { IsFalse result → StillStay host.now.number host.now.book.rows moment × (length draft.now.draft.book.rows ≡ length host.now.book.rows) }
+{
+    host.may_purge(moment) || draft.len() != host.rows().list().len()
+}
+
 impl<'a> Turn<'a> {
-    // The six groups; the rows are those of the host's book.
-    fn make_all(&self, alloc: Global, draft: &mut Draft<'_>, rows: &[RunRow]) -> Result<(), Memory>
+    // The groups before the purging.
+    fn make_most(&self, alloc: Global, draft: &mut Draft<'_>) -> Result<(), Memory>
         requires name { is_name self.now.config.now.name ≡ true }
         requires turn { IsLiveTurn self.now.config.now self.now.tasks.now self.now.live.now draft.old }
-        ensures { OnOk result (draft.new ≡ with_draft (turned_by self.now.config.now draft.old.draft.book.moment self.now.live.now (going_keys self.now.config.now.number draft.old.draft.book.moment rows.now) draft.old.draft) draft.old) }
+        ensures made { OnOk result (draft.new ≡ with_draft (turned_most self.now.config.now draft.old.draft.book.moment self.now.live.now draft.old.draft) draft.old) }
+        ensures turn { OnOk result (IsTurn self.now.config.now self.now.tasks.now draft.new) }
     {
         self.make_due(alloc, draft, Due::End)?;
         self.make_due(alloc, draft, Due::Merge)?;
         self.make_due(alloc, draft, Due::Start)?;
         self.make_due(alloc, draft, Due::Plan)?;
-        make_asks(alloc, draft, self.config, self.tasks)?;
-        make_purges(alloc, draft, self.config, self.tasks, rows)
+        make_asks(alloc, draft, self.config, self.tasks)
+    }
+
+    // The purging, behind the other groups.
+    fn make_last(
+        &self,
+        alloc: Global,
+        draft: &mut Draft<'_>,
+        host: &HostBook,
+        moment: Moment,
+    ) -> Result<(), Memory>
+        requires number { host.now.number ≡ self.now.config.now.number }
+        requires live { self.now.live.now ≡ live_keys host.now.number host.now.book.rows }
+        requires turn { IsTurn self.now.config.now self.now.tasks.now draft.old }
+        requires made { draft.old.draft ≡ turned_most self.now.config.now moment self.now.live.now (fresh (settled moment host.now.book)) }
+        ensures { OnOk result (draft.new.draft ≡ turned self.now.config.now moment (fresh (settled moment host.now.book))) }
+    {
+        let rows = host.rows().list();
+        if looks_at_all(draft, host, moment) {
+            make_purges(alloc, draft, self.config, self.tasks, rows)
+        } else {
+            purge_keys(alloc, draft, self.config, self.tasks, self.live)
+        }
     }
 }
