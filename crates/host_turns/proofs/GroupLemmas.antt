@@ -24,7 +24,7 @@ use Rattle.live_law.specs.Groups.{going_keys, make_keys}
 use Rattle.live_law.proofs.DraftLemmas.{made_keeps}
 use Rattle.host_draft.specs.Draft.{Seen, is_full, with_draft}
 use Rattle.host_wishes.specs.Wishes.{HoldActive}
-use Rattle.host_turns.specs.Turns.{IsLiveTurn, IsOfHost, IsTurn, MayMake, wish_of}
+use Rattle.host_turns.specs.Turns.{HoldExclusive, IsLiveTurn, IsOfHost, IsTurn, MayMake, wish_of}
 use Rattle.host_turns.specs.declared.due.Due.{Due}
 use Rattle.host_turns.proofs.GrantLemmas.{Granted, ask_grants, due_grants, granted_lawful, granted_next, purge_grants}
 use Rattle.host_turns.proofs.KeepLemmas.{due_active}
@@ -88,16 +88,16 @@ module _ (c : Config) (known : List TaskRow) (s : Seen) (is : IsTurn c known s) 
     ask_turn (Some x) e = made x (ask_granted_at x e)
 
 -- of one of the keys among which every active run's is
-pub live_turn : (c : Config) (known : List TaskRow) (keys : List RunKey) (s : Seen) → IsLiveTurn c known keys s → (due : Due) (k : RunKey) → IsSome (find_own keys k) → (o : Option Change)
-    → o ≡ option_and_then (wish_of due c s.draft.book.moment s.draft.book) (find_row s.draft.book.rows k) → IsLiveTurn c known keys (with_draft (make s.draft.book.moment o s.draft) s)
-live_turn c known keys s is due k live o e = record { turn = due_turn c known s is.turn due k o e; active = active o e }
+pub live_turn : (c : Config) (known : List TaskRow) (keys exclusive : List RunKey) (s : Seen) → IsLiveTurn c known keys exclusive s → (due : Due) (k : RunKey) → IsSome (find_own keys k) → (o : Option Change)
+    → o ≡ option_and_then (wish_of due c s.draft.book.moment s.draft.book) (find_row s.draft.book.rows k) → IsLiveTurn c known keys exclusive (with_draft (make s.draft.book.moment o s.draft) s)
+live_turn c known keys exclusive s is due k live o e = let held = both_held o e in record { turn = due_turn c known s is.turn due k o e; active = held.0; exclusive_held = held.1 }
   where
-    active : (o : Option Change) → o ≡ option_and_then (wish_of due c s.draft.book.moment s.draft.book) (find_row s.draft.book.rows k) → HoldActive keys (make s.draft.book.moment o s.draft).book.rows
-    active None e = is.active
-    active (Some x) e =
+    both_held : (o : Option Change) → o ≡ option_and_then (wish_of due c s.draft.book.moment s.draft.book) (find_row s.draft.book.rows k) → HoldActive keys (make s.draft.book.moment o s.draft).book.rows × HoldExclusive keys exclusive (make s.draft.book.moment o s.draft).book.rows
+    both_held None e = (is.active, is.exclusive_held)
+    both_held (Some x) e =
         let f = found_along (wish_of due c s.draft.book.moment s.draft.book) (find_row s.draft.book.rows k) x (sym e) in
         let own : IsSome (find_own keys f.0.key) = subst (λ j. IsSome (find_own keys j)) (sym (find_row-key s.draft.book.rows k f.0 f.1)) live in
-        made_keeps (λ b. HoldActive keys b.rows) s.draft.book.moment x s.draft is.active (due_active c keys s.draft.book f.0 own is.active due x f.2)
+        made_keeps (λ b. HoldActive keys b.rows × HoldExclusive keys exclusive b.rows) s.draft.book.moment x s.draft (is.active, is.exclusive_held) (due_active c keys exclusive s.draft.book f.0 own is.active is.exclusive_held due x f.2)
 
 -- ---- the moment stays
 pub moment_made : (m : ℕ) (o : Option Change) (d : Draft) → (make m o d).book.moment ≡ d.book.moment

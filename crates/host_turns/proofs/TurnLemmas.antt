@@ -19,11 +19,11 @@ use Rattle.live_rows.specs.Still.{live_keys, StillStay}
 use Rattle.live_law.specs.Groups.{going_keys, make_keys, turned_by, turned_most}
 use Rattle.live_law.proofs.GroupLemmas.{turned_begun, turned_live}
 use Rattle.host_draft.specs.Draft.{Seen, opened, with_draft}
-use Rattle.host_turns.specs.Turns.{IsLiveTurn, wish_of}
+use Rattle.host_turns.specs.Turns.{IsLiveTurn, exclusive_keys, wish_of}
 use Rattle.host_turns.specs.declared.due.Due.{Due}
 use Rattle.host_turns.specs.declared.due.Due.TheVariants.{End, Merge, Start, Plan}
 use Rattle.host_turns.proofs.GroupLemmas.{moment_each}
-use Rattle.host_turns.proofs.KeepLemmas.{settled_active}
+use Rattle.host_turns.proofs.KeepLemmas.{settled_active, settled_exclusive}
 
 -- ---- one group after another
 -- a group at a moment leaves the moment of the book
@@ -115,18 +115,20 @@ module _ (c : Config) (number m : ℕ) (b : Book) (same : number ≡ c.number) (
 
 -- ---- at first, and at last
 module _ (c : Config) (number m : ℕ) (b : Book) (same : number ≡ c.number) (lawful : Lawful number b) (tasks : List TaskRow) (live : List RunKey) (s : Seen) (live_are : live ≡ live_keys number b.rows) (opens : s ≡ opened number m c.limits b) where
-  pub begun : b.moment ≤ m → m ≤ greatest_moment → tasks ≡ b.tasks → IsLiveTurn c tasks live s
-  begun later bound tasks_are =
-      let first : IsLiveTurn c b.tasks (live_keys number b.rows) (opened number m c.limits b) = record {
+  pub begun : b.moment ≤ m → m ≤ greatest_moment → tasks ≡ b.tasks → (rows : List RunRow) (exclusive : List RunKey) → rows ≡ b.rows → exclusive ≡ exclusive_keys rows live → IsLiveTurn c tasks live exclusive s
+  begun later bound tasks_are rows exclusive rows_are exclusive_are =
+      let first : IsLiveTurn c b.tasks (live_keys number b.rows) (exclusive_keys b.rows (live_keys number b.rows)) (opened number m c.limits b) = record {
         turn = record {
           number = same;
           book = record { lawful = subst (λ n. Lawful n (settled m b)) same (book_settled number b m later bound lawful); limits = refl; tasks = refl };
         };
         active = settled_active number m b.rows;
+        exclusive_held = settled_exclusive m b.rows (live_keys number b.rows);
       } in
-      let two : IsLiveTurn c b.tasks (live_keys number b.rows) s = subst (IsLiveTurn c b.tasks (live_keys number b.rows)) (sym opens) first in
-      let three : IsLiveTurn c b.tasks live s = subst (λ ks. IsLiveTurn c b.tasks ks s) (sym live_are) two in
-      subst (λ ts. IsLiveTurn c ts live s) (sym tasks_are) three
+      let opened_so : IsLiveTurn c b.tasks (live_keys number b.rows) (exclusive_keys b.rows (live_keys number b.rows)) s = subst (IsLiveTurn c b.tasks (live_keys number b.rows) (exclusive_keys b.rows (live_keys number b.rows))) (sym opens) first in
+      let own_live : IsLiveTurn c b.tasks live (exclusive_keys b.rows live) s = subst (λ ks. IsLiveTurn c b.tasks ks (exclusive_keys b.rows ks) s) (sym live_are) opened_so in
+      let own_exclusive : IsLiveTurn c b.tasks live exclusive s = subst (λ es. IsLiveTurn c b.tasks live es s) (sym (exclusive_are ∙ ap (λ rs. exclusive_keys rs live) rows_are)) own_live in
+      subst (λ ts. IsLiveTurn c ts live exclusive s) (sym tasks_are) own_exclusive
 
   -- the groups before the purging, from there
   pub begun_most : (t : Seen) → t ≡ with_draft (turned_most c s.draft.book.moment live s.draft) s → t.draft ≡ turned_most c m live (fresh (settled m b))

@@ -36,9 +36,9 @@ impl<'a> Turn<'a> {
         draft: &mut Draft<'_>,
         due: Due,
     ) -> Result<(), Memory>
-        requires { IsLiveTurn self.now.config.now self.now.tasks.now self.now.live.now draft.old }
+        requires { IsLiveTurn self.now.config.now self.now.tasks.now self.now.live.now self.now.exclusive.now draft.old }
         ensures made { OnOk result (draft.new ≡ with_draft (make_keys (wish_of due self.now.config.now draft.old.draft.book.moment) draft.old.draft.book.moment self.now.live.now draft.old.draft) draft.old) }
-        ensures turn { OnOk result (IsLiveTurn self.now.config.now self.now.tasks.now self.now.live.now draft.new) }
+        ensures turn { OnOk result (IsLiveTurn self.now.config.now self.now.tasks.now self.now.live.now self.now.exclusive.now draft.new) }
     {
         for key in self.live {
             self.make_at(alloc, draft, due, *key)?;
@@ -53,10 +53,10 @@ impl<'a> Turn<'a> {
         due: Due,
         key: RunKey,
     ) -> Result<(), Memory>
-        requires turn { IsLiveTurn self.now.config.now self.now.tasks.now self.now.live.now draft.old }
+        requires turn { IsLiveTurn self.now.config.now self.now.tasks.now self.now.live.now self.now.exclusive.now draft.old }
         requires live { IsSome (find_own self.now.live.now key) }
         ensures made { OnOk result (draft.new ≡ with_draft (make draft.old.draft.book.moment (option_and_then (wish_of due self.now.config.now draft.old.draft.book.moment draft.old.draft.book) (find_row draft.old.draft.book.rows key)) draft.old.draft) draft.old) }
-        ensures turn { OnOk result (IsLiveTurn self.now.config.now self.now.tasks.now self.now.live.now draft.new) }
+        ensures turn { OnOk result (IsLiveTurn self.now.config.now self.now.tasks.now self.now.live.now self.now.exclusive.now draft.new) }
     {
         if draft.is_full() {
             return Ok(());

@@ -2,6 +2,7 @@
 #![tactic(auto)]
 
 pub mod due;
+mod exclusive;
 mod groups;
 pub mod turn;
 mod wishes;

@@ -12,6 +12,7 @@ ghost use Rattle.host_draft.specs.Draft.{with_draft};
 ghost use Rattle.host_turns.specs.Turns.{IsLiveTurn, IsTurn};
 
 use crate::due::Due;
+use crate::exclusive::exclusive_keys;
 use crate::groups::{make_asks, make_purges, purge_keys};
 use crate::wishes::Turn;
 use host_book::book::HostBook;
@@ -40,12 +41,14 @@ pub fn turn(
     requires bound { moment ≤ MAX_MOMENT }
     ensures { IfOk result (λ outcome. outcome ≡ turn_of config.now moment (settled moment host.now.book)) }
 {
-    let _ = host.rows();
+    let live = host.live();
+    let exclusive = exclusive_keys(alloc, host.rows(), live)?;
     let mut draft = Draft::new(alloc, host, &config.limits, moment)?;
     let turn = Turn {
         config,
         tasks: host.tasks(),
-        live: host.live(),
+        live,
+        exclusive: exclusive.as_slice(),
     };
     turn.make_most(alloc, &mut draft)?;
     turn.make_last(alloc, &mut draft, host, moment)?;
@@ -74,7 +77,7 @@ impl<'a> Turn<'a> {
     // The groups before the purging.
     fn make_most(&self, alloc: Global, draft: &mut Draft<'_>) -> Result<(), Memory>
         requires name { is_name self.now.config.now.name ≡ true }
-        requires turn { IsLiveTurn self.now.config.now self.now.tasks.now self.now.live.now draft.old }
+        requires turn { IsLiveTurn self.now.config.now self.now.tasks.now self.now.live.now self.now.exclusive.now draft.old }
         ensures made { OnOk result (draft.new ≡ with_draft (turned_most self.now.config.now draft.old.draft.book.moment self.now.live.now draft.old.draft) draft.old) }
         ensures turn { OnOk result (IsTurn self.now.config.now self.now.tasks.now draft.new) }
     {

@@ -11,6 +11,7 @@ ghost use Rattle.host_model.specs.Starting.{start_run};
 ghost use Rattle.host_turns.specs.Turns.{IsLiveTurn, IsTurn, wish_of};
 
 use crate::due::Due;
+use crate::exclusive::hindering_keys;
 use host_draft::draft::Draft;
 use host_model::change::Change;
 use host_model::config::Config;
@@ -21,6 +22,7 @@ use host_wishes::purging::purge_run;
 use host_wishes::starting::start_run;
 use lead_core::planning::plan_run;
 use part_core::reading::Reading;
+use plugin_core::test_spec::class_of;
 use ps_time::key::RunKey;
 use ps_time::memory::Memory;
 use std::alloc::Global;
@@ -33,6 +35,8 @@ pub(crate) struct Turn<'a> {
     pub(crate) tasks: &'a [TaskRow],
     // the keys of all rows that weren't still, ascending
     pub(crate) live: &'a [RunKey],
+    // those of exclusive runs among them
+    pub(crate) exclusive: &'a [RunKey],
 }
 
 impl<'a> Turn<'a> {
@@ -44,13 +48,20 @@ impl<'a> Turn<'a> {
         due: Due,
         key: RunKey,
     ) -> Result<Option<Change>, Memory>
-        requires { IsLiveTurn self.now.config.now self.now.tasks.now self.now.live.now draft.now }
+        requires { IsLiveTurn self.now.config.now self.now.tasks.now self.now.live.now self.now.exclusive.now draft.now }
         ensures { IfOk result (λ wish. wish ≡ option_and_then (wish_of due self.now.config.now draft.now.draft.book.moment draft.now.draft.book) (find_row draft.now.draft.book.rows key)) }
     {
         match due {
             Due::End => end_at(alloc, draft, self.config, self.tasks, key),
             Due::Merge => merge_at(alloc, draft, self.config, self.tasks, key),
-            Due::Start => Ok(start_at(draft, self.config, self.tasks, self.live, key)),
+            Due::Start => Ok(start_at(
+                draft,
+                self.config,
+                self.tasks,
+                self.live,
+                self.exclusive,
+                key,
+            )),
             Due::Plan => plan_at(alloc, draft, self.config, self.tasks, key),
         }
     }
@@ -93,13 +104,17 @@ fn start_at(
     config: &Config,
     tasks: &[TaskRow],
     live: &[RunKey],
+    exclusive: &[RunKey],
     key: RunKey,
 ) -> Option<Change>
-    requires { IsLiveTurn config.now tasks.now live.now draft.now }
+    requires { IsLiveTurn config.now tasks.now live.now exclusive.now draft.now }
     ensures { result ≡ option_and_then (start_run draft.now.draft.book.moment draft.now.draft.book) (find_row draft.now.draft.book.rows key) }
 {
     match draft.find(key) {
-        Some(row) => start_run(draft, live, row),
+        Some(row) => {
+            let keys = hindering_keys(class_of(&row.test), live, exclusive);
+            start_run(draft, keys, row)
+        }
         None => None,
     }
 }

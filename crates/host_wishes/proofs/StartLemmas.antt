@@ -1,24 +1,20 @@
--- Whether a run is hindered is told by keys among which every active run is.
+-- Whether a run is hindered is told by keys among which every run that hinders it is.
 use Rattle.std.specs.List.{AllByRecursion, list_any}
 use Rattle.std.specs.Ordering.{is_eq}
 use Rattle.std.specs.Prelude.{IsSome}
 use Rattle.std.proofs.Common.{◌≡◌, ◌||◌, Bool, true, false, cond, List, [], ◌∷◌, Some, is_some, refl, ap, ◌∙◌}
 use Rattle.std.proofs.Math.Bool.{or-true}
 use Rattle.std.proofs.lemmas.List.Elements.{recursion_from_All}
-use Rattle.ps_time.specs.Class.{conflicting_classes}
 use Rattle.ps_time.specs.Key.{key_cmp}
 use Rattle.ps_time.specs.declared.class.Class.{Class}
 use Rattle.ps_time.specs.declared.key.RunKey.{RunKey}
-use Rattle.ps_time.proofs.PictureLemmas.{and_true}
-use Rattle.plugin_core.specs.TestSpec.{test_class}
-use Rattle.run_states.specs.Life.{is_active}
 use Rattle.run_states.specs.Rows.{IsAscendingRows, find_row}
 use Rattle.run_states.specs.declared.row.RunRow.{RunRow}
 use Rattle.live_rows.specs.LiveKeys.{find_own}
 use Rattle.host_model.specs.Starting.{is_hindered}
 use Rattle.host_model.proofs.Keyed.{key_is}
 use Rattle.host_model.proofs.RowLemmas.{all_of_found}
-use Rattle.host_wishes.specs.Wishes.{HoldActive, hinders, is_hindering}
+use Rattle.host_wishes.specs.Wishes.{HoldHindering, hinders, is_hindering}
 
 or_right : (a b : Bool) → b ≡ true → (a || b) ≡ true
 or_right a b e = ap (λ x. a || x) e ∙ or-true a
@@ -67,9 +63,9 @@ module _ (class : Class) (rows : List RunRow) where
       go true is e later = found_any rows k is
       go false is e later = later e
 
-  pub hindered_among : (ks : List RunKey) → IsAscendingRows rows → HoldActive ks rows → among ks ≡ is_hindered class rows
+  pub hindered_among : (ks : List RunKey) → IsAscendingRows rows → HoldHindering class ks rows → among ks ≡ is_hindered class rows
   hindered_among ks up hold =
       let each : AllByRecursion (λ r. hinders class r ≡ true → among ks ≡ true) rows =
       recursion_from_All (λ r. hinders class r ≡ true → among ks ≡ true) rows (all_of_found (λ r. hinders class r ≡ true → among ks ≡ true) rows up (λ r at is.
-      hit ks r.key r at is (hold r.key r at (and_true (is_active r) (conflicting_classes (test_class r.test) class) is).0))) in
+      hit ks r.key r at is (hold r.key r at is))) in
       bool_same (among ks) (is_hindered class rows) (among_any ks) (any_shows (hinders class) (among ks ≡ true) rows each)

@@ -41,6 +41,10 @@ HoldActive keys rows = (k : RunKey) (r : RunRow) → find_row rows k ≡ Some r 
 abbrev pub hinders : Class → RunRow → Bool
 hinders class r = is_active r && conflicting_classes (test_class r.test) class
 
+-- the key of every run that hinders one of this class is one of these
+abbrev pub HoldHindering : Class → List RunKey → List RunRow → Type 0
+HoldHindering class keys rows = (k : RunKey) (r : RunRow) → find_row rows k ≡ Some r → hinders class r ≡ true → IsSome (find_own keys k)
+
 -- the same of a run that may be there
 abbrev pub is_hindering : Class → Option RunRow → Bool
 is_hindering class None = false

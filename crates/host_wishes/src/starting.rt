@@ -5,7 +5,8 @@ ghost use Rattle.std.specs.Option.{option_copied};
 ghost use Rattle.run_states.specs.Rows.{find_row, IsAscendingRows};
 ghost use Rattle.host_model.specs.Starting.{is_hindered, may_start, start_run};
 ghost use Rattle.lead_core.specs.Books.{book_of_rows};
-ghost use Rattle.host_wishes.specs.Wishes.{HoldActive, hinders, is_hindering, is_ready};
+ghost use Rattle.plugin_core.specs.TestSpec.{test_class};
+ghost use Rattle.host_wishes.specs.Wishes.{HoldHindering, hinders, is_hindering, is_ready};
 
 use host_model::change::Change;
 use part_core::reading::Reading;
@@ -18,9 +19,9 @@ use run_states::life::GRACE;
 use run_states::row::RunRow;
 
 /// The start of a booked, confirmed run whose time has come, unless an active run hinders it. Of other runs it looks at
-/// those of these keys alone, which are enough where every active run is among them.
+/// those of these keys alone, which are enough where every run that hinders it is among them.
 pub fn start_run<R: Reading>(rows: &R, keys: &[RunKey], row: &RunRow) -> Option<Change>
-    requires active { HoldActive keys.now (R.seen rows.now) }
+    requires hindering { HoldHindering (test_class row.now.test) keys.now (R.seen rows.now) }
     requires ascending { IsAscendingRows (R.seen rows.now) }
     ensures { result ≡ start_run (R.at rows.now) (book_of_rows (R.seen rows.now)) row.now }
 {
@@ -53,7 +54,7 @@ fn may_start(interval: &Option<Interval>, moment: Moment) -> bool
 }
 
 fn is_hindered<R: Reading>(rows: &R, keys: &[RunKey], class: Class) -> bool
-    requires active { HoldActive keys.now (R.seen rows.now) }
+    requires hindering { HoldHindering class keys.now (R.seen rows.now) }
     requires ascending { IsAscendingRows (R.seen rows.now) }
     ensures { result ≡ is_hindered class (R.seen rows.now) }
 {

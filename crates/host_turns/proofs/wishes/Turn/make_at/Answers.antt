@@ -12,4 +12,5 @@ returns-clause-turn c =
     let config = c.args.self.now.config.now in
     let tasks = c.args.self.now.tasks.now in
     let live = c.args.self.now.live.now in
-    on_ok_weaker c.grant.result (λ is. subst (IsLiveTurn config tasks live) (sym is) (live_turn config tasks live c.args.draft.now c.requires.turn c.args.due c.args.key c.requires.live c.in_ok-wish.wish c.in_ok-wish.ensures)) c.grant.ensures
+    let exclusive = c.args.self.now.exclusive.now in
+    on_ok_weaker c.grant.result (λ is. subst (IsLiveTurn config tasks live exclusive) (sym is) (live_turn config tasks live exclusive c.args.draft.now c.requires.turn c.args.due c.args.key c.requires.live c.in_ok-wish.wish c.in_ok-wish.ensures)) c.grant.ensures

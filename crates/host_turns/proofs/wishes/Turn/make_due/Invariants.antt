@@ -11,6 +11,6 @@ invariant-loop-key l =
     let wish = wish_of l.due l.self.config.now m in
     record {
       left : with_draft (make_keys wish m l.self.live.now l.initial.draft.draft) l.initial.draft ≡ with_draft (make_keys wish m (drop l.key-index l.self.live.now) l.draft.draft) l.draft;
-      turn : IsLiveTurn l.self.config.now l.self.tasks.now l.self.live.now l.draft;
+      turn : IsLiveTurn l.self.config.now l.self.tasks.now l.self.live.now l.self.exclusive.now l.draft;
       at : l.draft.draft.book.moment ≡ m;
     }
