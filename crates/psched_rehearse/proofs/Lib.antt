@@ -1,9 +1,3 @@
-pub mod LawfulLemmas
-pub mod LineLemmas
-pub mod OrderLemmas
-pub mod SeatLemmas
-pub mod TableLemmas
-pub mod TextLemmas
-pub mod Worked
-pub mod WorkedRehearsals
-pub mod WorkedReport
+mod ArriveLemmas
+mod LineLemmas
+mod PlayLemmas

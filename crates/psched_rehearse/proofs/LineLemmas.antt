@@ -1,32 +1,64 @@
--- How the lines that are left go on.
-use Rattle.std.proofs.Common.{◌≡◌, ℕ, ◌+◌, ◌<◌, ◌≤◌, ◌==◌, List, ◌∷◌, length, get_or, drop, Ok, Err, refl, add-one, arith}
-use Rattle.std.proofs.lemmas.List.{drop_all}
-use Rattle.std.proofs.lemmas.List.Splits.{length-slice_split}
-use Rattle.std.proofs.lemmas.List.Sums.{count_by-le-length}
-use Rattle.std.proofs.Math.Seq.{drop-cons}
-use Rattle.psched_rehearse.specs.Script.{line_of, lines_from, lines_of, with_line}
-use Rattle.psched_rehearse.specs.declared.read.Content.{Content}
-use Rattle.psched_rehearse.specs.declared.script.Reason.{Reason}
-use Rattle.psched_rehearse.specs.declared.script.Script.{Script}
-use Rattle.psched_rehearse.specs.declared.script.ScriptFault.TheVariants.{Refused}
+-- What a line does to what is seen, and the parts of its report.
+use Rattle.std.specs.Fmt.{decimal}
+use Rattle.std.specs.Prelude.{IfSome, codes, if◌then◌else◌}
+use Rattle.std.proofs.Common.{◌≡◌, ◌≤◌, ◌<◌, ◌+◌, ◌++◌, ◌∙◌, ℕ, Bool, true, false, List, Option, Some, None, ap, append_assoc, arith, drop, length}
+use Rattle.std.proofs.Math.Seq.{drop-append_seam}
+use Rattle.ps_time.specs.Numbers.{greatest_length}
+use Rattle.ps_doors.specs.declared.archiver.Tried.TheVariants.{Failed, Succeeded}
+use Rattle.std.specs.Str.{bytes_eq}
+use Rattle.host_model.specs.declared.input.Input.{Input}
+use Rattle.host_model.specs.declared.lead.Due.{Due}
+use Rattle.psched_script.specs.declared.script.ScriptHost.{ScriptHost}
+use Rattle.psched_world.specs.World.{Letter}
+use Rattle.report_text.specs.Line.{line_text}
+use Rattle.rehearsal_model.specs.Moves.{Move, archived, retry_of, trying}
+use Rattle.rehearsal_model.specs.Reaching.{MayMove}
+use Rattle.rehearsal_model.specs.Rehearsal.{letters_told}
+use Rattle.rehearsal_model.specs.Seen.{Seen, config_at}
+use Rattle.rehearsal_state.specs.Moved.{with_step}
+use Rattle.rehearsal_state.proofs.MoveLemmas.{stage_stepped}
 
-module _ (script : Script) (all : List (List ℕ)) (n : ℕ) where
-  -- a line after n others, cut from those that are left
-  cut : (line : List ℕ) → n < length all → line ≡ get_or all n line → drop n all ≡ line ∷ drop (n + 1) all
-  cut line within is = rw is (rw (add-one, drop-cons all n line within) refl)
+-- ---- a line of a report that is written in two parts
+pub line_joined : (old said more : List ℕ) (line : ℕ)
+    → ((old ++ (decimal line ++ codes " " ++ said)) ++ more) ++ codes "\n" ≡ old ++ line_text line (said ++ more)
+line_joined old said more line =
+    let front : List ℕ = decimal line ++ codes " " in
+    ap (λ x. x ++ codes "\n") (append_assoc old (front ++ said) more ∙ ap (λ x. old ++ x) (append_assoc front said more))
+    ∙ append_assoc old (front ++ (said ++ more)) (codes "\n")
 
-  -- a line that is read is followed by those after it
-  pub lines_from-read : (line : List ℕ) (content : Content) (more : Script) → n < length all → line ≡ get_or all n line → line_of script.hosts line ≡ Ok content → more ≡ with_line script (n + 1) content → lines_from script (n + 1) (drop n all) ≡ lines_from more (n + 1 + 1) (drop (n + 1) all)
-  lines_from-read line content more within is reads goes = rw (cut line within is, reads, goes) refl
+-- a line that tells of messages: those that were sent after `before`
+pub told_as : (hosts : List ScriptHost) (b : Seen) (line : ℕ) (old said begun new : List ℕ) (before after sent : List Letter)
+    → before ≡ b.letters → after ≡ b.letters ++ sent → begun ≡ old ++ (decimal line ++ codes " " ++ said)
+    → new ≡ begun ++ letters_told hosts (length before + 1) (drop (length before) after) ++ codes "\n"
+    → new ≡ old ++ line_text line (said ++ letters_told hosts (length b.letters + 1) sent)
+told_as hosts b line old said begun new before after sent before_is after_is begun_is new_is =
+    let front : List ℕ = old ++ (decimal line ++ codes " " ++ said) in
+    new_is
+    ∙ (ap (λ (x : List ℕ). (x ++ letters_told hosts (length before + 1) (drop (length before) after)) ++ codes "\n") begun_is
+    ∙ (ap (λ (x : List Letter). (front ++ letters_told hosts (length x + 1) (drop (length x) after)) ++ codes "\n") before_is
+    ∙ (ap (λ (x : List Letter). (front ++ letters_told hosts (length b.letters + 1) (drop (length b.letters) x)) ++ codes "\n") after_is
+    ∙ (ap (λ (x : List Letter). (front ++ letters_told hosts (length b.letters + 1) x) ++ codes "\n") (drop-append_seam b.letters sent)
+    ∙ line_joined old said (letters_told hosts (length b.letters + 1) sent) line))))
 
-  -- a line that is refused ends the reading
-  pub lines_from-refused : (line : List ℕ) (reason : Reason) → n < length all → line ≡ get_or all n line → line_of script.hosts line ≡ Err reason → lines_from script (n + 1) (drop n all) ≡ Err (Refused (n + 1) reason)
-  lines_from-refused line reason within is refuses = rw (cut line within is, refuses) refl
+-- ---- the configuration stays
+pub config_stepped : (b : Seen) (place clock : ℕ) (i : Input) → place < length b.stages → config_at (with_step b place clock i) place ≡ config_at b place
+config_stepped b place clock i lt = ap (λ s. s.config) (stage_stepped b place clock i lt)
 
-  -- after all lines the script stands
-  pub lines_from-end : length all ≤ n → lines_from script (n + 1) (drop n all) ≡ Ok script
-  lines_from-end over = rw (drop_all n all over) refl
+-- ---- what may be tried
+-- an archiver asks for no long wait
+chosen : (x y z : Bool) → IfSome (retry_of (if x then Succeeded else if y then (if z then Failed (codes "failed") (Some 0) else Succeeded) else Failed (codes "no such archiver") None)) (λ r. r ≤ greatest_length)
+chosen true y z = tt
+chosen false true true = omega arith
+chosen false true false = tt
+chosen false false z = tt
 
--- there is at most one more line than bytes
-pub length-lines_of : (bytes : List ℕ) → length (lines_of bytes) ≤ length bytes + 1
-length-lines_of bytes = rw (length-slice_split (λ b. b == 10) bytes) (omega (arith, count_by-le-length (λ b. b == 10) bytes))
+archived_in : (archiver settings : List ℕ) (tried : ℕ) → IfSome (retry_of (archived archiver settings tried)) (λ r. r ≤ greatest_length)
+archived_in archiver settings tried = chosen (bytes_eq archiver (codes "bitbucket")) (bytes_eq archiver (codes "failer")) _
+
+pub may_try : (b : Seen) (place clock : ℕ) (o : Option Due) → MayMove b (trying place clock o)
+may_try b place clock None = tt
+may_try b place clock (Some d) = archived_in d.archiver d.settings d.tried
+
+pub may_either : (b : Seen) (t : Bool) (x y : Move) → MayMove b x → MayMove b y → MayMove b (if t then x else y)
+may_either b true x y may other = may
+may_either b false x y may other = other

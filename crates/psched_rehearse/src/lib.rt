@@ -1,10 +1,9 @@
-//! Rehearsals: scripts of what happens on some hosts, read and run.
+//! Rehearsals: the hosts of a script are run line by line, and what they do is reported.
 #![tactic(auto)]
 
-mod fields;
-pub mod read;
+pub mod archive;
+pub mod arrive;
+pub mod ask;
+pub mod line;
 pub mod rehearse;
-mod report;
-pub mod script;
-mod table;
-mod words;
+pub mod request;

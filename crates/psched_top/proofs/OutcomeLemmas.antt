@@ -1,5 +1,5 @@
 -- Why an outcome comes, from what a reading gave.
-use Rattle.std.proofs.Common.{◌≡◌, ◌≤◌, ◌<◌, ℕ, Bool, true, length, List, [], Option, Some, None, Result, Ok, Err, IfOk, IfSome, inl, inr, refl, ap, subst, ◌∙◌, arith, rules, tests}
+use Rattle.std.proofs.Common.{◌≡◌, ◌≤◌, ◌<◌, ℕ, true, length, List, [], Option, Some, None, IfSome, inl, inr, refl, ap, subst, ◌∙◌, arith, rules, tests}
 use Rattle.ps_ports.specs.All.{GaveAll, GaveMoreThan, HeldMoreThan}
 use Rattle.ps_ports.specs.Causes.{Rose}
 use Rattle.ps_ports.specs.declared.fault.AllFault.{AllFault}

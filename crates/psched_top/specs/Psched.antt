@@ -3,12 +3,11 @@ use Rattle.std.specs.Prelude.{◌≡◌, ◌⊎◌, ℕ, true, List, [], Option,
 use Rattle.std.specs.Io.KnownBytes.{Appends}
 use Rattle.ps_ports.specs.All.{WrotePrefix}
 use Rattle.ps_ports.specs.Causes.{Rose}
-use Rattle.world_law.specs.Laws.{Booked}
+use Rattle.psched_world.specs.Laws.{Safe}
 use Rattle.limit_apply.specs.Limits.{Config}
-use Rattle.psched_rehearse.specs.declared.script.Script.{Script}
-use Rattle.psched_rehearse.specs.Rehearsal.{report_of}
-use Rattle.psched_rehearse.specs.Script.{script_of}
-use Rattle.psched_rehearse.specs.World.{world_of}
+use Rattle.psched_script.specs.declared.script.Script.{Script}
+use Rattle.rehearsal_model.specs.Rehearsal.{report_of, world_of}
+use Rattle.psched_script.specs.Script.{script_of}
 use Rattle.psched_top.specs.Command.{takes_input}
 use Rattle.limit_apply.specs.Read.{config_in}
 use Rattle.psched_top.specs.Limits.{valid_text}
@@ -41,24 +40,24 @@ pub record IsReadFault (asked : Option Command) (before now : ℕ) (outcome : Ou
 abbrev pub Comes : Option Command → Option (List ℕ) → ℕ → ℕ → Outcome → Type 0
 Comes command held before now outcome = IsGiven command held outcome ⊎ IsReadFault command before now outcome
 
--- the input was read to its end and is a script, in whose world no two booked runs of a host conflict
+-- the input was read to its end and is a script whose world keeps the laws
 pub record Rehearsed (held left : Option (List ℕ)) : Type 0 where
   pub input : List ℕ
   pub all : IsAll held input
   pub ended : IsReadToEnd held left
   pub script : Script
   pub grammar : script_of input ≡ Ok script
-  pub safe : Booked (world_of script)
+  pub safe : Safe (world_of script)
 
 -- its report is the outcome
 abbrev pub IsRehearsed : Option (List ℕ) → Option (List ℕ) → Outcome → Type 0
 IsRehearsed held left outcome = (r : Rehearsed held left) × (outcome ≡ Report (report_of r.script))
 
--- the input is a script, in whose world no two booked runs of a host conflict, and its report is the outcome
+-- the input is a script whose world keeps the laws, and its report is the outcome
 pub record IsSafeReport (input : List ℕ) (outcome : Outcome) : Type 0 where
   pub script : Script
   pub grammar : script_of input ≡ Ok script
-  pub safe : Booked (world_of script)
+  pub safe : Safe (world_of script)
   pub report : outcome ≡ Report (report_of script)
 
 -- the input was read to its end and is a configuration of limits

@@ -2,19 +2,21 @@
 ghost use Rattle.std.specs.Prelude.{◌≡◌};
 ghost use Rattle.psched_top.specs.Outcome.{status_of, text_of};
 
+use ps_time::items::Items;
 use ps_time::text::Text;
 
 const USAGE: &str =
     "usage: psched rehearse | validate-limits | generate N | daemon OPTIONS PEER... | task URL | result URL | cancel URL | clock URL | schedule URL [START END]\n";
 
-/// What a call comes to. Each text ends with a line feed, or is empty.
+/// What a call comes to. Each text ends with a line feed, or is empty. A report is bytes, since what it shows of a response may be
+/// any.
 pub enum Outcome {
     /// The usage line was asked for.
     Usage,
     /// The version was asked for.
     Version,
     /// The report on the script.
-    Report(Text),
+    Report(Items<u8>),
     /// The input is a configuration of limits: how many entries it has.
     Valid(Text),
     /// The words aren't in the grammar.
@@ -54,15 +56,16 @@ impl Outcome {
         }
     }
 
-    pub fn text(&self) -> &str
+    pub fn bytes(&self) -> &[u8]
         ensures { result.now ≡ text_of self.now }
     {
         match self {
-            Outcome::Usage | Outcome::WrongWords => USAGE,
-            Outcome::Version => "psched 0.1.0\n",
-            Outcome::Report(text) | Outcome::Valid(text) | Outcome::Refused(text) => text.as_str(),
-            Outcome::TooLong => "input too long\n",
-            Outcome::CannotRead => "cannot read\n",
+            Outcome::Usage | Outcome::WrongWords => USAGE.as_bytes(),
+            Outcome::Version => b"psched 0.1.0\n",
+            Outcome::Report(bytes) => bytes.as_slice(),
+            Outcome::Valid(text) | Outcome::Refused(text) => text.as_str().as_bytes(),
+            Outcome::TooLong => b"input too long\n",
+            Outcome::CannotRead => b"cannot read\n",
         }
     }
 }

@@ -3,7 +3,7 @@ ghost use Rattle.std.specs.Prelude.{◌≡◌, ◌≢◌, ◌≤◌, ◌<◌, tr
 ghost use Rattle.std.specs.Io.KnownBytes.{Appends};
 ghost use Rattle.ps_ports.specs.All.{WrotePrefix};
 ghost use Rattle.ps_ports.specs.Causes.{Rose};
-ghost use Rattle.psched_rehearse.specs.Script.{script_of};
+ghost use Rattle.psched_script.specs.Script.{script_of};
 ghost use Rattle.psched_top.specs.Command.{asked, takes_input};
 ghost use Rattle.psched_top.specs.Outcome.{outcome_of, outcome_of_script, status_of, text_of, unread_of};
 ghost use Rattle.psched_top.specs.Psched.{Comes, CutShort, Exactly, IsChecked, IsRehearsed, IsSafeReport, Reported, Told, Validated};
@@ -17,9 +17,9 @@ use ps_ports::sink::Sink;
 use ps_ports::source::Source;
 use ps_time::memory::Memory;
 use ps_time::text::Text;
-use psched_rehearse::read::read_script;
 use psched_rehearse::rehearse::rehearse;
-use psched_rehearse::script::ScriptFault;
+use psched_script::read::read_script;
+use psched_script::script::ScriptFault;
 use std::alloc::Global;
 
 // The most bytes of an input.
@@ -36,7 +36,7 @@ fn rehearse_bytes(alloc: Global, bytes: &[u8]) -> Result<Outcome, Memory>
     ensures safe { IfOk result (λ outcome. status_of outcome ≡ 0 → IsSafeReport bytes.now outcome) }
 {
     match read_script(alloc, bytes) {
-        Ok(script) => Ok(Outcome::Report(rehearse(alloc, &script)?.report)),
+        Ok(script) => Ok(Outcome::Report(rehearse(alloc, &script)?)),
         Err(ScriptFault::Memory) => Err(Memory),
         Err(fault) => {
             let line = format!(in alloc; "{fault}\n")?;
@@ -107,7 +107,7 @@ fn tell<K: Sink>(sink: &mut K, outcome: &Outcome) -> u8
     ensures later { K.write_faults sink.old ≤ K.write_faults sink.new }
     ensures kept { K.sink_kept sink.old sink.new }
 {
-    match write_all(sink, outcome.text().as_bytes()) {
+    match write_all(sink, outcome.bytes()) {
         Ok(()) => outcome.status(),
         Err(_) => WRITE_FAULT,
     }
@@ -128,7 +128,7 @@ pub fn psched<S: Source, K: Sink>(
     // Status and text are these functions of the words and the whole input.
     ensures exact { result ≤ 2 → IfSome (S.left source.old) (λ held. Exactly (outcome_of (asked words.now) held) (K.written sink.old) (K.written sink.new) result) }
 
-    // A rehearsal that succeeds wrote the report on its script, and no two booked runs of a host conflict.
+    // A rehearsal that succeeds wrote the report on its script, whose world keeps the laws.
     ensures rehearsed { result ≡ 0 → asked words.now ≡ Some Command.Rehearse → Reported (S.left source.old) (S.left source.new) (K.written sink.old) (K.written sink.new) }
 
     // A check that succeeds wrote how many entries the configuration has.

@@ -1,11 +1,10 @@
 -- What is seen after a line, over what was seen before it.
-use Rattle.std.specs.Prelude.{◌++◌, List, [], ◌∷◌, None, Option, Some, map, max, set, ℕ}
+use Rattle.std.specs.Prelude.{◌++◌, List, [], None, Option, Some, map, max, set, ℕ}
 use Rattle.host_model.specs.Book.{empty_book}
 use Rattle.host_model.specs.declared.input.Input.{Input}
 use Rattle.host_model.specs.declared.input.Input.TheVariants as input
 use Rattle.psched_world.specs.Events.{brings}
 use Rattle.psched_world.specs.World.{Letter, Stage}
-use Rattle.psched_script.specs.declared.script.Numbered.{Numbered}
 use Rattle.psched_script.specs.declared.script.ScriptHost.{ScriptHost}
 use Rattle.psched_script.specs.declared.script.ScriptLine.{ScriptLine}
 use Rattle.rehearsal_model.specs.Hosts.{first_config}
@@ -47,7 +46,3 @@ moved_seen hosts b l move = record {
 
 abbrev pub seen_after : List ScriptHost → Seen → ScriptLine → Seen
 seen_after hosts b l = moved_seen hosts b l (move_of b l)
-
-abbrev pub seen_after_all : List ScriptHost → Seen → List Numbered → Seen
-seen_after_all hosts b [] = b
-seen_after_all hosts b (l ∷ ls) = seen_after_all hosts (seen_after hosts b l.line) ls

@@ -30,10 +30,6 @@ pub record Reaches (hosts : List ScriptHost) (s : Show) : Type 0 where
   pub flying : All (λ n. IsTrue (is_sent (seen hosts s) n)) s.flying
   pub last : s.last ≤ greatest_moment
 
--- some world that a rehearsal comes to is seen so
-abbrev pub IsOfWorld : List ScriptHost → Seen → Type 0
-IsOfWorld hosts b = (s : Show) × Reaches hosts s × (seen hosts s ≡ b)
-
 -- the host at the place may be given what it is asked
 abbrev pub MayMove : Seen → Move → Type 0
 MayMove b (Move.Asks place clock i) = IsInput (config_at b place) i

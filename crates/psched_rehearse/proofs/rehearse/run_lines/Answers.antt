@@ -1,0 +1,41 @@
+use Rattle.std.proofs.Common.{◌≡◌, ◌<◌, ◌+◌, ◌++◌, ◌∙◌, ◌∷◌, List, ap, arith, drop, get_or, length, subst, sym}
+use Rattle.std.proofs.lemmas.List.{drop_more}
+use Rattle.psched_script.specs.Lawful.{IsLawfulLine}
+use Rattle.psched_script.specs.declared.script.Numbered.{Numbered}
+use Rattle.psched_script.specs.declared.script.ScriptHost.{ScriptHost}
+use Rattle.report_text.specs.Line.{line_text}
+use Rattle.rehearsal_model.specs.After.{seen_after}
+use Rattle.rehearsal_model.specs.Rehearsal.{first_show, told}
+use Rattle.psched_rehearse.specs.Playing.{IsPlaying}
+use Rattle.psched_rehearse.proofs.PlayLemmas.{HasCome, one_more, playing}
+use Rattle.psched_rehearse.proofs.rehearse.run_lines.Goals as goal
+
+-- the next line can be run
+pub run_line-requires-clause-playing : goal.run_line-requires-clause-playing
+run_line-requires-clause-playing c =
+    let hosts = c.args.script.now.hosts in
+    let come = c.loop-numbered.invariant in
+    subst (λ (hs : List ScriptHost). IsPlaying hs c.loop-numbered.now) (sym c.as_slice-hosts.ensures)
+    (subst (IsPlaying hosts) come.seen_so (playing hosts c.requires.lawful.hosts come.show come.reaches))
+
+pub loop-numbered-preserved : goal.loop-numbered-preserved
+loop-numbered-preserved c =
+    let hosts = c.args.script.now.hosts in
+    let lines = c.args.script.now.lines in
+    let items : List Numbered = c.as_slice-numbered-items.result.now in
+    let items_are : items ≡ lines = c.as_slice-numbered-items.ensures in
+    let hosts_are = c.as_slice-hosts.ensures in
+    let i = c.loop-numbered.numbered-index in
+    let l = c.numbered-item.result in
+    let b = c.loop-numbered.now in
+    let report = c.loop-numbered.report in
+    let within : i < length items = omega arith in
+    let here : l ≡ get_or items i l = c.numbered-item.is in
+    let left : drop i items ≡ l ∷ drop (i + 1) items = drop_more items i l within ∙ ap (λ x. x ∷ drop (i + 1) items) (sym here) in
+    let at : get_or lines i l ≡ l = sym (here ∙ ap (λ (xs : List Numbered). get_or xs i l) items_are) in
+    let is : IsLawfulLine (length hosts) l.line = subst (λ (x : Numbered). IsLawfulLine (length hosts) x.line) at (c.requires.lawful.lines i l (subst (λ (xs : List Numbered). i < length xs) items_are within)) in
+    one_more hosts c.requires.lawful.hosts (first_show hosts) lines (drop (i + 1) items) c.args.report.now report b l
+    (subst (λ (xs : List Numbered). HasCome hosts (first_show hosts) lines xs c.args.report.now report b) left c.loop-numbered.invariant)
+    is c.in_ok-run_line.ensures.may
+    c.run_line.new.report (c.in_ok-run_line.ensures.report ∙ ap (λ (hs : List ScriptHost). report ++ line_text l.number (told hs b l.line)) hosts_are)
+    c.run_line.new.now (c.in_ok-run_line.ensures.seen ∙ ap (λ (hs : List ScriptHost). seen_after hs b l.line) hosts_are)

@@ -1,0 +1,33 @@
+-- What holds of the hosts and messages of a rehearsal before each of its lines.
+use Rattle.std.specs.Prelude.{◌<◌, ◌≡◌, ◌≤◌, Bool, List, Some, false, length, true, ℕ}
+use Rattle.ps_time.specs.Numbers.{greatest_moment}
+use Rattle.host_model.specs.Conditions.{IsConfig, IsInput}
+use Rattle.psched_world.specs.Events.{brings}
+use Rattle.psched_world.specs.World.{Letter}
+use Rattle.psched_script.specs.declared.script.ScriptHost.{ScriptHost}
+use Rattle.psched_script.specs.declared.script.ScriptLine.{ScriptLine}
+use Rattle.psched_script.specs.declared.script.ScriptLine.TheVariants as line
+use Rattle.rehearsal_model.specs.Moves.{receiver}
+use Rattle.rehearsal_model.specs.Seen.{Seen, config_at, is_flying, is_sent, message}
+
+-- the host at each place has a configuration that a host may have
+abbrev pub AreConfigs : Seen → Type 0
+AreConfigs b = (place : ℕ) → place < length b.stages → IsConfig (config_at b place)
+
+-- a stage for each host, in which it has a configuration that a host may have; each message that was sent is for one of the hosts,
+-- and asks what that host may be asked; what is in flight was sent
+pub record IsPlaying (hosts : List ScriptHost) (b : Seen) : Type 0 where
+  pub places : length b.stages ≡ length hosts
+  pub configs : AreConfigs b
+  pub receivers : (n : ℕ) (l : Letter) → message b n ≡ Some l → receiver hosts l < length hosts
+  pub asks : (n : ℕ) (l : Letter) → message b n ≡ Some l → IsInput (config_at b (receiver hosts l)) (brings l l.reply)
+  pub flying : (n : ℕ) → is_flying b n ≡ true → is_sent b n ≡ true
+  pub last : b.last ≤ greatest_moment
+
+-- a line that asks a host something: to book a run, or what a request asks
+abbrev pub is_asked : ScriptLine → Bool
+is_asked (line.Book at host class priority start len) = true
+is_asked (line.Post at host address body) = true
+is_asked (line.Get at host path) = true
+is_asked (line.Delete at host address path) = true
+is_asked _ = false

@@ -1,5 +1,0 @@
-pub mod Bookings
-pub mod Kept
-pub mod Sample
-pub mod Stages
-pub mod Worlds

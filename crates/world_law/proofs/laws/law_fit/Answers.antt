@@ -1,5 +1,0 @@
-use Rattle.world_law.proofs.Worlds.{fit_law}
-use Rattle.world_law.proofs.laws.law_fit.Goals as goal
-
-pub returns : goal.returns
-returns c = fit_law

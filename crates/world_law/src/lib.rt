@@ -1,4 +1,0 @@
-//! The laws of a world of hosts.
-#![tactic(auto)]
-
-pub mod laws;
