@@ -1,5 +1,6 @@
-// A plain program for comparison: the same scripts and reports as `psched rehearse`, bookings alone,
-// written with std and nothing else, with no proofs. It keeps one list of rows and looks at all of them.
+// A plain program for comparison: the same reports as `psched rehearse` on scripts of bookings alone, on hosts that allow
+// everything and have all tools, written with std and nothing else, with no proofs. It keeps one list of rows and looks at
+// all of them.
 use std::fmt::Write as _;
 use std::io::{self, Read, Write};
 

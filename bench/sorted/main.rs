@@ -1,6 +1,6 @@
-// A plain program for comparison: the same scripts and reports as `psched rehearse`, bookings alone,
-// written with std and nothing else, with no proofs. It keeps sorted maps of what is booked, by class and
-// start, and of what may lapse, and passes over no row that isn't concerned.
+// A plain program for comparison: the same reports as `psched rehearse` on scripts of bookings alone, on hosts that allow
+// everything and have all tools, written with std and nothing else, with no proofs. It keeps sorted maps of what is booked, by
+// class and start, and of what may lapse, and passes over no row that isn't concerned.
 use std::collections::{BTreeMap, BTreeSet};
 use std::fmt::Write as _;
 use std::io::{self, Read, Write};
