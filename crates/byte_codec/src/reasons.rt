@@ -10,7 +10,7 @@ use ps_time::asker::{Asker, Verdict};
 use ps_time::key::RunKey;
 use ps_time::memory::Memory;
 use ps_time::text::Text;
-use run_states::proposal::Proposal;
+use run_states::proposal::{BoxedProposal, Proposal};
 use run_states::state::State;
 use run_states::why::{Cause, Closing, Denial, What, Why};
 use std::alloc::Global;
@@ -68,6 +68,8 @@ fn read_denial(alloc: Global, number: u8, bytes: &[u8]) -> Result<(Denial, &[u8]
         }
         5 => {
             let ((kept, sent), rest) = <(Proposal, Proposal)>::read(alloc, bytes)?;
+            let kept = BoxedProposal::new(alloc, kept)?;
+            let sent = BoxedProposal::new(alloc, sent)?;
             Ok((Denial::Differs(kept, sent), rest))
         }
         6 => {
@@ -94,7 +96,9 @@ impl Coded for Denial {
             Denial::Past(moment, start) => write_variant_2(alloc, 2, moment, start, out),
             Denial::Conflict(run) => write_variant(alloc, 3, run, out),
             Denial::Full(full, count) => write_variant_2(alloc, 4, full, count, out),
-            Denial::Differs(kept, sent) => write_variant_2(alloc, 5, kept, sent, out),
+            Denial::Differs(kept, sent) => {
+                write_variant_2(alloc, 5, kept.proposal(), sent.proposal(), out)
+            }
             Denial::Closed(name) => write_variant(alloc, 6, name, out),
             Denial::NotParticipant => {
                 out.push(7)?;

@@ -131,8 +131,8 @@ fn denial_length(alloc: Global, denial: &Denial) -> Result<u64, Memory>
         Denial::Conflict(_) => Ok(13),
         Denial::Full(_, _) => Ok(10),
         Denial::Differs(kept, sent) => {
-            let first = plus(1, proposal_length(alloc, kept)?)?;
-            plus(first, proposal_length(alloc, sent)?)
+            let first = plus(1, proposal_length(alloc, kept.proposal())?)?;
+            plus(first, proposal_length(alloc, sent.proposal())?)
         }
         Denial::Closed(_) => Ok(2),
         Denial::NotParticipant => Ok(1),

@@ -80,7 +80,8 @@ fn told_denial(alloc: Global, denial: &Denial) -> Result<String, Memory> {
         Denial::Full(what, count) => told_full(alloc, *what, *count),
         Denial::Differs(kept, sent) => Ok(format!(in alloc;
             "denied differs {} {}",
-            kept.start, sent.start
+            kept.proposal().start,
+            sent.proposal().start
         )?),
         Denial::Closed(state) => named(alloc, "denied closed", state.name()),
         Denial::NotParticipant => word(alloc, "denied not a participant"),

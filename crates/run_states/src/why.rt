@@ -1,7 +1,7 @@
 //! Why a host denies a run, and why a row was closed.
 ghost use Rattle.std.specs.Prelude.{◌≡◌, IfOk};
 
-use crate::proposal::Proposal;
+use crate::proposal::BoxedProposal;
 use crate::state::State;
 use ps_time::asker::Verdict;
 use ps_time::duplicate::Duplicate;
@@ -34,7 +34,7 @@ pub enum Denial {
     /// This is full, and so much is there.
     Full(What, u64),
     /// The key's row has other content: first the kept one, then the one that was sent.
-    Differs(Proposal, Proposal),
+    Differs(BoxedProposal, BoxedProposal),
     /// The key's row is closed, for the reason that this state names.
     Closed(State),
     /// It isn't a participant of the test.
@@ -92,7 +92,9 @@ impl Same for Denial {
             (Denial::Past(a, s), Denial::Past(b, t)) => a == b && s == t,
             (Denial::Conflict(a), Denial::Conflict(b)) => a == b,
             (Denial::Full(a, m), Denial::Full(b, n)) => a == b && m == n,
-            (Denial::Differs(a, s), Denial::Differs(b, t)) => a.same(b) && s.same(t),
+            (Denial::Differs(a, s), Denial::Differs(b, t)) => {
+                a.proposal().same(b.proposal()) && s.proposal().same(t.proposal())
+            }
             (Denial::Closed(a), Denial::Closed(b)) => a == b,
             (Denial::NotParticipant, Denial::NotParticipant) => true,
             (Denial::NoTool(a), Denial::NoTool(b)) => a.same(b),

@@ -9,7 +9,7 @@ use ps_time::memory::Memory;
 use ps_time::text::Text;
 use ps_time::tiers::Tiers;
 use run_states::answer::{FreeAnswer, Other};
-use run_states::proposal::Proposal;
+use run_states::proposal::{BoxedProposal, Proposal};
 use run_states::row::{Ending, RunRow};
 use run_states::why::{Cause, Closing, Denial, Why};
 use std::alloc::Global;
@@ -115,8 +115,8 @@ fn proposal(alloc: Global, start: u64) -> Result<Proposal, Memory> {
 
 // The row of the key has a start at 60, and one at 61 was sent.
 fn denial(alloc: Global) -> Result<Denial, Memory> {
-    let kept = proposal(alloc, 60)?;
-    let sent = proposal(alloc, 61)?;
+    let kept = BoxedProposal::new(alloc, proposal(alloc, 60)?)?;
+    let sent = BoxedProposal::new(alloc, proposal(alloc, 61)?)?;
     Ok(Denial::Differs(kept, sent))
 }
 

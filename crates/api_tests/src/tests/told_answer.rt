@@ -47,7 +47,7 @@ fn told_denial(alloc: Global, denial: &Denial) -> Result<String, Memory> {
             Ok(format!(in alloc; "denied conflict {id}")?)
         }
         Denial::Full(what, count) => told_full(alloc, *what, *count),
-        Denial::Differs(kept, sent) => told_differs(alloc, kept, sent),
+        Denial::Differs(kept, sent) => told_differs(alloc, kept.proposal(), sent.proposal()),
         Denial::Closed(state) => {
             let name = state.name();
             Ok(format!(in alloc; "denied closed {name}")?)
