@@ -7,6 +7,7 @@ use Rattle.ps_time.specs.Span.{Span}
 use Rattle.ps_time.specs.declared.class.Class.{Class}
 use Rattle.ps_time.specs.declared.key.RunKey.{RunKey}
 use Rattle.run_states.specs.declared.row.RunRow.{RunRow}
+use Rattle.run_states.specs.declared.why.Closing.{Closing}
 use Rattle.run_states.specs.declared.why.Why.TheVariants.{Preempted}
 use Rattle.run_states.specs.Life.{close_row}
 use Rattle.run_states.specs.Rows.{change_row}
@@ -25,10 +26,10 @@ closed_each_keys m key class s (b ∷ bs) rows =
     ]
 
 -- what holds of rows, and of a row as it closes, holds as the row of a key closes
-module _ (P : RunRow → Type 0) (m : ℕ) (key : RunKey) (keep : (r : RunRow) → P r → P (close_row (record { moment = m; why = Preempted key }) r)) where
-  pub closed_all : (k : RunKey) (rows : List RunRow) → All P rows → All P (change_row (close_row (record { moment = m; why = Preempted key })) rows k)
-  closed_all k rows all = All-map P (λ r. cond (is_eq (key_cmp r.key k)) (close_row (record { moment = m; why = Preempted key }) r) r) rows (λ i d lt. one (is_eq (key_cmp (get_or rows i d).key k)) (get_or rows i d) (all i d lt))
+module _ (P : RunRow → Type 0) (c : Closing) (keep : (r : RunRow) → P r → P (close_row c r)) where
+  pub closed_all : (k : RunKey) (rows : List RunRow) → All P rows → All P (change_row (close_row c) rows k)
+  closed_all k rows all = All-map P (λ r. cond (is_eq (key_cmp r.key k)) (close_row c r) r) rows (λ i d lt. one (is_eq (key_cmp (get_or rows i d).key k)) (get_or rows i d) (all i d lt))
     where
-      one : (b : Bool) (r : RunRow) → P r → P (cond b (close_row (record { moment = m; why = Preempted key }) r) r)
+      one : (b : Bool) (r : RunRow) → P r → P (cond b (close_row c r) r)
       one true r holds = keep r holds
       one false r holds = holds

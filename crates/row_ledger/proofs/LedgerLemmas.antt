@@ -1,17 +1,20 @@
 -- What is counted over rows is right after one of them changed, came or went.
 use Rattle.std.proofs.Common.{◌≡◌, ℕ, ◌+◌, ◌-◌, ◌≤◌, Bool, true, false, cond, not, List, [], ◌∷◌, Option, Some, None, IfSome, All, min, option_map, sym, subst, ◌∙◌, arith}
-use Rattle.std.proofs.lemmas.List.Elements.{recursion_from_All, All-filter, All-from_recursion, All-weaker}
+use Rattle.std.proofs.lemmas.List.Elements.{recursion_from_All, All-filter, All-from_recursion}
 use Rattle.std.specs.List.{AllByRecursion}
 use Rattle.std.specs.Ordering.{is_eq, match_ordering}
 use Rattle.std.specs.declared.cmp.Ordering.TheVariants.{Less, Equal, Greater}
 use Rattle.ps_time.specs.Key.{key_cmp}
 use Rattle.ps_time.specs.declared.key.RunKey.{RunKey}
-use Rattle.run_states.specs.Life.{settled_rows, HasMoments}
+use Rattle.run_states.specs.Life.{close_row, HasMoments}
 use Rattle.run_states.specs.ResultBytes.{result_bytes, row_bytes}
 use Rattle.run_states.specs.Rows.{change_row, find_row, lift_row, put_row, IsAscendingRows}
 use Rattle.run_states.specs.declared.row.RunRow.{RunRow}
-use Rattle.row_ledger.specs.Ledger.{bytes_at, most_counted, IsCounted, StandsUntil}
-use Rattle.row_ledger.proofs.RowLemmas.{bytes_changed, bytes_lifted, bytes_put, bytes_settled, bytes_within, found_change, stand_changed}
+use Rattle.run_states.specs.declared.why.Closing.{Closing}
+use Rattle.row_ledger.specs.Ledger.{bytes_at, most_counted, IsCounted}
+use Rattle.row_ledger.proofs.ClosingLemmas.{closed_all}
+use Rattle.row_ledger.proofs.LapseLemmas.{moments_closed}
+use Rattle.row_ledger.proofs.RowLemmas.{bytes_changed, bytes_closed, bytes_lifted, bytes_put, bytes_within, found_change}
 
 all_found : (P : RunRow → Type 0) (key : RunKey) (rows : List RunRow) → AllByRecursion P rows → IfSome (find_row rows key) P
 all_found P key [] all = tt
@@ -24,10 +27,6 @@ all_found P key (r ∷ rs) all =
 -- what holds of all rows holds of the one that the key finds
 pub found_if : (P : RunRow → Type 0) (key : RunKey) (rows : List RunRow) → All P rows → IfSome (find_row rows key) P
 found_if P key rows all = all_found P key rows (recursion_from_All P rows all)
-
-pub sooner_if : (a b : ℕ) → a ≤ b → (o : Option RunRow) → IfSome o (StandsUntil b) → IfSome o (StandsUntil a)
-sooner_if a b low None stands = tt
-sooner_if a b low (Some r) stands = λ m before. stands m (omega (arith, before, low))
 
 put_recursion : (P : RunRow → Type 0) (r : RunRow) (rows : List RunRow) → P r → AllByRecursion P rows → AllByRecursion P (put_row rows r)
 put_recursion P r [] here all = (here, tt)
@@ -42,7 +41,7 @@ put_recursion P r (x ∷ xs) here all =
 pub all_put : (P : RunRow → Type 0) (r : RunRow) (rows : List RunRow) → P r → All P rows → All P (put_row rows r)
 all_put P r rows here all = All-from_recursion P (put_row rows r) (put_recursion P r rows here (recursion_from_All P rows all))
 
-module _ (f : RunRow → RunRow) (same : (r : RunRow) → (f r).key ≡ r.key) (rows : List RunRow) (bytes until : ℕ) (k : RunKey) (n : ℕ) (counted : IsCounted rows bytes until) (up : IsAscendingRows rows)
+module _ (f : RunRow → RunRow) (same : (r : RunRow) → (f r).key ≡ r.key) (rows : List RunRow) (bytes : ℕ) (k : RunKey) (n : ℕ) (counted : IsCounted rows bytes) (up : IsAscendingRows rows)
     (brings : (r : RunRow) → row_bytes (f r) ≤ row_bytes r + n) (room : n ≤ most_counted - result_bytes rows) (low : bytes ≤ most_counted)
     (before : ℕ) (is : before ≡ min (bytes_at (find_row rows k)) most_counted) where
   pub changed_less : before ≤ bytes
@@ -63,27 +62,25 @@ module _ (f : RunRow → RunRow) (same : (r : RunRow) → (f r).key ≡ r.key) (
     pub changed_more : (bytes - before) + after ≤ most_counted
     changed_more = let within = bytes_within rows k in omega (arith, is, within, counted.kept, now, brought, room, low)
 
-    pub changed_counted : (next : ℕ) → All HasMoments (change_row f rows k) → next ≤ until → IfSome (find_row (change_row f rows k) k) (StandsUntil next) → IsCounted (change_row f rows k) ((bytes - before) + after) next
-    changed_counted next moments sooner here = record {
+    pub changed_counted : All HasMoments (change_row f rows k) → IsCounted (change_row f rows k) ((bytes - before) + after)
+    changed_counted moments = record {
       moments = moments;
       kept =
           let within = bytes_within rows k in
           let all = bytes_changed f same rows k up in
           omega (arith, is, within, counted.kept, now, brought, room, low, all);
-      stand = stand_changed f same next rows k until up sooner counted.stand here;
     }
 
-module _ (rows : List RunRow) (bytes until : ℕ) (counted : IsCounted rows bytes until) where
+module _ (rows : List RunRow) (bytes : ℕ) (counted : IsCounted rows bytes) where
   -- a new row has no results
-  pub put_counted : (r : RunRow) (next : ℕ) → HasMoments r → row_bytes r ≡ 0 → next ≤ until → StandsUntil next r → IsCounted (put_row rows r) bytes next
-  put_counted r next moments none sooner stands = record {
+  pub put_counted : (r : RunRow) → HasMoments r → row_bytes r ≡ 0 → IsCounted (put_row rows r) bytes
+  put_counted r moments none = record {
     moments = all_put HasMoments r rows moments counted.moments;
     kept = let all = bytes_put rows r in omega (arith, all, none, counted.kept);
-    stand = all_put (StandsUntil next) r rows stands (All-weaker (StandsUntil until) (StandsUntil next) (λ x stand m before. stand m (omega (arith, before, sooner))) rows counted.stand);
   }
 
   -- a row goes
-  pub lifted_counted : (k : RunKey) (own : ℕ) → IsAscendingRows rows → bytes ≤ most_counted → own ≡ min (bytes_at (find_row rows k)) most_counted → (own ≤ bytes) × IsCounted (lift_row rows k) (bytes - own) until
+  pub lifted_counted : (k : RunKey) (own : ℕ) → IsAscendingRows rows → bytes ≤ most_counted → own ≡ min (bytes_at (find_row rows k)) most_counted → (own ≤ bytes) × IsCounted (lift_row rows k) (bytes - own)
   lifted_counted k own up low is =
       let within = bytes_within rows k in
       let all = bytes_lifted rows k up in (
@@ -91,10 +88,9 @@ module _ (rows : List RunRow) (bytes until : ℕ) (counted : IsCounted rows byte
         record {
           moments = All-filter (λ r. not (is_eq (key_cmp r.key k))) HasMoments rows counted.moments;
           kept = omega (arith, is, within, counted.kept, low, all);
-          stand = All-filter (λ r. not (is_eq (key_cmp r.key k))) (StandsUntil until) rows counted.stand;
         },
       )
 
-  -- rows settle
-  pub settled_counted : (m next : ℕ) → All HasMoments (settled_rows m rows) → All (StandsUntil next) (settled_rows m rows) → IsCounted (settled_rows m rows) bytes next
-  settled_counted m next moments stand = record { moments = moments; kept = counted.kept ∙ sym (bytes_settled m rows); stand = stand }
+  -- a row closes
+  pub closed_counted : (c : Closing) (k : RunKey) → IsCounted (change_row (close_row c) rows k) bytes
+  closed_counted c k = record { moments = closed_all HasMoments c (λ r within. moments_closed c r within) k rows counted.moments; kept = counted.kept ∙ sym (bytes_closed c rows k) }

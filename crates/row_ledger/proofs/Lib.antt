@@ -1,4 +1,6 @@
 pub mod ClosingLemmas
+pub mod DeadlineLemmas
+pub mod FiledLemmas
 pub mod LapseLemmas
 pub mod LastLemmas
 pub mod LedgerLemmas

@@ -1,5 +1,5 @@
 -- What is counted over rows, as one of them changes, comes or goes.
-use Rattle.std.proofs.Common.{◌≡◌, ℕ, zero, suc, ◌+◌, ◌≤◌, Bool, true, false, not, cond, ◌&&◌, List, [], ◌∷◌, map, sum, Option, Some, None, option_map, option_and_then, IfSome, length, All, refl, ap, ap₂, sym, subst, ◌∙◌, arith}
+use Rattle.std.proofs.Common.{◌≡◌, ℕ, zero, suc, ◌+◌, ◌≤◌, Bool, true, false, not, cond, ◌&&◌, List, [], ◌∷◌, map, sum, Option, Some, None, option_map, option_and_then, IfSome, length, refl, ap, ap₂, sym, subst, ◌∙◌, arith}
 use Rattle.std.proofs.lemmas.List.Sums.{sum_by-cons}
 use Rattle.std.specs.List.{AllByRecursion}
 use Rattle.std.specs.Ordering.{is_eq, match_ordering, ordering_reverse}
@@ -23,13 +23,17 @@ use Rattle.run_states.specs.declared.life.LifeStep.TheVariants.{Confirm, Start, 
 use Rattle.run_states.specs.declared.row.Ending.{Ending}
 use Rattle.run_states.specs.declared.row.RunRow.{RunRow}
 use Rattle.run_states.specs.declared.why.Closing.{Closing}
-use Rattle.run_states.proofs.Place.{changed_all, key_is}
-use Rattle.row_ledger.specs.Ledger.{StandsUntil, answer_bytes, bytes_at, fact_bytes, step_bytes}
+use Rattle.run_states.proofs.Place.{key_is}
+use Rattle.row_ledger.specs.Ledger.{answer_bytes, bytes_at, counted_at, fact_bytes, step_bytes}
 
 -- ---- sums
--- the bytes of one row more
+-- what is counted of one row more
+pub count_cons : (count : RunRow → ℕ) (r : RunRow) (rs : List RunRow) → sum (map count (r ∷ rs)) ≡ count r + sum (map count rs)
+count_cons count r rs = sum_by-cons (λ n. n) (count r) (map count rs)
+
+-- its bytes
 pub bytes_cons : (r : RunRow) (rs : List RunRow) → result_bytes (r ∷ rs) ≡ row_bytes r + result_bytes rs
-bytes_cons r rs = sum_by-cons (λ n. n) (row_bytes r) (map row_bytes rs)
+bytes_cons r rs = count_cons row_bytes r rs
 
 other_way : (a b : ℕ) → a + b ≡ b + a
 other_way a b = omega arith
@@ -87,29 +91,38 @@ module _ (f : RunRow → RunRow) where
           | false ↦ found_change rs j k
         ]
 
-    others_of : (r : RunRow) (rs : List RunRow) (k : RunKey) → is_eq (key_cmp r.key k) ≡ true → AllByRecursion (λ y. key_cmp r.key y.key ≡ Less) rs → AllByRecursion (λ y. is_eq (key_cmp y.key k) ≡ false) rs
+    pub others_of : (r : RunRow) (rs : List RunRow) (k : RunKey) → is_eq (key_cmp r.key k) ≡ true → AllByRecursion (λ y. key_cmp r.key y.key ≡ Less) rs → AllByRecursion (λ y. is_eq (key_cmp y.key k) ≡ false) rs
     others_of r rs k is above = subst (λ j. AllByRecursion (λ y. is_eq (key_cmp y.key j) ≡ false) rs) (key_is r.key k is) (above_other r.key rs above)
 
-    -- the bytes of the rows change as those of the one row
+    -- what is counted of the rows changes as that of the one row
+    module _ (count : RunRow → ℕ) where
+      abbrev of_all : List RunRow → ℕ
+      of_all rows = sum (map count rows)
+
+      pub count_changed : (rows : List RunRow) (k : RunKey) → IsAscendingRows rows
+          → sum (map count (change_row f rows k)) + counted_at count (find_row rows k) ≡ sum (map count rows) + counted_at count (find_row (change_row f rows k) k)
+      count_changed [] k up = refl
+      count_changed (r ∷ rs) k up = go (is_eq (key_cmp r.key k)) refl (count_changed rs k up.1)
+        where
+          here : is_eq (key_cmp r.key k) ≡ true → is_eq (key_cmp (f r).key k) ≡ true
+          here is = ap (λ j. is_eq (key_cmp j k)) (same r) ∙ is
+
+          go : (b : Bool) → is_eq (key_cmp r.key k) ≡ b → of_all (change_row f rs k) + counted_at count (find_row rs k) ≡ of_all rs + counted_at count (find_row (change_row f rs k) k)
+              → of_all (cond b (f r) r ∷ change_row f rs k) + counted_at count (cond b (Some r) (find_row rs k))
+              ≡ of_all (r ∷ rs) + counted_at count (cond (is_eq (key_cmp (cond b (f r) r).key k)) (Some (cond b (f r) r)) (find_row (change_row f rs k) k))
+          go true is later =
+              ap (λ l. of_all (f r ∷ l) + count r) (change_none k rs (others_of r rs k is up.0))
+              ∙ (swapped_own (of_all (f r ∷ rs)) (count r) (of_all (r ∷ rs)) (count (f r)) (of_all rs) (count_cons count (f r) rs) (count_cons count r rs)
+              ∙ sym (ap (λ b. of_all (r ∷ rs) + counted_at count (cond b (Some (f r)) (find_row (change_row f rs k) k))) (here is)))
+          go false is later =
+              swapped (of_all (r ∷ change_row f rs k)) (counted_at count (find_row rs k)) (of_all (r ∷ rs)) (counted_at count (find_row (change_row f rs k) k)) (count r) (of_all (change_row f rs k)) (of_all rs)
+              (count_cons count r (change_row f rs k)) (count_cons count r rs) later
+              ∙ sym (ap (λ b. of_all (r ∷ rs) + counted_at count (cond b (Some r) (find_row (change_row f rs k) k))) is)
+
+    -- and so do the bytes
     pub bytes_changed : (rows : List RunRow) (k : RunKey) → IsAscendingRows rows
         → result_bytes (change_row f rows k) + bytes_at (find_row rows k) ≡ result_bytes rows + bytes_at (find_row (change_row f rows k) k)
-    bytes_changed [] k up = refl
-    bytes_changed (r ∷ rs) k up = go (is_eq (key_cmp r.key k)) refl (bytes_changed rs k up.1)
-      where
-        here : is_eq (key_cmp r.key k) ≡ true → is_eq (key_cmp (f r).key k) ≡ true
-        here is = ap (λ j. is_eq (key_cmp j k)) (same r) ∙ is
-
-        go : (b : Bool) → is_eq (key_cmp r.key k) ≡ b → result_bytes (change_row f rs k) + bytes_at (find_row rs k) ≡ result_bytes rs + bytes_at (find_row (change_row f rs k) k)
-            → result_bytes (cond b (f r) r ∷ change_row f rs k) + bytes_at (cond b (Some r) (find_row rs k))
-            ≡ result_bytes (r ∷ rs) + bytes_at (cond (is_eq (key_cmp (cond b (f r) r).key k)) (Some (cond b (f r) r)) (find_row (change_row f rs k) k))
-        go true is later =
-            ap (λ l. result_bytes (f r ∷ l) + row_bytes r) (change_none k rs (others_of r rs k is up.0))
-            ∙ (swapped_own (result_bytes (f r ∷ rs)) (row_bytes r) (result_bytes (r ∷ rs)) (row_bytes (f r)) (result_bytes rs) (bytes_cons (f r) rs) (bytes_cons r rs)
-            ∙ sym (ap (λ b. result_bytes (r ∷ rs) + bytes_at (cond b (Some (f r)) (find_row (change_row f rs k) k))) (here is)))
-        go false is later =
-            swapped (result_bytes (r ∷ change_row f rs k)) (bytes_at (find_row rs k)) (result_bytes (r ∷ rs)) (bytes_at (find_row (change_row f rs k) k)) (row_bytes r) (result_bytes (change_row f rs k)) (result_bytes rs)
-            (bytes_cons r (change_row f rs k)) (bytes_cons r rs) later
-            ∙ sym (ap (λ b. result_bytes (r ∷ rs) + bytes_at (cond b (Some r) (find_row (change_row f rs k) k))) is)
+    bytes_changed rows k up = count_changed row_bytes rows k up
 
     -- what holds of the changed row
     module _ (P : RunRow → Type 0) where
@@ -121,25 +134,9 @@ module _ (f : RunRow → RunRow) where
           go true is holds = holds
           go false is holds = cc
 
-    -- before an earlier moment none lapses, if the changed row doesn't
-    module _ (next : ℕ) where
-      pub stand_changed : (rows : List RunRow) (k : RunKey) (until : ℕ) → IsAscendingRows rows → next ≤ until → All (StandsUntil until) rows → IfSome (find_row (change_row f rows k) k) (StandsUntil next) → All (StandsUntil next) (change_row f rows k)
-      stand_changed rows k until up sooner stand here =
-          changed_all (StandsUntil until) (StandsUntil next) (λ r stands m before. stands m (omega (arith, before, sooner))) f k (λ r. StandsUntil next (f r)) (λ r own stands. own) rows up (own_row (StandsUntil next) rows k (find_row rows k) refl here) stand
-
 -- ---- a row that comes or goes
 three : (a b c d x y : ℕ) → a ≡ x + b → b ≡ c + y → d ≡ x + c → a ≡ d + y
 three a b c d x y e f g = omega (arith, e, f, g)
-
-pub bytes_put : (rows : List RunRow) (r : RunRow) → result_bytes (put_row rows r) ≡ result_bytes rows + row_bytes r
-bytes_put [] r = bytes_cons r [] ∙ omega arith
-bytes_put (x ∷ xs) r = go (key_cmp x.key r.key) (three (result_bytes (x ∷ put_row xs r)) (result_bytes (put_row xs r)) (result_bytes xs) (result_bytes (x ∷ xs)) (row_bytes x) (row_bytes r) (bytes_cons x (put_row xs r)) (bytes_put xs r) (bytes_cons x xs))
-  where
-    go : (c : Ordering) → result_bytes (x ∷ put_row xs r) ≡ result_bytes (x ∷ xs) + row_bytes r
-        → result_bytes (match_ordering c (x ∷ put_row xs r) (x ∷ put_row xs r) (r ∷ x ∷ xs)) ≡ result_bytes (x ∷ xs) + row_bytes r
-    go Less later = later
-    go Equal later = later
-    go Greater later = bytes_cons r (x ∷ xs) ∙ other_way (row_bytes r) (result_bytes (x ∷ xs))
 
 lift_none : (k : RunKey) (xs : List RunRow) → AllByRecursion (λ y. is_eq (key_cmp y.key k) ≡ false) xs → lift_row xs k ≡ xs
 lift_none k [] all = refl
@@ -148,16 +145,35 @@ lift_none k (x ∷ xs) all = ap₂ (λ b l. cond (not b) (x ∷ l) l) all.0 (lif
 joined : (a b c d x : ℕ) → a ≡ x + b → b + c ≡ d → a + c ≡ x + d
 joined a b c d x e f = omega (arith, e, f)
 
+module _ (count : RunRow → ℕ) where
+  abbrev total : List RunRow → ℕ
+  total rows = sum (map count rows)
+
+  pub count_put : (rows : List RunRow) (r : RunRow) → sum (map count (put_row rows r)) ≡ sum (map count rows) + count r
+  count_put [] r = count_cons count r [] ∙ omega arith
+  count_put (x ∷ xs) r = go (key_cmp x.key r.key) (three (total (x ∷ put_row xs r)) (total (put_row xs r)) (total xs) (total (x ∷ xs)) (count x) (count r) (count_cons count x (put_row xs r)) (count_put xs r) (count_cons count x xs))
+    where
+      go : (c : Ordering) → total (x ∷ put_row xs r) ≡ total (x ∷ xs) + count r → total (match_ordering c (x ∷ put_row xs r) (x ∷ put_row xs r) (r ∷ x ∷ xs)) ≡ total (x ∷ xs) + count r
+      go Less later = later
+      go Equal later = later
+      go Greater later = count_cons count r (x ∷ xs) ∙ other_way (count r) (total (x ∷ xs))
+
+  pub count_lifted : (rows : List RunRow) (k : RunKey) → IsAscendingRows rows → sum (map count (lift_row rows k)) + counted_at count (find_row rows k) ≡ sum (map count rows)
+  count_lifted [] k up = refl
+  count_lifted (r ∷ rs) k up = go (is_eq (key_cmp r.key k)) refl (count_lifted rs k up.1)
+    where
+      go : (b : Bool) → is_eq (key_cmp r.key k) ≡ b → total (lift_row rs k) + counted_at count (find_row rs k) ≡ total rs
+          → total (cond (not b) (r ∷ lift_row rs k) (lift_row rs k)) + counted_at count (cond b (Some r) (find_row rs k)) ≡ total (r ∷ rs)
+      go true is later =
+          let others : AllByRecursion (λ y. is_eq (key_cmp y.key k) ≡ false) rs = subst (λ j. AllByRecursion (λ y. is_eq (key_cmp y.key j) ≡ false) rs) (key_is r.key k is) (above_other r.key rs up.0) in
+          ap (λ l. total l + count r) (lift_none k rs others) ∙ (other_way (total rs) (count r) ∙ sym (count_cons count r rs))
+      go false is later = joined (total (r ∷ lift_row rs k)) (total (lift_row rs k)) (counted_at count (find_row rs k)) (total rs) (count r) (count_cons count r (lift_row rs k)) later ∙ sym (count_cons count r rs)
+
+pub bytes_put : (rows : List RunRow) (r : RunRow) → result_bytes (put_row rows r) ≡ result_bytes rows + row_bytes r
+bytes_put rows r = count_put row_bytes rows r
+
 pub bytes_lifted : (rows : List RunRow) (k : RunKey) → IsAscendingRows rows → result_bytes (lift_row rows k) + bytes_at (find_row rows k) ≡ result_bytes rows
-bytes_lifted [] k up = refl
-bytes_lifted (r ∷ rs) k up = go (is_eq (key_cmp r.key k)) refl (bytes_lifted rs k up.1)
-  where
-    go : (b : Bool) → is_eq (key_cmp r.key k) ≡ b → result_bytes (lift_row rs k) + bytes_at (find_row rs k) ≡ result_bytes rs
-        → result_bytes (cond (not b) (r ∷ lift_row rs k) (lift_row rs k)) + bytes_at (cond b (Some r) (find_row rs k)) ≡ result_bytes (r ∷ rs)
-    go true is later =
-        let others : AllByRecursion (λ y. is_eq (key_cmp y.key k) ≡ false) rs = subst (λ j. AllByRecursion (λ y. is_eq (key_cmp y.key j) ≡ false) rs) (key_is r.key k is) (above_other r.key rs up.0) in
-        ap (λ l. result_bytes l + row_bytes r) (lift_none k rs others) ∙ (other_way (result_bytes rs) (row_bytes r) ∙ sym (bytes_cons r rs))
-    go false is later = joined (result_bytes (r ∷ lift_row rs k)) (result_bytes (lift_row rs k)) (bytes_at (find_row rs k)) (result_bytes rs) (row_bytes r) (bytes_cons r (lift_row rs k)) later ∙ sym (bytes_cons r rs)
+bytes_lifted rows k up = count_lifted row_bytes rows k up
 
 -- a row's bytes are among those of all
 pub bytes_within : (rows : List RunRow) (k : RunKey) → bytes_at (find_row rows k) ≤ result_bytes rows

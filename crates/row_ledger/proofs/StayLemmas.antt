@@ -17,6 +17,7 @@ use Rattle.run_states.specs.declared.row.RunRow.{RunRow}
 use Rattle.run_states.proofs.Place.{changed_all, key_is}
 use Rattle.live_rows.proofs.StayLemmas.{by_later, fewer_stay, has_later, later_lifted}
 use Rattle.row_ledger.specs.Ledger.{StaysUntil}
+use Rattle.row_ledger.proofs.DeadlineLemmas.{swap}
 use Rattle.row_ledger.proofs.LedgerLemmas.{all_put}
 use Rattle.row_ledger.proofs.LiveLemmas.{found_put}
 use Rattle.row_ledger.proofs.RowLemmas.{each_found, either_key, found_is, own_row}
@@ -29,7 +30,7 @@ pub stays_less_if : (self : ℕ) (rows : List RunRow) (a b : ℕ) (o : Option Ru
 stays_less_if self rows a b None low stays = tt
 stays_less_if self rows a b (Some r) low stays = stays_less self rows a b r low stays
 
-all_found : (rows : List RunRow) → IsAscendingRows rows → All (λ x. find_row rows x.key ≡ Some x) rows
+pub all_found : (rows : List RunRow) → IsAscendingRows rows → All (λ x. find_row rows x.key ≡ Some x) rows
 all_found rows up = All-from_recursion (λ x. find_row rows x.key ≡ Some x) rows (each_found rows up)
 
 -- each row is found by its own key
@@ -63,12 +64,6 @@ stays_lifted self rows k until stay =
     (All-weaker (StaysUntil self rows until) (StaysUntil self now until) (λ r stays m before still. fewer_stay self m rows now r (later_lifted r.key k rows) (stays m before still)) rows stay)
 
 -- ---- a row comes
-swap : (a b c : Bool) → (a || (b || c)) ≡ (b || (a || c))
-swap true true c = refl
-swap true false c = refl
-swap false true c = refl
-swap false false c = refl
-
 later_put : (j : RunKey) (rows : List RunRow) (n : RunRow) → has_later j (put_row rows n) ≡ (is_later j n.key || has_later j rows)
 later_put j [] n = refl
 later_put j (x ∷ xs) n = go (key_cmp x.key n.key) (ap (λ t. is_later j x.key || t) (later_put j xs n) ∙ swap (is_later j x.key) (is_later j n.key) (has_later j xs))

@@ -1,6 +1,6 @@
 -- What is counted over rows.
 use Rattle.std.specs.Prelude.{◌≡◌, ◌<◌, ◌≤◌, All, Bool, List, None, Option, Some, false, length, true, ℕ}
-use Rattle.run_states.specs.Life.{HasMoments, lapse_of}
+use Rattle.run_states.specs.Life.{HasMoments}
 use Rattle.run_states.specs.Purging.{is_purgeable}
 use Rattle.run_states.specs.ResultBytes.{bytes_in, result_bytes, row_bytes}
 use Rattle.run_states.specs.declared.answer.Answer.{Answer}
@@ -12,11 +12,14 @@ use Rattle.run_states.specs.declared.life.LifeStep.TheVariants.{Confirm, Start, 
 use Rattle.run_states.specs.declared.row.RunRow.{RunRow}
 use Rattle.live_rows.specs.LiveKeys.{LiveKeys}
 use Rattle.live_rows.specs.Still.{is_live, is_still, live_keys}
+use Rattle.row_ledger.specs.Deadlines.{Deadlines, IsFiled}
+use Rattle.row_ledger.specs.declared.deadlines.Deadline.{Deadline}
 
--- the rows of a host, ascending by key, and how many more fit
+-- the rows of a host, ascending by key, the deadlines of those that may lapse, and how many more rows fit
 pub record Ledger : Type 0 where
   pub number : ℕ
   pub list : List RunRow
+  pub deadlines : List Deadline
   pub room : ℕ
 
 -- there is a row, and it isn't still at the host with this number
@@ -28,18 +31,18 @@ is_live_at self (Some r) = is_live self r
 abbrev pub most_counted : ℕ
 most_counted = 18_446_744_073_709_551_615
 
--- the row doesn't lapse before this moment
-abbrev pub StandsUntil : ℕ → RunRow → Type 0
-StandsUntil until r = (m : ℕ) → m < until → lapse_of m r ≡ None
-
 -- where it is still, the row of a host that keeps these may not go before this moment
 abbrev pub StaysUntil : ℕ → List RunRow → ℕ → RunRow → Type 0
 StaysUntil self rows until r = (m : ℕ) → m < until → is_still self r ≡ true → is_purgeable self m rows r ≡ false
 
--- the bytes of the results of a row that may be there
+-- what is counted of a row that may be there
+abbrev pub counted_at : (RunRow → ℕ) → Option RunRow → ℕ
+counted_at count None = 0
+counted_at count (Some r) = count r
+
+-- the bytes of its results
 abbrev pub bytes_at : Option RunRow → ℕ
-bytes_at None = 0
-bytes_at (Some r) = row_bytes r
+bytes_at o = counted_at row_bytes o
 
 -- how many bytes of results an answer brings at most
 abbrev pub answer_bytes : Answer → ℕ
@@ -68,15 +71,16 @@ abbrev pub IsNoPlan : Fact → Type 0
 IsNoPlan (Planned tool interval) = ⊥
 IsNoPlan _ = Unit {0}
 
--- moments are in bounds, the bytes are those of the rows, and no row lapses before the next lapse
-pub record IsCounted (rows : List RunRow) (bytes next_lapse : ℕ) : Type 0 where
+-- moments are in bounds, and the bytes are those of the rows
+pub record IsCounted (rows : List RunRow) (bytes : ℕ) : Type 0 where
   pub moments : All HasMoments rows
   pub kept : bytes ≡ result_bytes rows
-  pub stand : All (StandsUntil next_lapse) rows
 
--- that, the keys of the rows that aren't still, with a place for each row, and none that is may go before the next purge
-pub record IsKept (number : ℕ) (rows : List RunRow) (bytes next_lapse next_purge : ℕ) (ks : LiveKeys) : Type 0 where
-  pub counted : IsCounted rows bytes next_lapse
+-- that, the deadlines of the rows, the keys of those that aren't still, with a place for each row, and none that is may go before
+-- the next purge
+pub record IsKept (number : ℕ) (rows : List RunRow) (bytes next_purge : ℕ) (ds : Deadlines) (ks : LiveKeys) : Type 0 where
+  pub counted : IsCounted rows bytes
+  pub filed : IsFiled rows ds
   pub live : ks.list ≡ live_keys number rows
   pub places : length rows ≤ ks.places
   pub stay : All (StaysUntil number rows next_purge) rows

@@ -1,6 +1,6 @@
-//! Rows, with the bytes of their results, a moment before which none of them lapses, the keys of those that aren't still, and a
-//! moment before which none of the others may go.
-ghost use Rattle.std.specs.Prelude.{◌≡◌, ◌≤◌, ◌<◌, ◌+◌, ◌-◌, ℕ, [], All, IfOk, IfSome, IsFalse, OnOk, None, length, min};
+//! Rows, with the bytes of their results, the moments from which they lapse, the keys of those that aren't still, and a moment
+//! before which none of the others may go.
+ghost use Rattle.std.specs.Prelude.{◌≡◌, ◌≤◌, ◌<◌, ◌+◌, ◌-◌, [], ◌∷◌, All, IfOk, IsFalse, OnOk, None, drop, length, min};
 ghost use Rattle.run_states.specs.Effect.{noted_row};
 ghost use Rattle.run_states.specs.LawfulRow.{BringsResult, BringsResults};
 ghost use Rattle.run_states.specs.Life.{close_row, settled_rows, marked_row, HasMoments};
@@ -9,9 +9,11 @@ ghost use Rattle.run_states.specs.ResultBytes.{result_bytes as bytes_of_rows, ro
 ghost use Rattle.run_states.specs.Rows.{change_row, find_row, lift_row, put_row, IsAscendingRows};
 ghost use Rattle.live_rows.specs.LiveKeys.{marked};
 ghost use Rattle.live_rows.specs.Still.{live_keys, StillStay};
-ghost use Rattle.row_ledger.specs.Ledger.{bytes_at, fact_bytes, is_live_at, most_counted, step_bytes, StandsUntil};
+ghost use Rattle.row_ledger.specs.Deadlines.{due_keys, IsAscendingDeadlines, Waits};
+ghost use Rattle.row_ledger.specs.Ledger.{bytes_at, fact_bytes, is_live_at, most_counted, step_bytes};
 ghost use Rattle.row_ledger.specs.Closing.{closed_each};
 
+use crate::deadlines::{Deadlines, deadline_at, file_each, lapse_at};
 use crate::restore::restored_rows;
 use crate::staying::{newest_beside, next_purge, sooner};
 use host_timeline::booking::Booking;
@@ -37,8 +39,8 @@ pub struct Ledger {
     rows: Rows,
     // of the results that the rows keep
     bytes: u64,
-    // no row lapses before this moment
-    next_lapse: Moment,
+    // from when on which row lapses, with a place for each row
+    deadlines: Deadlines,
     // of the host
     number: u16,
     // the keys of the rows that aren't still, with a place for each row
@@ -55,9 +57,14 @@ impl Model for Ledger {
 
     ghost Value = { Seen };
 
-    ghost view = { λ l. record { number = l.number; list = l.rows.list; room = min l.rows.room (l.live.places - length l.rows.list) } };
+    ghost view = { λ l. record {
+      number = l.number;
+      list = l.rows.list;
+      deadlines = l.deadlines.list;
+      room = min l.rows.room (min (l.live.places - length l.rows.list) (l.deadlines.places - length l.rows.list));
+    } };
 
-    ghost invariant = { λ l. IsKept l.number l.rows.list l.bytes l.next_lapse l.next_purge l.live };
+    ghost invariant = { λ l. IsKept l.number l.rows.list l.bytes l.next_purge l.deadlines l.live };
 }
 
 impl Ledger {
@@ -69,7 +76,7 @@ impl Ledger {
         Ledger {
             rows: Rows::new(alloc),
             bytes: 0,
-            next_lapse: Moment::MAX,
+            deadlines: Deadlines::new(alloc),
             number,
             live: LiveKeys::new(alloc),
             next_purge: Moment::MAX,
@@ -86,15 +93,17 @@ impl Ledger {
     {
         let mut live = LiveKeys::new(alloc);
         live.reserve(rows.len())?;
+        let mut deadlines = Deadlines::new(alloc);
+        deadlines.reserve(rows.len())?;
         let rows = restored_rows(alloc, rows)?;
         let bytes = counted_bytes(rows.list())?;
-        let next_lapse = next_lapse(rows.list());
+        file_each(&mut deadlines, rows.list());
         let next_purge = next_purge(&rows, number);
         live.refill(rows.list(), number);
         Ok(Ledger {
             rows,
             bytes,
-            next_lapse,
+            deadlines,
             number,
             live,
             next_purge,
@@ -119,6 +128,16 @@ impl Ledger {
         self.live.list()
     }
 
+    /// From when on which row lapses, unless it changes before.
+    pub fn deadlines(&self) -> &Deadlines
+        ensures list { result.now.list ≡ self.now.deadlines }
+        ensures ascending { IsAscendingDeadlines self.now.deadlines }
+        ensures waits { All (Waits self.now.deadlines) self.now.list }
+    {
+        let _ = self.deadlines.len();
+        &self.deadlines
+    }
+
     /// How many bytes the results have that the rows keep.
     pub fn result_bytes(&self) -> u64
         ensures { result ≡ bytes_of_rows self.now.list }
@@ -134,33 +153,49 @@ impl Ledger {
         ensures ok { OnOk result (count ≤ self.new.room) }
     {
         self.rows.reserve(count)?;
-        match self.rows.list().len().checked_add(count) {
-            Some(places) => self.live.reserve(places),
-            None => Err(Memory),
-        }
+        let Some(places) = self.rows.list().len().checked_add(count) else {
+            return Err(Memory);
+        };
+        self.live.reserve(places)?;
+        self.deadlines.reserve(places)
     }
 
     /// Whether a row may lapse by the moment.
     pub fn may_lapse(&self, moment: Moment) -> bool
         ensures { IsFalse result → settled_rows moment self.now.list ≡ self.now.list }
     {
-        if moment < self.next_lapse {
-            return false;
-        }
-        true
+        self.deadlines.due(0, moment).is_some()
     }
 
-    /// Closes each row that has lapsed by the moment.
+    /// Closes each row that has lapsed by the moment. Looks at the rows whose deadline has come, and at no other.
     pub fn settle(&mut self, moment: Moment)
         ensures number { self.new.number ≡ self.old.number }
         ensures rows { self.new.list ≡ settled_rows moment self.old.list }
         ensures room { self.old.room ≤ self.new.room }
     {
-        self.rows.settle(moment);
-        self.next_lapse = next_lapse(self.rows.list());
-        self.live.refill(self.rows.list(), self.number);
-        self.next_purge = next_purge(&self.rows, self.number);
-        self.has_gone = false;
+        while let Some(key) = self.deadlines.due(0, moment) {
+            self.settle_first(key, moment);
+        }
+    }
+
+    // Takes the first deadline out, which has come by the moment, and closes the row of its key if that has lapsed by then.
+    fn settle_first(&mut self, key: RunKey, moment: Moment)
+        requires { due_keys moment self.old.deadlines ≡ key ∷ due_keys moment (drop 1 self.old.deadlines) }
+        ensures number { self.new.number ≡ self.old.number }
+        ensures rows { settled_rows moment self.new.list ≡ settled_rows moment self.old.list }
+        ensures fewer { length self.new.deadlines < length self.old.deadlines }
+        ensures room { self.old.room ≤ self.new.room }
+    {
+        let waited = deadline_at(&self.rows, key);
+        let lapse = lapse_at(&self.rows, key, moment);
+        self.deadlines.pass();
+        let Some(closing) = lapse else {
+            return;
+        };
+        self.rows.close(key, closing);
+        self.deadlines.lift(key, waited);
+        self.next_purge = sooner(self.next_purge, &self.rows, key, self.number);
+        review(&mut self.live, &self.rows, key, self.number);
     }
 
     /// Whether a row that is still may go at the moment. Once rows went, it may say so for nothing until `review_purges`.
@@ -196,10 +231,12 @@ impl Ledger {
         ensures room { self.old.room ≤ self.new.room }
     {
         let before = bytes_at(&self.rows, key);
+        let waited = deadline_at(&self.rows, key);
         self.rows.mark(key, step, moment);
         let after = bytes_at(&self.rows, key);
         self.bytes = self.bytes - before + after;
-        self.next_lapse = self.next_lapse.min(stands_at(&self.rows, key));
+        let waits = deadline_at(&self.rows, key);
+        self.deadlines.refile(key, waited, waits);
         self.next_purge = sooner(self.next_purge, &self.rows, key, self.number);
         review(&mut self.live, &self.rows, key, self.number);
     }
@@ -214,10 +251,12 @@ impl Ledger {
         ensures room { self.old.room ≤ self.new.room }
     {
         let before = bytes_at(&self.rows, key);
+        let waited = deadline_at(&self.rows, key);
         self.rows.note(key, fact, moment);
         let after = bytes_at(&self.rows, key);
         self.bytes = self.bytes - before + after;
-        self.next_lapse = self.next_lapse.min(stands_at(&self.rows, key));
+        let waits = deadline_at(&self.rows, key);
+        self.deadlines.refile(key, waited, waits);
         self.next_purge = sooner(self.next_purge, &self.rows, key, self.number);
         review(&mut self.live, &self.rows, key, self.number);
     }
@@ -232,11 +271,12 @@ impl Ledger {
         ensures rows { self.new.list ≡ put_row self.old.list row }
         ensures room { self.old.room ≤ self.new.room + 1 }
     {
-        self.next_lapse = self.next_lapse.min(stands_until(&row));
         let _ = self.rows.list();
         let key = row.key;
         let older = newest_beside(&self.rows, key);
         self.rows.put(row);
+        let waits = deadline_at(&self.rows, key);
+        self.deadlines.refile(key, None, waits);
         let own = sooner(self.next_purge, &self.rows, key, self.number);
         self.next_purge = sooner(own, &self.rows, older, self.number);
         review(&mut self.live, &self.rows, key, self.number);
@@ -249,6 +289,8 @@ impl Ledger {
         ensures room { self.old.room ≤ self.new.room }
     {
         self.bytes -= bytes_at(&self.rows, key);
+        let waited = deadline_at(&self.rows, key);
+        self.deadlines.lift(key, waited);
         self.rows.purge(key);
         self.live.mark(key, false);
         self.has_gone = true;
@@ -299,40 +341,6 @@ fn bytes_at(rows: &Rows, key: RunKey) -> u64
         Some(row) => row.result_bytes(),
         None => 0,
     }
-}
-
-// A moment before which the row of the key doesn't lapse.
-fn stands_at(rows: &Rows, key: RunKey) -> Moment
-    requires { IfSome (find_row rows.now.list key) HasMoments }
-    ensures { IfSome (find_row rows.now.list key) (StandsUntil result) }
-{
-    match rows.find(key) {
-        Some(row) => stands_until(row),
-        None => Moment::MAX,
-    }
-}
-
-// A moment before which the row doesn't lapse: the one at which it lapses, where there is one.
-fn stands_until(row: &RunRow) -> Moment
-    requires { HasMoments row.now }
-    ensures { StandsUntil result row.now }
-{
-    match row.lapse(Moment::MAX) {
-        Some(closing) => closing.moment,
-        None => Moment::MAX,
-    }
-}
-
-// A moment before which none of the rows lapses.
-fn next_lapse(rows: &[RunRow]) -> Moment
-    requires { All HasMoments rows.now }
-    ensures { All (StandsUntil result) rows.now }
-{
-    let mut next = Moment::MAX;
-    for row in rows {
-        next = next.min(stands_until(row));
-    }
-    next
 }
 
 // Puts the key of a row that came or changed among those of the rows that aren't still, or takes it out.

@@ -1,7 +1,8 @@
-//! The rows of a host's book with what is kept of them beside: how many bytes of results they have, when the first of them may
+//! The rows of a host's book with what is kept of them beside: how many bytes of results they have, when each of them may
 //! lapse, which of them aren't still, and when the first of the others may go.
 #![tactic(auto)]
 
+pub mod deadlines;
 pub mod ledger;
 mod restore;
 mod staying;

@@ -3,11 +3,12 @@ use Rattle.run_states.specs.Life.{marked_row, HasMoments}
 use Rattle.run_states.specs.ResultBytes.{result_bytes}
 use Rattle.run_states.specs.Rows.{change_row, find_row}
 use Rattle.run_states.proofs.Place.{marked_key}
-use Rattle.row_ledger.specs.Ledger.{IsCounted, Ledger, StandsUntil, StaysUntil, bytes_at, is_live_at, most_counted, step_bytes}
+use Rattle.row_ledger.specs.Ledger.{IsCounted, Ledger, StaysUntil, bytes_at, is_live_at, most_counted, step_bytes}
 use Rattle.live_rows.specs.LiveKeys.{marked}
 use Rattle.live_rows.specs.Still.{live_keys}
+use Rattle.row_ledger.proofs.FiledLemmas.{moves_changed, refile_room, refiled_filed, Moves}
 use Rattle.row_ledger.proofs.LiveLemmas.{length_changed, live_changed}
-use Rattle.row_ledger.proofs.LedgerLemmas.{changed_counted, changed_less, changed_more, found_if, sooner_if}
+use Rattle.row_ledger.proofs.LedgerLemmas.{changed_counted, changed_less, changed_more, found_if}
 use Rattle.row_ledger.proofs.StayLemmas.{stays_changed}
 use Rattle.row_ledger.proofs.RowLemmas.{step_brings}
 use Rattle.row_ledger.proofs.ledger.Ledger.mark.Goals as goal
@@ -17,21 +18,34 @@ overflow_sub-self c =
     let rows = c.self.inside.rows.list in
     let low : c.self.inside.bytes ≤ most_counted = omega (arith, c.self.ranges) in
     let room : step_bytes c.args.step ≤ most_counted - result_bytes rows = subst (λ (t : Ledger). step_bytes c.args.step ≤ most_counted - result_bytes t.list) (sym c.self.view_is) c.requires.bytes in
-    changed_less (marked_row c.args.step c.args.moment) (λ r. marked_key c.args.step c.args.moment r) rows c.self.inside.bytes c.self.inside.next_lapse c.args.key (step_bytes c.args.step) c.self.invariant.counted c.bytes_at-before.ensures.ascending (λ r. step_brings c.args.step c.args.moment r) room low c.bytes_at-before.result c.bytes_at-before.ensures.value
+    changed_less (marked_row c.args.step c.args.moment) (λ r. marked_key c.args.step c.args.moment r) rows c.self.inside.bytes c.args.key (step_bytes c.args.step) c.self.invariant.counted c.bytes_at-before.ensures.ascending (λ r. step_brings c.args.step c.args.moment r) room low c.bytes_at-before.result c.bytes_at-before.ensures.value
 
 pub overflow_add-self : goal.overflow_add-self
 overflow_add-self c =
     let rows = c.self.inside.rows.list in
     let low : c.self.inside.bytes ≤ most_counted = omega (arith, c.self.ranges) in
     let room : step_bytes c.args.step ≤ most_counted - result_bytes rows = subst (λ (t : Ledger). step_bytes c.args.step ≤ most_counted - result_bytes t.list) (sym c.self.view_is) c.requires.bytes in
-    let most = changed_more (marked_row c.args.step c.args.moment) (λ r. marked_key c.args.step c.args.moment r) rows c.self.inside.bytes c.self.inside.next_lapse c.args.key (step_bytes c.args.step) c.self.invariant.counted c.bytes_at-before.ensures.ascending (λ r. step_brings c.args.step c.args.moment r) room low c.bytes_at-before.result c.bytes_at-before.ensures.value c.bytes_at-after.result (subst (λ l. c.bytes_at-after.result ≡ min (bytes_at (find_row l c.args.key)) most_counted) c.mark.ensures.rows c.bytes_at-after.ensures.value) in
+    let most = changed_more (marked_row c.args.step c.args.moment) (λ r. marked_key c.args.step c.args.moment r) rows c.self.inside.bytes c.args.key (step_bytes c.args.step) c.self.invariant.counted c.bytes_at-before.ensures.ascending (λ r. step_brings c.args.step c.args.moment r) room low c.bytes_at-before.result c.bytes_at-before.ensures.value c.bytes_at-after.result (subst (λ l. c.bytes_at-after.result ≡ min (bytes_at (find_row l c.args.key)) most_counted) c.mark.ensures.rows c.bytes_at-after.ensures.value) in
     omega (arith, most)
 
--- the changed row has its moments in bounds
-pub stands_at-requires : goal.stands_at-requires
-stands_at-requires c =
+-- the row has its moments in bounds, before and after
+pub deadline_at-waited-requires : goal.deadline_at-waited-requires
+deadline_at-waited-requires c = found_if HasMoments c.args.key c.self.inside.rows.list c.self.invariant.counted.moments
+
+pub deadline_at-waits-requires : goal.deadline_at-waits-requires
+deadline_at-waits-requires c =
     let moments : All HasMoments (change_row (marked_row c.args.step c.args.moment) c.self.inside.rows.list c.args.key) = subst (λ (t : Ledger). All HasMoments (change_row (marked_row c.args.step c.args.moment) t.list c.args.key)) (sym c.self.view_is) c.requires.moments in
     subst (λ l. IfSome (find_row l c.args.key) HasMoments) (sym c.mark.ensures.rows) (found_if HasMoments c.args.key (change_row (marked_row c.args.step c.args.moment) c.self.inside.rows.list c.args.key) moments)
+
+-- there is a place for each deadline
+pub refile-requires : goal.refile-requires
+refile-requires c =
+    let rows = c.self.inside.rows.list in
+    let now = c.mark.new.self.list in
+    let moves : Moves c.self.inside.deadlines.list rows now c.args.key = subst (λ l. Moves c.self.inside.deadlines.list rows l c.args.key) (sym c.mark.ensures.rows) (moves_changed (marked_row c.args.step c.args.moment) (λ r. marked_key c.args.step c.args.moment r) c.self.inside.deadlines.list rows c.args.key c.bytes_at-before.ensures.ascending c.self.invariant.filed.waits) in
+    let many : length now ≡ length rows = ap length c.mark.ensures.rows ∙ length_changed (marked_row c.args.step c.args.moment) rows c.args.key in
+    let enough = c.self.invariant.filed.places in
+    refile_room rows now c.args.key c.self.inside.deadlines c.self.invariant.filed moves c.deadline_at-waited.result c.deadline_at-waits.result c.deadline_at-waited.ensures.value c.deadline_at-waits.ensures.value (omega (arith, many, enough))
 
 -- and all is counted
 pub invariant_of-self : goal.invariant_of-self
@@ -40,17 +54,19 @@ invariant_of-self c =
     let low : c.self.inside.bytes ≤ most_counted = omega (arith, c.self.ranges) in
     let room : step_bytes c.args.step ≤ most_counted - result_bytes rows = subst (λ (t : Ledger). step_bytes c.args.step ≤ most_counted - result_bytes t.list) (sym c.self.view_is) c.requires.bytes in
     let moments : All HasMoments (change_row (marked_row c.args.step c.args.moment) rows c.args.key) = subst (λ (t : Ledger). All HasMoments (change_row (marked_row c.args.step c.args.moment) t.list c.args.key)) (sym c.self.view_is) c.requires.moments in
-    let at = c.min-self-inside.ensures in
-    let sooner : c.min-self-inside.result ≤ c.self.inside.next_lapse = omega (arith, at) in
-    let own : c.min-self-inside.result ≤ c.stands_at.result = omega (arith, at) in
-    let stands : IfSome (find_row (change_row (marked_row c.args.step c.args.moment) rows c.args.key) c.args.key) (StandsUntil c.stands_at.result) = subst (λ l. IfSome (find_row l c.args.key) (StandsUntil c.stands_at.result)) c.mark.ensures.rows c.stands_at.ensures in
     let many : length c.mark.new.self.list ≡ length rows = ap length c.mark.ensures.rows ∙ length_changed (marked_row c.args.step c.args.moment) rows c.args.key in
     let enough = c.self.invariant.places in
     let places = c.review.ensures.places in
+    let filed_places = c.self.invariant.filed.places in
+    let now = c.mark.new.self.list in
+    let moves : Moves c.self.inside.deadlines.list rows now c.args.key = subst (λ l. Moves c.self.inside.deadlines.list rows l c.args.key) (sym c.mark.ensures.rows) (moves_changed (marked_row c.args.step c.args.moment) (λ r. marked_key c.args.step c.args.moment r) c.self.inside.deadlines.list rows c.args.key c.bytes_at-before.ensures.ascending c.self.invariant.filed.waits) in
     record {
       counted =
-          subst (λ l. IsCounted l (c.self.inside.bytes - c.bytes_at-before.result + c.bytes_at-after.result) c.min-self-inside.result) (sym c.mark.ensures.rows)
-          (changed_counted (marked_row c.args.step c.args.moment) (λ r. marked_key c.args.step c.args.moment r) rows c.self.inside.bytes c.self.inside.next_lapse c.args.key (step_bytes c.args.step) c.self.invariant.counted c.bytes_at-before.ensures.ascending (λ r. step_brings c.args.step c.args.moment r) room low c.bytes_at-before.result c.bytes_at-before.ensures.value c.bytes_at-after.result (subst (λ l. c.bytes_at-after.result ≡ min (bytes_at (find_row l c.args.key)) most_counted) c.mark.ensures.rows c.bytes_at-after.ensures.value) c.min-self-inside.result moments sooner (sooner_if c.min-self-inside.result c.stands_at.result own (find_row (change_row (marked_row c.args.step c.args.moment) rows c.args.key) c.args.key) stands));
+          subst (λ l. IsCounted l (c.self.inside.bytes - c.bytes_at-before.result + c.bytes_at-after.result)) (sym c.mark.ensures.rows)
+          (changed_counted (marked_row c.args.step c.args.moment) (λ r. marked_key c.args.step c.args.moment r) rows c.self.inside.bytes c.args.key (step_bytes c.args.step) c.self.invariant.counted c.bytes_at-before.ensures.ascending (λ r. step_brings c.args.step c.args.moment r) room low c.bytes_at-before.result c.bytes_at-before.ensures.value c.bytes_at-after.result (subst (λ l. c.bytes_at-after.result ≡ min (bytes_at (find_row l c.args.key)) most_counted) c.mark.ensures.rows c.bytes_at-after.ensures.value) moments);
+      filed =
+          refiled_filed rows now c.args.key c.self.inside.deadlines c.self.invariant.filed moves c.deadline_at-waited.result c.deadline_at-waits.result c.deadline_at-waited.ensures.value c.deadline_at-waits.ensures.value c.refile.new.self c.refile.ensures.list
+          (omega (arith, many, filed_places, c.refile.ensures.places));
       live = c.review.ensures.list;
       places = omega (arith, many, enough, places);
       stay =
@@ -80,4 +96,5 @@ returns-clause-room c =
     let room = ap (λ (t : Ledger). t.room) c.self.view_is in
     let places = c.review.ensures.places in
     let left = c.mark.ensures.room in
-    omega (arith, many, room, places, left)
+    let more = c.refile.ensures.places in
+    omega (arith, many, room, places, left, more)

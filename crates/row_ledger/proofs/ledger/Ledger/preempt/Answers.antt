@@ -1,4 +1,5 @@
 use Rattle.run_states.specs.Life.{HasMoments}
+use Rattle.run_states.specs.declared.why.Closing.{Closing}
 use Rattle.run_states.specs.declared.why.Why.TheVariants.{Preempted}
 use Rattle.row_ledger.proofs.ClosingLemmas.{closed_all}
 use Rattle.row_ledger.proofs.LapseLemmas.{moments_closed}
@@ -7,4 +8,5 @@ use Rattle.row_ledger.proofs.ledger.Ledger.preempt.Goals as goal
 -- closing leaves the moments of rows in bounds
 pub mark-requires-clause-moments : goal.mark-requires-clause-moments
 mark-requires-clause-moments c =
-    closed_all HasMoments c.args.moment c.args.by (λ r within. moments_closed (record { moment = c.args.moment; why = Preempted c.args.by }) r within) c.args.key c.args.self.now.list c.rows.ensures.moments
+    let closing : Closing = record { moment = c.args.moment; why = Preempted c.args.by } in
+    closed_all HasMoments closing (λ r within. moments_closed closing r within) c.args.key c.args.self.now.list c.rows.ensures.moments

@@ -1,19 +1,18 @@
-use Rattle.std.proofs.Common.{◌≡◌, ◌≤◌, ◌∙◌, All, IfSome, None, Some, length, suc, ap, ap₂, sym, subst, arith}
+use Rattle.std.proofs.Common.{◌≡◌, ◌∙◌, All, IfSome, None, Some, length, suc, ap, ap₂, sym, subst, arith}
+use Rattle.run_states.specs.Life.{HasMoments}
 use Rattle.run_states.specs.Rows.{find_row, put_row}
 use Rattle.live_rows.specs.LiveKeys.{marked}
 use Rattle.live_rows.specs.Still.{live_keys}
+use Rattle.row_ledger.specs.Deadlines.{deadline_at}
 use Rattle.row_ledger.specs.Ledger.{is_live_at, IsCounted, Ledger, StaysUntil}
-use Rattle.row_ledger.proofs.LiveLemmas.{length_put, live_new}
-use Rattle.row_ledger.proofs.LapseLemmas.{stands_less}
+use Rattle.row_ledger.proofs.FiledLemmas.{moves_put, refile_room, refiled_filed, Moves}
+use Rattle.row_ledger.proofs.LiveLemmas.{found_put, length_put, live_new}
 use Rattle.row_ledger.proofs.LedgerLemmas.{put_counted}
 use Rattle.row_ledger.proofs.StayLemmas.{stays_less_if, stays_put}
 use Rattle.row_ledger.proofs.ledger.Ledger.put.Goals as goal
 
 pub invariant_of-self : goal.invariant_of-self
 invariant_of-self c =
-    let at = c.min-self-inside.ensures in
-    let sooner : c.min-self-inside.result ≤ c.self.inside.next_lapse = omega (arith, at) in
-    let own : c.min-self-inside.result ≤ c.stands_until.result = omega (arith, at) in
     let many : length c.put.new.self.list ≡ suc (length c.self.inside.rows.list) = ap length c.put.ensures.rows ∙ length_put c.self.inside.rows.list c.args.row in
     let places = c.review.ensures.places in
     let room = ap (λ (t : Ledger). t.room) c.self.view_is in
@@ -23,11 +22,14 @@ invariant_of-self c =
     let first = c.sooner-own.ensures.earlier in
     let second = c.sooner-self-inside.ensures.earlier in
     let none : find_row c.self.inside.rows.list c.args.row.key ≡ None = subst (λ (t : Ledger). find_row t.list c.args.row.key ≡ None) (sym c.self.view_is) c.requires.new_key in
+    let moves : Moves c.self.inside.deadlines.list c.self.inside.rows.list c.put.new.self.list c.args.row.key = subst (λ l. Moves c.self.inside.deadlines.list c.self.inside.rows.list l c.args.row.key) (sym c.put.ensures.rows) (moves_put c.self.inside.deadlines.list c.self.inside.rows.list c.args.row c.list.ensures.ascending none c.self.invariant.filed.waits) in
     record {
       counted =
-          subst (λ l. IsCounted l c.self.inside.bytes c.min-self-inside.result) (sym c.put.ensures.rows)
-          (put_counted c.self.inside.rows.list c.self.inside.bytes c.self.inside.next_lapse c.self.invariant.counted c.args.row c.min-self-inside.result c.requires.moments c.requires.bytes sooner
-          (stands_less c.min-self-inside.result c.stands_until.result c.args.row own c.stands_until.ensures));
+          subst (λ l. IsCounted l c.self.inside.bytes) (sym c.put.ensures.rows)
+          (put_counted c.self.inside.rows.list c.self.inside.bytes c.self.invariant.counted c.args.row c.requires.moments c.requires.bytes);
+      filed =
+          refiled_filed c.self.inside.rows.list c.put.new.self.list c.args.row.key c.self.inside.deadlines c.self.invariant.filed moves None c.deadline_at-waits.result (sym (ap deadline_at none)) c.deadline_at-waits.ensures.value c.refile.new.self c.refile.ensures.list
+          (omega (arith, many, room, some, c.refile.ensures.places));
       live = c.review.ensures.list;
       places = omega (arith, many, places, room, some);
       stay =
@@ -40,6 +42,23 @@ invariant_of-self c =
           c.self.invariant.stay
           (subst (λ l. IfSome (find_row l c.args.row.key) (StaysUntil n l next)) c.put.ensures.rows (stays_less_if n c.put.new.self.list next c.sooner-own.result (find_row c.put.new.self.list c.args.row.key) second c.sooner-own.ensures.stays)));
     }
+
+-- the new row has its moments in bounds
+pub deadline_at-waits-requires : goal.deadline_at-waits-requires
+deadline_at-waits-requires c =
+    let none : find_row c.self.inside.rows.list c.args.row.key ≡ None = subst (λ (t : Ledger). find_row t.list c.args.row.key ≡ None) (sym c.self.view_is) c.requires.new_key in
+    subst (λ l. IfSome (find_row l c.args.row.key) HasMoments) (sym c.put.ensures.rows) (subst (λ o. IfSome o HasMoments) (sym (found_put 0 c.self.inside.rows.list c.args.row none)) c.requires.moments)
+
+-- and there is a place for its deadline
+pub refile-requires : goal.refile-requires
+refile-requires c =
+    let rows = c.self.inside.rows.list in
+    let none : find_row rows c.args.row.key ≡ None = subst (λ (t : Ledger). find_row t.list c.args.row.key ≡ None) (sym c.self.view_is) c.requires.new_key in
+    let moves : Moves c.self.inside.deadlines.list rows c.put.new.self.list c.args.row.key = subst (λ l. Moves c.self.inside.deadlines.list rows l c.args.row.key) (sym c.put.ensures.rows) (moves_put c.self.inside.deadlines.list rows c.args.row c.list.ensures.ascending none c.self.invariant.filed.waits) in
+    let many : length c.put.new.self.list ≡ suc (length rows) = ap length c.put.ensures.rows ∙ length_put rows c.args.row in
+    let room = ap (λ (t : Ledger). t.room) c.self.view_is in
+    let some = c.requires.room in
+    refile_room rows c.put.new.self.list c.args.row.key c.self.inside.deadlines c.self.invariant.filed moves None c.deadline_at-waits.result (sym (ap deadline_at none)) c.deadline_at-waits.ensures.value (omega (arith, many, room, some))
 
 -- a new row's key is live where it is
 pub review-requires-clause-marked : goal.review-requires-clause-marked
@@ -63,4 +82,5 @@ returns-clause-room c =
     let room = ap (λ (t : Ledger). t.room) c.self.view_is in
     let places = c.review.ensures.places in
     let left = c.put.ensures.room in
-    omega (arith, many, room, places, left)
+    let more = c.refile.ensures.places in
+    omega (arith, many, room, places, left, more)

@@ -1,22 +1,15 @@
-use Rattle.std.proofs.Common.{◌≡◌, ◌∙◌, All, length, ap, sym, subst, arith}
-use Rattle.std.proofs.lemmas.List.{length-map}
-use Rattle.run_states.specs.Life.{settled_row, settled_rows, HasMoments}
-use Rattle.live_rows.specs.Still.{live_keys}
-use Rattle.row_ledger.specs.Ledger.{IsCounted, StandsUntil}
-use Rattle.row_ledger.proofs.LedgerLemmas.{settled_counted}
+use Rattle.std.proofs.Common.{◌≡◌, ◌≤◌, ◌∙◌, [], drop, ap, subst, sym, arith}
+use Rattle.run_states.specs.Life.{settled_rows}
+use Rattle.row_ledger.specs.Deadlines.{due_keys, key_then, latest}
+use Rattle.row_ledger.specs.Ledger.{Ledger}
+use Rattle.row_ledger.proofs.FiledLemmas.{none_due}
 use Rattle.row_ledger.proofs.ledger.Ledger.settle.Goals as goal
 
-pub invariant_of-self : goal.invariant_of-self
-invariant_of-self c =
-    let rows = c.self.inside.rows.list in
-    let moments : All HasMoments (settled_rows c.args.moment rows) = subst (All HasMoments) c.settle.ensures.rows c.settle.ensures.moments in
-    let stand : All (StandsUntil c.next_lapse-self-inside.result) (settled_rows c.args.moment rows) = subst (All (StandsUntil c.next_lapse-self-inside.result)) c.settle.ensures.rows (subst (All (StandsUntil c.next_lapse-self-inside.result)) c.list.ensures.rows c.next_lapse-self-inside.ensures) in
-    let many : length c.settle.new.self.list ≡ length rows = ap length c.settle.ensures.rows ∙ length-map rows (settled_row c.args.moment) in
-    let enough = c.self.invariant.places in
-    let places = c.refill.ensures.places in
-    record {
-      counted = subst (λ l. IsCounted l c.self.inside.bytes c.next_lapse-self-inside.result) (sym c.settle.ensures.rows) (settled_counted rows c.self.inside.bytes c.self.inside.next_lapse c.self.invariant.counted c.args.moment c.next_lapse-self-inside.result moments stand);
-      live = c.refill.ensures.list ∙ ap (live_keys c.self.inside.number) c.list-2.ensures.rows;
-      places = omega (arith, many, enough, places);
-      stay = c.next_purge-self-inside.ensures;
-    }
+-- no deadline has come any more
+pub returns-clause-rows : goal.returns-clause-rows
+returns-clause-rows c =
+    let ds = c.self.inside.deadlines.list in
+    let within : c.args.moment ≤ latest = omega (arith, c.ranges.moment) in
+    let due : due_keys c.args.moment ds ≡ [] = c.due.ensures.walk ∙ ap (λ o. key_then o (due_keys c.args.moment (drop 1 ds))) c.in_default.is in
+    let stands : settled_rows c.args.moment c.loop-key.self.list ≡ c.loop-key.self.list = subst (λ (t : Ledger). settled_rows c.args.moment t.list ≡ t.list) c.self.view_is (none_due c.args.moment ds within c.due.ensures.ascending c.self.inside.rows.list c.self.invariant.filed.waits due) in
+    sym stands ∙ c.loop-key.invariant.settled

@@ -1,0 +1,196 @@
+//! The moments from which rows lapse, in order, so that those which have come are found first.
+ghost use Rattle.std.specs.Prelude.{◌≡◌, ◌≤◌, ◌<◌, ◌+◌, [], All, IfErr, IfOk, IfSome, OnOk, drop, length, option_and_then};
+ghost use Rattle.run_states.specs.Life.{lapse_of, HasMoments};
+ghost use Rattle.run_states.specs.Rows.{find_row, IsAscendingRows};
+ghost use Rattle.row_ledger.specs.Deadlines.{deadline_at, deadline_of, due_keys, filed, key_then, lifted, refiled, waiting, IsAscendingDeadlines, IsGapFor, IsPlaceOf, Waits};
+
+use ps_time::key::RunKey;
+use ps_time::memory::Memory;
+use ps_time::moment::Moment;
+use run_states::row::RunRow;
+use run_states::rows::Rows;
+use run_states::why::Closing;
+use std::alloc::Global;
+use std::collections::VecDeque;
+use std::marker::Model;
+
+/// From when on the row of a key lapses.
+#[derive(Clone, Copy, PartialEq, Eq, PartialOrd, Ord)]
+pub struct Deadline {
+    /// In seconds since 1970 UTC.
+    pub moment: Moment,
+    /// Of the row.
+    pub key: RunKey,
+}
+
+/// Different deadlines in ascending order, in places that were reserved. What comes or goes moves the shorter side of the others,
+/// so the first goes at no cost.
+#[derive(Drop)]
+pub struct Deadlines {
+    entries: VecDeque<Deadline>,
+}
+
+impl Model for Deadlines {
+    ghost use Rattle.std.specs.VecDeque.{deque_capacity};
+    ghost use Rattle.row_ledger.specs.Deadlines.{Deadlines as Seen, IsAscendingDeadlines};
+
+    ghost Value = { Seen };
+
+    ghost view = { λ d. record { list = d.entries.items; places = deque_capacity d.entries } };
+
+    ghost invariant = { λ d. IsAscendingDeadlines d.entries.items };
+}
+
+impl Deadlines {
+    /// No deadlines, without reserved places.
+    pub(crate) fn new(alloc: Global) -> Deadlines
+        ensures { result.list ≡ [] }
+    {
+        Deadlines {
+            entries: VecDeque::new(alloc),
+        }
+    }
+
+    /// Makes so many places, those of the deadlines that are there among them.
+    pub(crate) fn reserve(&mut self, places: usize) -> Result<(), Memory>
+        ensures same { self.new.list ≡ self.old.list }
+        ensures never_less { self.old.places ≤ self.new.places }
+        ensures ok { OnOk result (places ≤ self.new.places) }
+    {
+        self.entries
+            .reserve(places.saturating_sub(self.entries.len()))?;
+        Ok(())
+    }
+
+    /// How many there are.
+    pub fn len(&self) -> usize
+        ensures value { result ≡ length self.now.list }
+        ensures ascending { IsAscendingDeadlines self.now.list }
+    {
+        self.entries.len()
+    }
+
+    /// The key at this place among the deadlines, counted from 0, where that deadline has come by the moment. The first that
+    /// hasn't come ends a walk over the places.
+    pub fn due(&self, place: usize, moment: Moment) -> Option<RunKey>
+        ensures walk { due_keys moment (drop place self.now.list) ≡ key_then result (due_keys moment (drop (place + 1) self.now.list)) }
+        ensures ascending { IsAscendingDeadlines self.now.list }
+    {
+        let deadline = self.entries.get(place)?;
+        if deadline.moment <= moment {
+            Some(deadline.key)
+        } else {
+            None
+        }
+    }
+
+    /// Takes the first out.
+    pub(crate) fn pass(&mut self)
+        ensures list { self.new.list ≡ drop 1 self.old.list }
+        ensures places { self.new.places ≡ self.old.places }
+    {
+        self.entries.pop_front();
+    }
+
+    /// Puts the deadline that a row has after a change in place of the one that it had. Takes no memory.
+    pub(crate) fn refile(&mut self, key: RunKey, before: Option<Moment>, after: Option<Moment>)
+        requires { IfSome after (λ _. length (lifted key before self.old.list) < self.old.places) }
+        ensures list { self.new.list ≡ refiled key before after self.old.list }
+        ensures places { self.old.places ≤ self.new.places }
+    {
+        if before == after {
+            return;
+        }
+        self.lift(key, before);
+        self.file(key, after);
+    }
+
+    /// Takes the deadline out that a row had, if it is there.
+    pub(crate) fn lift(&mut self, key: RunKey, moment: Option<Moment>)
+        ensures list { self.new.list ≡ lifted key moment self.old.list }
+        ensures places { self.new.places ≡ self.old.places }
+    {
+        let Some(moment) = moment else {
+            return;
+        };
+        match self.search(&Deadline { moment, key }) {
+            Ok(at) => {
+                self.entries.remove(at);
+            }
+            Err(_) => {}
+        }
+    }
+
+    // Puts the deadline in that a row has, unless it is there.
+    fn file(&mut self, key: RunKey, moment: Option<Moment>)
+        requires { IfSome moment (λ _. length self.old.list < self.old.places) }
+        ensures list { self.new.list ≡ filed key moment self.old.list }
+        ensures places { self.old.places ≤ self.new.places }
+    {
+        let Some(moment) = moment else {
+            return;
+        };
+        let deadline = Deadline { moment, key };
+        match self.search(&deadline) {
+            Ok(_) => {}
+            Err(at) => self.entries.insert(at, deadline).unwrap(),
+        }
+    }
+
+    // Where the deadline is, or where it would go.
+    fn search(&self, deadline: &Deadline) -> Result<usize, usize>
+        ensures found { IfOk result (IsPlaceOf self.now.list deadline.now) }
+        ensures absent { IfErr result (IsGapFor self.now.list deadline.now) }
+    {
+        self.entries.binary_search(deadline)
+    }
+}
+
+/// The deadlines of rows, in these places, where there is one for each row.
+pub(crate) fn file_each(deadlines: &mut Deadlines, rows: &[RunRow])
+    requires none { deadlines.old.list ≡ [] }
+    requires moments { All HasMoments rows.now }
+    requires places { length rows.now ≤ deadlines.old.places }
+    ensures waits { All (Waits deadlines.new.list) rows.now }
+    ensures few { length deadlines.new.list ≤ waiting rows.now }
+    ensures places { deadlines.old.places ≤ deadlines.new.places }
+{
+    for row in rows {
+        deadlines.refile(row.key, None, deadline_of(row));
+    }
+}
+
+/// The deadline of the row of the key.
+pub(crate) fn deadline_at(rows: &Rows, key: RunKey) -> Option<Moment>
+    requires { IfSome (find_row rows.now.list key) HasMoments }
+    ensures value { result ≡ deadline_at (find_row rows.now.list key) }
+    ensures ascending { IsAscendingRows rows.now.list }
+{
+    let _ = rows.list();
+    match rows.find(key) {
+        Some(row) => deadline_of(row),
+        None => None,
+    }
+}
+
+// The moment from which the row lapses, unless it changes before.
+fn deadline_of(row: &RunRow) -> Option<Moment>
+    requires { HasMoments row.now }
+    ensures { result ≡ deadline_of row.now }
+{
+    match row.lapse(Moment::MAX) {
+        Some(closing) => Some(closing.moment),
+        None => None,
+    }
+}
+
+/// How and when the row of the key lapses, where it does by the moment.
+pub(crate) fn lapse_at(rows: &Rows, key: RunKey, moment: Moment) -> Option<Closing>
+    requires { IfSome (find_row rows.now.list key) HasMoments }
+    ensures { result ≡ option_and_then (lapse_of moment) (find_row rows.now.list key) }
+{
+    match rows.find(key) {
+        Some(row) => row.lapse(moment),
+        None => None,
+    }
+}
