@@ -3,3 +3,4 @@ mod HistoryLemmas
 mod ImageLemmas
 mod MemoryDiskLemmas
 mod RackLemmas
+pub mod RunLemmas

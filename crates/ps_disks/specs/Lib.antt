@@ -3,3 +3,4 @@ pub mod History
 pub mod Images
 pub mod MemoryDisk
 pub mod Rack
+pub mod Run

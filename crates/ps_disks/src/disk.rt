@@ -46,6 +46,9 @@ pub trait Disk {
     // How many calls failed: a `u64` that never falls.
     ghost disk_faults: { Self → ℕ };
 
+    // The second is the first after some calls in a row, reads too.
+    ghost went: { Self → Self → Type 0 };
+
     /// Reads bytes from a place on to the front of `buf`, and answers how many. 0 for a buffer that
     /// isn't empty is the end of the file.
     fn read(&mut self, at: u64, buf: &mut [u8]) -> Result<usize, Failed>
@@ -56,7 +59,8 @@ pub trait Disk {
         ensures size { premise → AreBounded (may_leave self.new) }
         ensures time { premise → Elapses (moment self.old) (moment self.new) (left_since self.old) (left_since self.new) (may_leave self.new) }
         ensures told { told self.new ≡ told self.old }
-        ensures cause { CountsFault (disk_faults self.old) (disk_faults self.new) result };
+        ensures cause { CountsFault (disk_faults self.old) (disk_faults self.new) result }
+        ensures went { went self.old self.new };
 
     /// Writes over what is there, and past the end. A gap before the bytes is filled with zeros, and an
     /// empty piece changes nothing. Fails where the bytes would end past 2^64 - 1.
@@ -68,7 +72,8 @@ pub trait Disk {
         ensures time { premise → Elapses (moment self.old) (moment self.new) (left_since self.old) (left_since self.new) (may_leave self.new) }
         ensures too_far { 2 ^ 64 ≤ at + length bytes.now → IsErr result }
         ensures told { Tells (told self.old) (told self.new) (Write at bytes.now) }
-        ensures cause { CountsFault (disk_faults self.old) (disk_faults self.new) result };
+        ensures cause { CountsFault (disk_faults self.old) (disk_faults self.new) result }
+        ensures went { went self.old self.new };
 
     /// Cuts the file to at most `len` bytes. It never gets longer.
     fn cut(&mut self, len: u64) -> Result<(), Failed>
@@ -78,7 +83,8 @@ pub trait Disk {
         ensures size { premise → AreBounded (may_leave self.new) }
         ensures time { premise → Elapses (moment self.old) (moment self.new) (left_since self.old) (left_since self.new) (may_leave self.new) }
         ensures told { Tells (told self.old) (told self.new) (Cut len) }
-        ensures cause { CountsFault (disk_faults self.old) (disk_faults self.new) result };
+        ensures cause { CountsFault (disk_faults self.old) (disk_faults self.new) result }
+        ensures went { went self.old self.new };
 
     /// After it, a crash leaves what a read gives.
     fn sync(&mut self) -> Result<(), Failed>
@@ -88,7 +94,8 @@ pub trait Disk {
         ensures size { premise → AreBounded (may_leave self.new) }
         ensures time { premise → Elapses (moment self.old) (moment self.new) (left_since self.old) (left_since self.new) (may_leave self.new) }
         ensures told { Tells (told self.old) (told self.new) Sync }
-        ensures cause { CountsFault (disk_faults self.old) (disk_faults self.new) result };
+        ensures cause { CountsFault (disk_faults self.old) (disk_faults self.new) result }
+        ensures went { went self.old self.new };
 
     // What a read gives is one of the images.
     ghost reads_now: { (disk : Self) → premise → may_leave disk (seen disk) };
@@ -98,6 +105,11 @@ pub trait Disk {
 
     // The count is a `u64`, at each moment.
     ghost disk_faults_fit: { (disk : Self) → disk_faults disk < 2 ^ 64 };
+
+    // Calls in a row may be none, and others may follow them.
+    ghost went_refl: { (disk : Self) → went disk disk };
+
+    ghost went_trans: { (a b c : Self) → went a b → went b c → went a c };
 
     // Since this moment there is no other.
     ghost only_now: { (disk : Self) (c : List ℕ) → premise → left_since disk (moment disk) c → may_leave disk c };

@@ -1,11 +1,12 @@
 //! A disk in memory.
-ghost use Rattle.std.specs.Prelude.{◌≡◌, ◌+◌, ◌-◌, ◌≤◌, ◌^◌, [], length, take, drop, min, IfOk, IsErr, OnOk, OnErr, IsTrue, is_err, false};
+ghost use Rattle.std.specs.Prelude.{◌≡◌, ℕ, ◌+◌, ◌-◌, ◌≤◌, ◌^◌, [], length, take, drop, min, IfOk, IsErr, OnOk, OnErr, IsTrue, is_err, false};
 ghost use Rattle.std.specs.Io.{ReadsAtMost};
 ghost use Rattle.ps_disks.specs.Disk.{ReadsAt, written, Torn, Shortened, Follows, NoMore, Only, AreBounded, Elapses, CountsFault, Tells};
 ghost use Rattle.ps_ports.specs.Causes.{counted, raised};
 ghost use Rattle.ps_ports.specs.Memory.{called, fails_next};
 ghost use Rattle.ps_disks.specs.History.{IsImage, LeftSince, begins_with_sync, bytes_now, first_calls, image_bytes};
 ghost use Rattle.ps_disks.specs.MemoryDisk.{new_disk, armed, armed_number, after_read, after_starved, ends_too_far, is_to_fail, Makes, reopened, told_calls};
+ghost use Rattle.ps_disks.specs.Run.{IsArmed, Went};
 ghost use Rattle.ps_disks.specs.declared.disk.DiskCall.TheVariants.{Write, Cut, Sync};
 
 use crate::disk::{Disk, DiskCall};
@@ -56,6 +57,7 @@ impl MemoryDisk {
     pub fn new(alloc: Global, bytes: Vec<u8>, failing: Vec<u64>) -> MemoryDisk
         ensures disk { result ≡ new_disk bytes.items failing.items }
         ensures size { AreBounded (IsImage result.history) }
+        ensures calm { failing.items ≡ [] → IsArmed result 0 }
     {
         let history = History::new(alloc, bytes);
         history.known();
@@ -108,7 +110,8 @@ impl MemoryDisk {
 
     /// Lets one of the writes, cuts and syncs fail, numbered from 1 from now on, or none.
     pub fn fail_at(&mut self, call: Option<u64>)
-        ensures { self.new ≡ armed self.old (armed_number call) }
+        ensures armed { self.new ≡ armed self.old (armed_number call) }
+        ensures ready { (before : ℕ) → IsArmed self.old before → IsArmed self.new (armed_number call) }
     {
         self.until_fault = call.unwrap_or(0);
     }
@@ -120,6 +123,7 @@ impl MemoryDisk {
         ensures disk { IfOk result (λ disk. disk ≡ new_disk (image_bytes image (first_calls calls self.history)) []) }
         ensures image { IfOk result (λ disk. IsImage (first_calls calls self.history) (bytes_now disk.history)) }
         ensures size { IfOk result (λ disk. AreBounded (IsImage disk.history)) }
+        ensures calm { IfOk result (λ disk. IsArmed disk 0) }
 
         // The same in the words of the trait: these bytes are left since that moment, and then only these.
         ensures left { IfOk result (λ disk. ⟦<MemoryDisk as Disk>⟧.left_since self calls (⟦<MemoryDisk as Disk>⟧.seen disk)) }
@@ -211,6 +215,7 @@ impl Disk for MemoryDisk {
     ghost use Rattle.ps_disks.specs.History.{IsImage, LeftSince, bytes_now};
     ghost use Rattle.ps_disks.specs.Images.{bytes_are_image, image_counts, only_image};
     ghost use Rattle.ps_disks.specs.MemoryDisk.{told_calls};
+    ghost use Rattle.ps_disks.specs.Run.{Went, went_further, went_nowhere};
 
     ghost premise = { Unit {0} };
 
@@ -226,6 +231,8 @@ impl Disk for MemoryDisk {
 
     ghost disk_faults = { λ d. counted d.faults };
 
+    ghost went = { Went };
+
     fn read(&mut self, at: u64, buf: &mut [u8]) -> Result<usize, Failed>
         ensures bound { ReadsAtMost result buf.new }
         ensures bytes { IfOk result (λ n. ReadsAt (bytes_now self.old.history) at buf.new n) }
@@ -235,6 +242,7 @@ impl Disk for MemoryDisk {
         ensures time { Elapses (length self.old.history.log) (length self.new.history.log) (LeftSince self.old.history) (LeftSince self.new.history) (IsImage self.new.history) }
         ensures told { told_calls self.new ≡ told_calls self.old }
         ensures cause { CountsFault (counted self.old.faults) (counted self.new.faults) result }
+        ensures went { Went self.old self.new }
 
         // A read that isn't to fail gives as many bytes as fit.
         ensures fails { is_err result ≡ fails_next self.old.calls }
@@ -258,6 +266,7 @@ impl Disk for MemoryDisk {
         ensures too_far { 2 ^ 64 ≤ at + length bytes.now → IsErr result }
         ensures told { Tells (told_calls self.old) (told_calls self.new) (Write at bytes.now) }
         ensures cause { CountsFault (counted self.old.faults) (counted self.new.faults) result }
+        ensures went { Went self.old self.new }
         ensures makes { Makes (Write at bytes.now) self.old self.new result }
     {
         match bytes.to_vec(self.history.alloc()) {
@@ -274,6 +283,7 @@ impl Disk for MemoryDisk {
         ensures time { Elapses (length self.old.history.log) (length self.new.history.log) (LeftSince self.old.history) (LeftSince self.new.history) (IsImage self.new.history) }
         ensures told { Tells (told_calls self.old) (told_calls self.new) (Cut len) }
         ensures cause { CountsFault (counted self.old.faults) (counted self.new.faults) result }
+        ensures went { Went self.old self.new }
         ensures makes { Makes (Cut len) self.old self.new result }
     {
         self.make(DiskCall::Cut(len))
@@ -287,6 +297,7 @@ impl Disk for MemoryDisk {
         ensures time { Elapses (length self.old.history.log) (length self.new.history.log) (LeftSince self.old.history) (LeftSince self.new.history) (IsImage self.new.history) }
         ensures told { Tells (told_calls self.old) (told_calls self.new) Sync }
         ensures cause { CountsFault (counted self.old.faults) (counted self.new.faults) result }
+        ensures went { Went self.old self.new }
         ensures makes { Makes Sync self.old self.new result }
     {
         self.make(DiskCall::Sync)
@@ -297,6 +308,10 @@ impl Disk for MemoryDisk {
     ghost counts_now = { λ d t c _ le image. image_counts d.history t c le image };
 
     ghost disk_faults_fit = { λ d. counted_fits d.faults };
+
+    ghost went_refl = { went_nowhere };
+
+    ghost went_trans = { went_further };
 
     ghost only_now = { λ d c _ left. only_image d.history c left };
 }

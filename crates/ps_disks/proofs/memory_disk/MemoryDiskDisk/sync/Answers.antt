@@ -1,6 +1,7 @@
 use Rattle.std.proofs.Common.{sym, subst}
 use Rattle.ps_disks.specs.History.{IsImage}
 use Rattle.ps_disks.proofs.MemoryDiskLemmas.{makes_part, makes_follows, sync_makes}
+use Rattle.ps_disks.proofs.RunLemmas.{went_made}
 use Rattle.ps_disks.specs.declared.disk.DiskCall.TheVariants.{Sync}
 use Rattle.ps_disks.proofs.memory_disk.MemoryDiskDisk.sync.Goals as goal
 
@@ -14,3 +15,6 @@ pub returns-clause-crash : goal.returns-clause-crash
 returns-clause-crash c image left =
     let from = makes_follows Sync c.args.self.now c.make.new.self c.make.result c.make.ensures.makes image left in
     subst (IsImage c.args.self.now.history) (sym from.2) from.1
+
+pub returns-clause-went : goal.returns-clause-went
+returns-clause-went c = went_made Sync c.args.self.now c.make.new.self c.make.result c.make.ensures.makes
