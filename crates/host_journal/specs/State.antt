@@ -195,6 +195,10 @@ pub record KeepsPlace {D : Type 0} (old new : State D) : Type 0 where
   pub shut : new.shut ≡ old.shut
   pub room : old.room ≤ new.room
 
+-- each of the two disks went through some calls in a row
+abbrev pub WentOn : {D : Type 0} → (D → D → Type 0) → State D → State D → Type 0
+WentOn went old new = went (first_disk old) (first_disk new) × went (second_disk old) (second_disk new)
+
 -- one that leaves all but the room
 abbrev pub with_room : {D : Type 0} → State D → ℕ → State D
 with_room s room = record {

@@ -4,7 +4,7 @@ ghost use Rattle.std.specs.Int.{w32, to_be_bytes};
 ghost use Rattle.ps_ports.specs.Causes.{Rose};
 ghost use Rattle.ps_disks.specs.declared.disk.DiskCall.TheVariants.{Cut, Sync};
 ghost use Rattle.host_journal.specs.Moments.{Adds, Shows};
-ghost use Rattle.host_journal.specs.State.{is_ready, stored, with_record, EachImage, EachSince, KeepsPlace, append_calls, which, has_record};
+ghost use Rattle.host_journal.specs.State.{is_ready, stored, with_record, EachImage, EachSince, KeepsPlace, append_calls, which, has_record, WentOn};
 ghost use Rattle.host_journal.specs.Told.{TellsAll, TellsFirst};
 
 use crate::disk_calls::{cut_and_sync, write_and_sync};
@@ -38,6 +38,7 @@ impl<D: Disk> Journal<D> {
         ensures later { D.disk_faults self.old.counting ≤ D.disk_faults self.new.counting }
         ensures calm { OnOk result (D.disk_faults self.new.counting ≡ D.disk_faults self.old.counting) }
         ensures cause { OnErr result (Rose (D.disk_faults self.old.counting) (D.disk_faults self.new.counting)) }
+        ensures went { WentOn D.went self.old self.new }
     {
         put_record(&mut self.buffer, payload);
         self.pending = Pending::Unopened;
@@ -71,6 +72,7 @@ impl<D: Disk> Journal<D> {
         ensures later { D.disk_faults self.old.counting ≤ D.disk_faults self.new.counting }
         ensures calm { OnOk result (D.disk_faults self.new.counting ≡ D.disk_faults self.old.counting) }
         ensures cause { OnErr result (Rose (D.disk_faults self.old.counting) (D.disk_faults self.new.counting)) }
+        ensures went { WentOn D.went self.old self.new }
     {
         self.pending = Pending::Unopened;
         cut_and_sync(&mut self.counting, self.end + 1)?;

@@ -23,6 +23,7 @@ pub fn write_and_sync<D: Disk>(disk: &mut D, at: u64, piece: &[u8]) -> Result<()
     ensures later { D.disk_faults disk.old ≤ D.disk_faults disk.new }
     ensures calm { OnOk result (D.disk_faults disk.new ≡ D.disk_faults disk.old) }
     ensures cause { OnErr result (Rose (D.disk_faults disk.old) (D.disk_faults disk.new)) }
+    ensures went { D.went disk.old disk.new }
 {
     disk.write_at(at, piece)?;
     disk.sync()?;
@@ -41,6 +42,7 @@ pub fn cut_and_sync<D: Disk>(disk: &mut D, len: u64) -> Result<(), DiskFault>
     ensures later { D.disk_faults disk.old ≤ D.disk_faults disk.new }
     ensures calm { OnOk result (D.disk_faults disk.new ≡ D.disk_faults disk.old) }
     ensures cause { OnErr result (Rose (D.disk_faults disk.old) (D.disk_faults disk.new)) }
+    ensures went { D.went disk.old disk.new }
 {
     disk.cut(len)?;
     disk.sync()?;
@@ -59,6 +61,7 @@ pub fn replace_rest<D: Disk>(disk: &mut D, piece: &[u8]) -> Result<(), DiskFault
     ensures later { D.disk_faults disk.old ≤ D.disk_faults disk.new }
     ensures calm { OnOk result (D.disk_faults disk.new ≡ D.disk_faults disk.old) }
     ensures cause { OnErr result (Rose (D.disk_faults disk.old) (D.disk_faults disk.new)) }
+    ensures went { D.went disk.old disk.new }
 {
     disk.cut(9)?;
     disk.write_at(9, piece)?;
@@ -76,6 +79,7 @@ pub fn read_head<D: Disk>(disk: &mut D, head: &mut [u8]) -> Result<usize, DiskFa
     ensures later { D.disk_faults disk.old ≤ D.disk_faults disk.new }
     ensures calm { OnOk result (D.disk_faults disk.new ≡ D.disk_faults disk.old) }
     ensures cause { OnErr result (Rose (D.disk_faults disk.old) (D.disk_faults disk.new)) }
+    ensures went { D.went disk.old disk.new }
 {
     let mut count = 0;
     while count < head.len() {
@@ -100,6 +104,7 @@ fn read_part<D: Disk>(disk: &mut D, bytes: &mut [u8], at: usize) -> Result<usize
     ensures later { D.disk_faults disk.old ≤ D.disk_faults disk.new }
     ensures calm { OnOk result (D.disk_faults disk.new ≡ D.disk_faults disk.old) }
     ensures cause { OnErr result (Rose (D.disk_faults disk.old) (D.disk_faults disk.new)) }
+    ensures went { D.went disk.old disk.new }
 {
     Ok(disk.read(at as u64, &mut bytes[at..])?)
 }
@@ -112,6 +117,7 @@ pub fn has_byte_at<D: Disk>(disk: &mut D, at: u64) -> Result<bool, DiskFault>
     ensures later { D.disk_faults disk.old ≤ D.disk_faults disk.new }
     ensures calm { OnOk result (D.disk_faults disk.new ≡ D.disk_faults disk.old) }
     ensures cause { OnErr result (Rose (D.disk_faults disk.old) (D.disk_faults disk.new)) }
+    ensures went { D.went disk.old disk.new }
 {
     let mut byte = [0; 1];
     let count = disk.read(at, &mut byte)?;
@@ -125,6 +131,7 @@ fn bound_of<D: Disk>(disk: &mut D) -> Result<u64, DiskFault>
     ensures later { D.disk_faults disk.old ≤ D.disk_faults disk.new }
     ensures calm { OnOk result (D.disk_faults disk.new ≡ D.disk_faults disk.old) }
     ensures cause { OnErr result (Rose (D.disk_faults disk.old) (D.disk_faults disk.new)) }
+    ensures went { D.went disk.old disk.new }
 {
     let mut bound = 65_536u64;
     while has_byte_at(disk, bound)? {
@@ -144,6 +151,7 @@ fn measure<D: Disk>(disk: &mut D) -> Result<usize, DiskFault>
     ensures later { D.disk_faults disk.old ≤ D.disk_faults disk.new }
     ensures calm { OnOk result (D.disk_faults disk.new ≡ D.disk_faults disk.old) }
     ensures cause { OnErr result (Rose (D.disk_faults disk.old) (D.disk_faults disk.new)) }
+    ensures went { D.went disk.old disk.new }
 {
     let mut low = 0;
     let mut high = bound_of(disk)?;
@@ -167,6 +175,7 @@ pub fn read_rest<D: Disk>(alloc: Global, disk: &mut D) -> Result<Vec<u8>, OpenRe
     ensures calm { (IsErrOf result OpenReason.DiskFault → ⊥) → D.disk_faults disk.new ≡ D.disk_faults disk.old }
     ensures cause { IsErrOf result OpenReason.DiskFault → Rose (D.disk_faults disk.old) (D.disk_faults disk.new) }
     ensures journal { (place : _) → IsErrOf result (OpenReason.NotAJournal place) → ⊥ }
+    ensures went { D.went disk.old disk.new }
 {
     let len = measure(disk)?;
     let Ok(mut all) = Vec::with_capacity(alloc, len) else {
@@ -198,6 +207,8 @@ pub fn sync_both<D: Disk>(one: &mut D, other: &mut D) -> Result<(), DiskFault>
     ensures later_other { D.disk_faults other.old ≤ D.disk_faults other.new }
     ensures calm { OnOk result ((D.disk_faults one.new ≡ D.disk_faults one.old) × (D.disk_faults other.new ≡ D.disk_faults other.old)) }
     ensures cause { OnErr result (Rose (D.disk_faults one.old) (D.disk_faults one.new) ⊎ Rose (D.disk_faults other.old) (D.disk_faults other.new)) }
+    ensures went_one { D.went one.old one.new }
+    ensures went_other { D.went other.old other.new }
 {
     one.sync()?;
     other.sync()?;
@@ -212,6 +223,7 @@ pub fn is_open_at<D: Disk>(disk: &mut D, at: u64) -> Result<bool, DiskFault>
     ensures later { D.disk_faults disk.old ≤ D.disk_faults disk.new }
     ensures calm { OnOk result (D.disk_faults disk.new ≡ D.disk_faults disk.old) }
     ensures cause { OnErr result (Rose (D.disk_faults disk.old) (D.disk_faults disk.new)) }
+    ensures went { D.went disk.old disk.new }
 {
     let mut gate = [0; 1];
     let count = disk.read(at, &mut gate)?;

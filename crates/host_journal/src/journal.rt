@@ -102,6 +102,8 @@ impl<D: Disk> Journal<D> {
         ensures later { IfErr result (λ f. (D.disk_faults first ≤ D.disk_faults f.first) × (D.disk_faults second ≤ D.disk_faults f.second)) }
         ensures calm_err { IfErr result (λ f. (f.reason ≡ OpenReason.DiskFault → ⊥) → (D.disk_faults f.first ≡ D.disk_faults first) × (D.disk_faults f.second ≡ D.disk_faults second)) }
         ensures calm { IfOk result (λ r. (D.disk_faults (first_disk r.0) ≡ D.disk_faults first) × (D.disk_faults (second_disk r.0) ≡ D.disk_faults second)) }
+        ensures went { IfOk result (λ r. D.went first (first_disk r.0) × D.went second (second_disk r.0)) }
+        ensures went_err { IfErr result (λ f. D.went first f.first × D.went second f.second) }
     {
         let mut first = first;
         let mut second = second;
@@ -248,6 +250,8 @@ fn read_disks<D: Disk>(
     ensures later_first { D.disk_faults first.old ≤ D.disk_faults first.new }
     ensures later_second { D.disk_faults second.old ≤ D.disk_faults second.new }
     ensures calm { (IsErrOf result OpenReason.DiskFault → ⊥) → (D.disk_faults first.new ≡ D.disk_faults first.old) × (D.disk_faults second.new ≡ D.disk_faults second.old) }
+    ensures went_first { D.went first.old first.new }
+    ensures went_second { D.went second.old second.new }
 {
     let one = read_front(false, first)?;
     let two = read_front(true, second)?;
@@ -277,6 +281,7 @@ fn read_front<D: Disk>(second: bool, disk: &mut D) -> Result<Front, DiskFault>
     ensures later { D.disk_faults disk.old ≤ D.disk_faults disk.new }
     ensures calm { OnOk result (D.disk_faults disk.new ≡ D.disk_faults disk.old) }
     ensures cause { OnErr result (Rose (D.disk_faults disk.old) (D.disk_faults disk.new)) }
+    ensures went { D.went disk.old disk.new }
 {
     disk.sync()?;
     look_at(second, disk)
@@ -290,6 +295,7 @@ fn look_at<D: Disk>(second: bool, disk: &mut D) -> Result<Front, DiskFault>
     ensures later { D.disk_faults disk.old ≤ D.disk_faults disk.new }
     ensures calm { OnOk result (D.disk_faults disk.new ≡ D.disk_faults disk.old) }
     ensures cause { OnErr result (Rose (D.disk_faults disk.old) (D.disk_faults disk.new)) }
+    ensures went { D.went disk.old disk.new }
 {
     let mut head = [0; 21];
     let count = read_head(disk, &mut head)?;
@@ -321,6 +327,8 @@ fn read_either<D: Disk>(
     ensures calm { (IsErrOf result OpenReason.DiskFault → ⊥) → (D.disk_faults first.new ≡ D.disk_faults first.old) × (D.disk_faults second.new ≡ D.disk_faults second.old) }
     ensures fault { IsErrOf result OpenReason.DiskFault → Rose (D.disk_faults first.old) (D.disk_faults first.new) ⊎ Rose (D.disk_faults second.old) (D.disk_faults second.new) }
     ensures journal { (place : _) → IsErrOf result (OpenReason.NotAJournal place) → ⊥ }
+    ensures went_first { D.went first.old first.new }
+    ensures went_second { D.went second.old second.new }
 {
     if is_second {
         read_rest(alloc, second)

@@ -5,7 +5,7 @@ ghost use Rattle.ps_disks.specs.Disk.{Only};
 ghost use Rattle.ps_disks.specs.declared.disk.DiskCall.TheVariants.{Sync};
 ghost use Rattle.host_journal.specs.Calls.{IsRead};
 ghost use Rattle.host_journal.specs.Reload.{stood_of, IsOf};
-ghost use Rattle.host_journal.specs.State.{is_ready, stored, has_record, EachImage, IsAt, KeepsPlace, first_disk, second_disk};
+ghost use Rattle.host_journal.specs.State.{is_ready, stored, has_record, EachImage, IsAt, KeepsPlace, WentOn, first_disk, second_disk};
 ghost use Rattle.host_journal.specs.Told.{TellsAll, TellsSyncs};
 
 use crate::disk_calls::{is_open_at, sync_both};
@@ -50,6 +50,7 @@ impl<D: Disk> Journal<D> {
         ensures later { (D.disk_faults (first_disk self.old) ≤ D.disk_faults (first_disk self.new)) × (D.disk_faults (second_disk self.old) ≤ D.disk_faults (second_disk self.new)) }
         ensures calm { OnOk result ((D.disk_faults (first_disk self.new) ≡ D.disk_faults (first_disk self.old)) × (D.disk_faults (second_disk self.new) ≡ D.disk_faults (second_disk self.old))) }
         ensures cause { OnErr result (Rose (D.disk_faults (first_disk self.old)) (D.disk_faults (first_disk self.new)) ⊎ Rose (D.disk_faults (second_disk self.old)) (D.disk_faults (second_disk self.new))) }
+        ensures went { WentOn D.went self.old self.new }
     {
         let stood = find_stood(
             self.second,
@@ -102,6 +103,8 @@ fn find_stood<D: Disk>(
     ensures later_other { D.disk_faults other.old ≤ D.disk_faults other.new }
     ensures calm { OnOk result ((D.disk_faults counting.new ≡ D.disk_faults counting.old) × (D.disk_faults other.new ≡ D.disk_faults other.old)) }
     ensures cause { OnErr result (Rose (D.disk_faults counting.old) (D.disk_faults counting.new) ⊎ Rose (D.disk_faults other.old) (D.disk_faults other.new)) }
+    ensures went { D.went counting.old counting.new }
+    ensures went_other { D.went other.old other.new }
 {
     sync_in_order(second, counting, other)?;
     look_at_gate(counting, other, pending, end)
@@ -119,6 +122,8 @@ fn sync_in_order<D: Disk>(second: bool, counting: &mut D, other: &mut D) -> Resu
     ensures later_other { D.disk_faults other.old ≤ D.disk_faults other.new }
     ensures calm { OnOk result ((D.disk_faults counting.new ≡ D.disk_faults counting.old) × (D.disk_faults other.new ≡ D.disk_faults other.old)) }
     ensures cause { OnErr result (Rose (D.disk_faults counting.old) (D.disk_faults counting.new) ⊎ Rose (D.disk_faults other.old) (D.disk_faults other.new)) }
+    ensures went { D.went counting.old counting.new }
+    ensures went_other { D.went other.old other.new }
 {
     if second {
         sync_both(other, counting)
@@ -143,6 +148,8 @@ fn look_at_gate<D: Disk>(
     ensures later_other { D.disk_faults other.old ≤ D.disk_faults other.new }
     ensures calm { OnOk result ((D.disk_faults counting.new ≡ D.disk_faults counting.old) × (D.disk_faults other.new ≡ D.disk_faults other.old)) }
     ensures cause { OnErr result (Rose (D.disk_faults counting.old) (D.disk_faults counting.new) ⊎ Rose (D.disk_faults other.old) (D.disk_faults other.new)) }
+    ensures went { D.went counting.old counting.new }
+    ensures went_other { D.went other.old other.new }
 {
     match pending {
         Pending::Record(next) => {

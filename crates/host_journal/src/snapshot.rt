@@ -5,7 +5,7 @@ ghost use Rattle.ps_disks.specs.Disk.{written, Torn, Follows, Only, LeavesOnly};
 ghost use Rattle.ps_disks.specs.declared.disk.DiskCall.TheVariants.{Write, Sync};
 ghost use Rattle.host_journal.specs.Calls.{PartAfter};
 ghost use Rattle.host_journal.specs.Moments.{Adds, Shows, LiesBeside};
-ghost use Rattle.host_journal.specs.State.{is_ready, stored, has_record, snapshot_of, close_calls, fill_calls, snapshot_calls, image_bytes, closing, EachImage, EachSince, SameButRoom};
+ghost use Rattle.host_journal.specs.State.{is_ready, stored, has_record, snapshot_of, close_calls, fill_calls, snapshot_calls, image_bytes, closing, EachImage, EachSince, SameButRoom, WentOn};
 ghost use Rattle.host_journal.specs.Told.{TellsAll, TellsFirst, TellsBoth};
 
 use crate::disk_calls::{replace_rest, write_and_sync};
@@ -62,6 +62,7 @@ impl<D: Disk> Journal<D> {
         ensures told_first { OnErr result (TellsFirst (D.told self.old.other) (D.told self.new.other) (snapshot_calls self.old.shut (self.old.generation + 1) image.bytes)) }
         ensures calm { OnOk result (D.disk_faults self.new.counting ≡ D.disk_faults self.old.other) }
         ensures cause { OnErr result (Rose (D.disk_faults self.old.other) (D.disk_faults self.new.other)) }
+        ensures went { WentOn D.went self.old self.new }
     {
         put_image(&mut self.buffer, self.generation + 1, image);
         self.pending = Pending::Unopened;
@@ -93,6 +94,7 @@ fn close_head<D: Disk>(disk: &mut D, shut: bool) -> Result<(), DiskFault>
     ensures later { D.disk_faults disk.old ≤ D.disk_faults disk.new }
     ensures calm { OnOk result (D.disk_faults disk.new ≡ D.disk_faults disk.old) }
     ensures cause { OnErr result (Rose (D.disk_faults disk.old) (D.disk_faults disk.new)) }
+    ensures went { D.went disk.old disk.new }
 {
     if shut {
         write_and_sync(disk, HEAD_GATE, &[])

@@ -1,10 +1,19 @@
-use Rattle.std.proofs.Common.{inl, inr, refl, ◌+◌, length, ◌∙◌, ap, arith}
+use Rattle.std.proofs.Common.{◌≡◌, Bool, true, false, if◌then◌else◌, inl, inr, refl, ◌+◌, length, ◌∙◌, ap, arith, subst}
 use Rattle.std.specs.Vec.{vec_capacity}
-use Rattle.host_journal.specs.State.{State}
+use Rattle.host_journal.specs.State.{State, first_disk, second_disk}
 use Rattle.host_journal.proofs.CallLemmas.{on_err}
 use Rattle.host_journal.proofs.RecordLemmas.{exit_left}
 use Rattle.host_journal.proofs.TurnExits.{closing_exit, putting_exit, opening_exit, done_exit, done_counts, done_durable, told_closing, told_putting, told_opening, told_done, shut_closing, shut_putting, shut_opening}
 use Rattle.host_journal.proofs.journal.Journal.snapshot.Goals as goal
+
+-- the disk that doesn't count went on, and the other one stayed
+other_went : {D : Type 0} (went : D → D → Type 0) → ((d : D) → went d d) → (s old : State D) → s ≡ old → (new : D) → went s.other new
+    → went (first_disk old) (if s.second then new else s.counting) × went (second_disk old) (if s.second then s.counting else new)
+other_went {D} went still s old is new on = subst (λ (o : State D). went (first_disk o) (if s.second then new else s.counting) × went (second_disk o) (if s.second then s.counting else new)) is (by_side s.second)
+  where
+    by_side : (side : Bool) → went (if side then s.other else s.counting) (if side then new else s.counting) × went (if side then s.counting else s.other) (if side then s.counting else new)
+    by_side true = (on, still s.counting)
+    by_side false = (still s.counting, on)
 
 pub invariant_of-self : goal.invariant_of-self
 invariant_of-self g c = (
@@ -201,3 +210,9 @@ returns-in_err-replace_rest-clause-shut_err g c =
 pub returns-in_err-write_and_sync-clause-shut_err : goal.returns-in_err-write_and_sync-clause-shut_err
 returns-in_err-write_and_sync-clause-shut_err g c =
     on_err _ c.from_residual-in_err-write_and_sync.result (inr (refl, shut_opening g.D.Disk.told _ _ c.self.view_is c.args.image.bytes c.deref.result.now (c.deref.ensures.value ∙ c.put_image.ensures.items) c.close_head.new.disk c.replace_rest.new.disk c.write_and_sync.new.disk c.in_ok-close_head.ensures.told c.in_ok-replace_rest.ensures.told c.in_err-write_and_sync.ensures.told_first))
+
+pub returns-in_err-write_and_sync-clause-went : goal.returns-in_err-write_and_sync-clause-went
+returns-in_err-write_and_sync-clause-went g c =
+    other_went g.D.Disk.went g.met.D.Disk.went_refl _ _ c.self.view_is c.write_and_sync.new.disk
+    (g.met.D.Disk.went_trans c.self.inside.other c.replace_rest.new.disk c.write_and_sync.new.disk
+    (g.met.D.Disk.went_trans c.self.inside.other c.close_head.new.disk c.replace_rest.new.disk c.close_head.ensures.went c.replace_rest.ensures.went) c.write_and_sync.ensures.went)
