@@ -1,3 +1,4 @@
+pub mod ArmedLemmas
 mod CallLemmas
 mod CourseLemmas
 mod KeepLemmas

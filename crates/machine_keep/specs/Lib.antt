@@ -1,3 +1,4 @@
+pub mod Armed
 pub mod Calls
 pub mod Course
 pub mod Kept

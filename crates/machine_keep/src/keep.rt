@@ -5,7 +5,7 @@ ghost use Rattle.ps_ports.specs.Causes.{Rose};
 ghost use Rattle.host_journal.specs.Calls.{IsRead};
 ghost use Rattle.host_journal.specs.Moments.{Adds, LeftIn, Shows};
 ghost use Rattle.host_journal.specs.Pair.{pair_of};
-ghost use Rattle.host_journal.specs.State.{append_calls, is_ready, stored, has_record, which, with_record, EachImage, EachSince, IsAt, KeepsPlace, SameButRoom, first_disk, second_disk};
+ghost use Rattle.host_journal.specs.State.{append_calls, is_ready, stored, has_record, which, with_record, EachImage, EachSince, IsAt, KeepsPlace, SameButRoom, WentOn, first_disk, second_disk};
 ghost use Rattle.machine_keep.specs.Calls.{TellsIn, TellsSomeIn, all_on, image_calls, record_calls, sync_calls};
 ghost use Rattle.machine_keep.specs.Course.{Answered, Breaks, IsFound, IsShortened, Keeps, Unfound, Unkept, Wanting};
 ghost use Rattle.machine_keep.specs.Kept.{HasFew, IsMade, Snapped, StandsAround, StandsBut, StandsFor, after_step, caught, is_many};
@@ -163,6 +163,7 @@ impl<M: Machine, D: Disk> Keep<M, D> {
         ensures later { (D.disk_faults (first_disk self.old.journal) ≤ D.disk_faults (first_disk self.new.journal)) × (D.disk_faults (second_disk self.old.journal) ≤ D.disk_faults (second_disk self.new.journal)) }
         ensures calm { (result ≡ Err disk_fault → ⊥) → (D.disk_faults (first_disk self.new.journal) ≡ D.disk_faults (first_disk self.old.journal)) × (D.disk_faults (second_disk self.new.journal) ≡ D.disk_faults (second_disk self.old.journal)) }
         ensures cause { result ≡ Err disk_fault → Rose (D.disk_faults (first_disk self.old.journal)) (D.disk_faults (first_disk self.new.journal)) ⊎ Rose (D.disk_faults (second_disk self.old.journal)) (D.disk_faults (second_disk self.new.journal)) }
+        ensures went { WentOn D.went self.old.journal self.new.journal }
     {
         self.known();
         self.catch_up()?;
@@ -189,6 +190,7 @@ impl<M: Machine, D: Disk> Keep<M, D> {
         ensures later { (D.disk_faults (first_disk self.old.journal) ≤ D.disk_faults (first_disk self.new.journal)) × (D.disk_faults (second_disk self.old.journal) ≤ D.disk_faults (second_disk self.new.journal)) }
         ensures calm { OnOk result ((D.disk_faults (first_disk self.new.journal) ≡ D.disk_faults (first_disk self.old.journal)) × (D.disk_faults (second_disk self.new.journal) ≡ D.disk_faults (second_disk self.old.journal))) }
         ensures cause { OnErr result (Rose (D.disk_faults (first_disk self.old.journal)) (D.disk_faults (first_disk self.new.journal)) ⊎ Rose (D.disk_faults (second_disk self.old.journal)) (D.disk_faults (second_disk self.new.journal))) }
+        ensures went { WentOn D.went self.old.journal self.new.journal }
     {
         self.known();
         if self.journal.is_ready() {
@@ -227,6 +229,7 @@ impl<M: Machine, D: Disk> Keep<M, D> {
         ensures later { (D.disk_faults (first_disk self.old.journal) ≤ D.disk_faults (first_disk self.new.journal)) × (D.disk_faults (second_disk self.old.journal) ≤ D.disk_faults (second_disk self.new.journal)) }
         ensures calm { (result ≡ Err disk_fault → ⊥) → (D.disk_faults (first_disk self.new.journal) ≡ D.disk_faults (first_disk self.old.journal)) × (D.disk_faults (second_disk self.new.journal) ≡ D.disk_faults (second_disk self.old.journal)) }
         ensures cause { result ≡ Err disk_fault → Rose (D.disk_faults (first_disk self.old.journal)) (D.disk_faults (first_disk self.new.journal)) ⊎ Rose (D.disk_faults (second_disk self.old.journal)) (D.disk_faults (second_disk self.new.journal)) }
+        ensures went { WentOn D.went self.old.journal self.new.journal }
     {
         let Decided { reply, step } = decided;
         match step {
@@ -262,6 +265,7 @@ impl<M: Machine, D: Disk> Keep<M, D> {
         ensures later { (D.disk_faults (first_disk self.old.journal) ≤ D.disk_faults (first_disk self.new.journal)) × (D.disk_faults (second_disk self.old.journal) ≤ D.disk_faults (second_disk self.new.journal)) }
         ensures calm { (result ≡ Err disk_fault → ⊥) → (D.disk_faults (first_disk self.new.journal) ≡ D.disk_faults (first_disk self.old.journal)) × (D.disk_faults (second_disk self.new.journal) ≡ D.disk_faults (second_disk self.old.journal)) }
         ensures cause { result ≡ Err disk_fault → Rose (D.disk_faults (first_disk self.old.journal)) (D.disk_faults (first_disk self.new.journal)) ⊎ Rose (D.disk_faults (second_disk self.old.journal)) (D.disk_faults (second_disk self.new.journal)) }
+        ensures went { WentOn D.went self.old.journal self.new.journal }
     {
         self.known();
         let bytes = self.machine.write_record(alloc, &step)?;
@@ -295,6 +299,7 @@ impl<M: Machine, D: Disk> Keep<M, D> {
         ensures calm { OnOk result ((D.disk_faults (first_disk self.new.journal) ≡ D.disk_faults (first_disk self.old.journal)) × (D.disk_faults (second_disk self.new.journal) ≡ D.disk_faults (second_disk self.old.journal))) }
         ensures ready { OnOk result (IsTrue (is_ready self.new.journal.pending)) }
         ensures cause { OnErr result (Rose (D.disk_faults (first_disk self.old.journal)) (D.disk_faults (first_disk self.new.journal)) ⊎ Rose (D.disk_faults (second_disk self.old.journal)) (D.disk_faults (second_disk self.new.journal))) }
+        ensures went { WentOn D.went self.old.journal self.new.journal }
     {
         self.known();
         let step = append(&mut self.journal, &mut self.unsure, step, bytes)?;
@@ -318,6 +323,7 @@ impl<M: Machine, D: Disk> Keep<M, D> {
         ensures later { (D.disk_faults (first_disk self.old.journal) ≤ D.disk_faults (first_disk self.new.journal)) × (D.disk_faults (second_disk self.old.journal) ≤ D.disk_faults (second_disk self.new.journal)) }
         ensures calm { OnOk result ((D.disk_faults (first_disk self.new.journal) ≡ D.disk_faults (first_disk self.old.journal)) × (D.disk_faults (second_disk self.new.journal) ≡ D.disk_faults (second_disk self.old.journal))) }
         ensures cause { OnErr result (Rose (D.disk_faults (first_disk self.old.journal)) (D.disk_faults (first_disk self.new.journal)) ⊎ Rose (D.disk_faults (second_disk self.old.journal)) (D.disk_faults (second_disk self.new.journal))) }
+        ensures went { WentOn D.went self.old.journal self.new.journal }
     {
         self.known();
         if !self.has_many_records() {
@@ -367,6 +373,15 @@ impl<M: Machine> Keep<M, MemoryDisk> {
         ensures put_off { self.new.put_off ≡ self.old.put_off }
         ensures counting { self.new.journal.counting ≡ armed self.old.journal.counting (armed_number call) }
         ensures other { self.new.journal.other ≡ armed self.old.journal.other (armed_number call) }
+        ensures on_first { first_disk self.new.journal ≡ armed (first_disk self.old.journal) (armed_number call) }
+        ensures on_second { second_disk self.new.journal ≡ armed (second_disk self.old.journal) (armed_number call) }
+        ensures second { self.new.journal.second ≡ self.old.journal.second }
+        ensures generation { self.new.journal.generation ≡ self.old.journal.generation }
+        ensures start { self.new.journal.start ≡ self.old.journal.start }
+        ensures end { self.new.journal.end ≡ self.old.journal.end }
+        ensures shut { self.new.journal.shut ≡ self.old.journal.shut }
+        ensures pending { self.new.journal.pending ≡ self.old.journal.pending }
+        ensures room { self.new.journal.room ≡ self.old.journal.room }
     {
         self.journal.fail_at(call);
     }
@@ -406,6 +421,7 @@ fn append<S: Drop, D: Disk>(
     ensures later { (D.disk_faults (first_disk journal.old) ≤ D.disk_faults (first_disk journal.new)) × (D.disk_faults (second_disk journal.old) ≤ D.disk_faults (second_disk journal.new)) }
     ensures calm { OnOk result ((D.disk_faults (first_disk journal.new) ≡ D.disk_faults (first_disk journal.old)) × (D.disk_faults (second_disk journal.new) ≡ D.disk_faults (second_disk journal.old))) }
     ensures cause { OnErr result (Rose (D.disk_faults (first_disk journal.old)) (D.disk_faults (first_disk journal.new)) ⊎ Rose (D.disk_faults (second_disk journal.old)) (D.disk_faults (second_disk journal.new))) }
+    ensures went { WentOn D.went journal.old journal.new }
 {
     match journal.append(bytes) {
         Ok(()) => Ok(step),

@@ -4,6 +4,7 @@
 
 pub mod fault;
 pub mod keep;
+pub mod law;
 pub mod machine;
 mod open;
 mod snapshot;

@@ -5,7 +5,7 @@ ghost use Rattle.host_journal.specs.Calls.{IsRead};
 ghost use Rattle.host_journal.specs.Format.{record_bytes};
 ghost use Rattle.host_journal.specs.Moments.{Adds, LeftIn};
 ghost use Rattle.host_journal.specs.Pair.{pair_of};
-ghost use Rattle.host_journal.specs.State.{is_ready, stored, opened_as, EachImage, first_disk, second_disk};
+ghost use Rattle.host_journal.specs.State.{is_ready, stored, opened_as, EachImage, WentOn, first_disk, second_disk};
 ghost use Rattle.machine_keep.specs.declared.fault.StepFault.TheVariants.{Disk as disk_fault, Memory as no_memory};
 ghost use Rattle.machine_keep.specs.Calls.{TellsIn, TellsSome, image_calls, sync_calls};
 ghost use Rattle.machine_keep.specs.Course.{IsRewritten, Opened, Unwritten};
@@ -56,6 +56,8 @@ impl<M: Machine + Drop, D: Disk> Keep<M, D> {
         ensures opened { IfOk result (λ keep. Opened D.premise D.seen D.told M.stands_for first second (M.state keep.machine) keep.journal) }
         ensures told_err { IfErr result (λ f. TellsSome D.told first second f.first f.second (sync_calls false)
             ⊎ ((f.reason ≡ OpenReason.DiskFault) × Unwritten D.premise D.seen D.told M.stands_for first second f.first f.second)) }
+        ensures went { IfOk result (λ keep. D.went first (first_disk keep.journal) × D.went second (second_disk keep.journal)) }
+        ensures went_err { IfErr result (λ f. D.went first f.first × D.went second f.second) }
     {
         match Journal::open(alloc, first, second) {
             Ok((journal, list)) => Keep::of_list(alloc, origin, journal, list),
@@ -90,6 +92,8 @@ impl<M: Machine + Drop, D: Disk> Keep<M, D> {
         ensures told { IfOk result (λ keep. (image : Option (List ℕ)) × IsRewritten M.stands_for (M.state keep.machine) journal image keep.journal × TellsIn D.told journal keep.journal (image_calls journal image)) }
         ensures told_first { IfErr result (λ f. f.reason ≡ OpenReason.DiskFault → (s : M.State) × (image : List ℕ) × M.stands_for (image ∷ []) s
             × TellsSome D.told (first_disk journal) (second_disk journal) f.first f.second (image_calls journal (Some image))) }
+        ensures went { IfOk result (λ keep. WentOn D.went journal keep.journal) }
+        ensures went_err { IfErr result (λ f. D.went (first_disk journal) f.first × D.went (second_disk journal) f.second) }
     {
         match M::restore(alloc, origin, list.as_slice()) {
             Ok(restored) => Keep::of_restored(alloc, journal, restored),
@@ -126,6 +130,8 @@ impl<M: Machine + Drop, D: Disk> Keep<M, D> {
         ensures told { IfOk result (λ keep. (image : Option (List ℕ)) × IsRewritten M.stands_for (M.state keep.machine) journal image keep.journal × TellsIn D.told journal keep.journal (image_calls journal image)) }
         ensures told_first { IfErr result (λ f. f.reason ≡ OpenReason.DiskFault → (s : M.State) × (image : List ℕ) × M.stands_for (image ∷ []) s
             × TellsSome D.told (first_disk journal) (second_disk journal) f.first f.second (image_calls journal (Some image))) }
+        ensures went { IfOk result (λ keep. WentOn D.went journal keep.journal) }
+        ensures went_err { IfErr result (λ f. D.went (first_disk journal) f.first × D.went (second_disk journal) f.second) }
     {
         let Restored {
             machine,

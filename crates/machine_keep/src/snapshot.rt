@@ -2,7 +2,7 @@
 ghost use Rattle.std.specs.Prelude.{◌≡◌, ◌⊎◌, ◌+◌, ◌≤◌, ℕ, List, Err, IfOk, IsTrue, OnErr, OnOk, Some, [], ◌∷◌, length};
 ghost use Rattle.ps_ports.specs.Causes.{Rose};
 ghost use Rattle.host_journal.specs.Moments.{Adds};
-ghost use Rattle.host_journal.specs.State.{is_ready, stored, SameButRoom, first_disk, second_disk};
+ghost use Rattle.host_journal.specs.State.{is_ready, stored, SameButRoom, WentOn, first_disk, second_disk};
 ghost use Rattle.machine_keep.specs.Calls.{TellsIn, TellsSomeIn, image_calls};
 ghost use Rattle.machine_keep.specs.Course.{IsTurned};
 ghost use Rattle.machine_keep.specs.Kept.{Snapped, StandsFor};
@@ -40,6 +40,7 @@ pub fn put_snapshot<M: Machine, D: Disk>(
     ensures later { (D.disk_faults (first_disk journal.old) ≤ D.disk_faults (first_disk journal.new)) × (D.disk_faults (second_disk journal.old) ≤ D.disk_faults (second_disk journal.new)) }
     ensures calm { (result ≡ Err disk_fault → ⊥) → (D.disk_faults (first_disk journal.new) ≡ D.disk_faults (first_disk journal.old)) × (D.disk_faults (second_disk journal.new) ≡ D.disk_faults (second_disk journal.old)) }
     ensures cause { result ≡ Err disk_fault → Rose (D.disk_faults (first_disk journal.old)) (D.disk_faults (first_disk journal.new)) ⊎ Rose (D.disk_faults (second_disk journal.old)) (D.disk_faults (second_disk journal.new)) }
+    ensures went { WentOn D.went journal.old journal.new }
 {
     if journal.generation() == u64::MAX {
         return Err(StepFault::Memory);

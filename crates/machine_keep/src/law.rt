@@ -1,0 +1,34 @@
+//! What the count of faults of disks in memory says of a step.
+ghost use Rattle.std.specs.Prelude.{◌≡◌, ◌⊎◌, ℕ, List, Result, Err, false};
+ghost use Rattle.ps_disks.specs.MemoryDisk.{DiskState, told_calls};
+ghost use Rattle.ps_disks.specs.Run.{IsArmed, IsSpared, MeetsFault, made_since};
+ghost use Rattle.ps_disks.specs.declared.disk.DiskCall.{DiskCall};
+ghost use Rattle.host_journal.specs.State.{State, first_disk, second_disk};
+ghost use Rattle.host_journal.specs.Told.{TellsAll};
+ghost use Rattle.machine_keep.specs.Armed.{IsStep, Lacks};
+ghost use Rattle.machine_keep.specs.declared.fault.StepFault.{StepFault};
+ghost use Rattle.machine_keep.specs.declared.fault.StepFault.TheVariants.{Disk as disk_fault};
+
+use crate::machine::Machine;
+
+/// A law: over disks in memory of which no call is to fail a step meets no fault of a disk, unless there was no memory for a
+/// call of theirs, or a write would have ended past 2^64 - 1.
+pub fn law_calm<M: Machine>()
+    ensures { (old new : State DiskState) (result : Result M.Reply StepFault) → IsStep old new result → IsArmed (first_disk old) 0 → IsArmed (second_disk old) 0
+        → result ≡ Err disk_fault → Lacks (first_disk old) (first_disk new) ⊎ Lacks (second_disk old) (second_disk new) }
+{}
+
+/// A law: over disks in memory of each of which one call is to fail, counted from 1 among its writes, cuts and syncs, a step
+/// meets a fault of a disk exactly where one of them makes so many calls in it, or for want of memory, or by a write that
+/// would end past 2^64 - 1. Else the calls that are to fail come nearer by those that were made.
+pub fn law_armed<M: Machine>()
+    ensures fault { (old new : State DiskState) (result : Result M.Reply StepFault) (first second : ℕ) → IsStep old new result → IsArmed (first_disk old) first → IsArmed (second_disk old) second
+        → result ≡ Err disk_fault → MeetsFault (first_disk old) (first_disk new) ⊎ MeetsFault (second_disk old) (second_disk new) }
+    ensures calm { (old new : State DiskState) (result : Result M.Reply StepFault) (first second : ℕ) → IsStep old new result → IsArmed (first_disk old) first → IsArmed (second_disk old) second
+        → (result ≡ Err disk_fault → ⊥) → IsSpared (first_disk old) (first_disk new) × IsSpared (second_disk old) (second_disk new) }
+{}
+
+/// A law: where there was memory, the calls that a disk in memory noted are those that it tells.
+pub fn law_made()
+    ensures { (old new : DiskState) (calls : List DiskCall) → new.starved ≡ false → TellsAll (told_calls old) (told_calls new) calls → made_since old new ≡ calls }
+{}
