@@ -1,5 +1,5 @@
 -- A sound book after each change.
-use Rattle.std.proofs.Common.{◌≡◌, ℕ, zero, suc, ◌-◌, ◌≤◌, Bool, true, false, cond, ◌&&◌, List, [], ◌∷◌, map, Some, None, unwrap_or, slice_get, length, refl, ap, ap₂, sym, subst, ◌∙◌}
+use Rattle.std.proofs.Common.{All, ◌≡◌, ℕ, zero, suc, ◌-◌, ◌≤◌, Bool, true, false, cond, ◌&&◌, List, [], ◌∷◌, map, Some, None, unwrap_or, slice_get, length, refl, ap, ap₂, sym, subst, ◌∙◌}
 use Rattle.std.specs.List.{last_or}
 use Rattle.std.specs.Ordering.{is_eq}
 use Rattle.ps_time.specs.Key.{key_cmp}
@@ -26,6 +26,7 @@ use Rattle.host_model.specs.declared.change.Change.TheVariants.{LimitsSet, Poste
 use Rattle.host_model.specs.declared.task_row.TaskRow.{TaskRow}
 use Rattle.host_model.proofs.SettledBook.{book_settled}
 use Rattle.host_book.specs.Host.{IsSound, with_rows}
+use Rattle.row_ledger.specs.Deadlines.{IsDue}
 use Rattle.row_ledger.specs.Ledger.{IsNoPlan}
 use Rattle.host_book.specs.Reservations.{released}
 use Rattle.host_book.proofs.IndexLemmas.{bookings_closed, bookings_lifted, bookings_same, bookings_settled, bookings_started}
@@ -73,8 +74,8 @@ module _ (number : ℕ) (b : Book) (bs : List Booking) (sound : IsSound number b
 
 -- ---- a book that settles
 module _ (number : ℕ) (b : Book) (bs : List Booking) (sound : IsSound number b bs) (m : ℕ) (later : b.moment ≤ m) (within : m ≤ greatest_moment) where
-  pub settled_sound : IsSound number (settled m b) (released m b.rows bs)
-  settled_sound = record { lawful = book_settled number b m later within sound.lawful; index = ap (released m b.rows) sound.index ∙ bookings_settled m b.rows sound.lawful.ascending }
+  pub settled_sound : (ks : List RunKey) → All (IsDue m ks) b.rows → IsSound number (settled m b) (released m b.rows ks bs)
+  settled_sound ks due = record { lawful = book_settled number b m later within sound.lawful; index = ap (released m b.rows ks) sound.index ∙ bookings_settled m b.rows ks due sound.lawful.ascending }
 
   -- where no row lapses by then
   pub unsettled_sound : settled_rows m b.rows ≡ b.rows → IsSound number (record b { moment = m }) bs

@@ -1,6 +1,8 @@
 -- The reservations of rows, as rows settle, give way, come, change and go.
-use Rattle.std.proofs.Common.{◌≡◌, ℕ, ◌&&◌, Bool, true, false, cond, List, [], ◌∷◌, Option, Some, None, option_map, not, is_some, IfSome, refl, ap, ap₂, sym, subst, ◌∙◌}
-use Rattle.std.specs.List.{AllByRecursion}
+use Rattle.std.proofs.Common.{◌≡◌, ℕ, ◌&&◌, ◌||◌, All, Bool, true, false, cond, List, [], ◌∷◌, Option, Some, None, option_map, not, is_some, IfSome, refl, ap, ap₂, sym, subst, ◌∙◌}
+use Rattle.std.proofs.Math.Bool.{and-false}
+use Rattle.std.proofs.lemmas.List.Elements.{recursion_from_All}
+use Rattle.std.specs.List.{filter, AllByRecursion}
 use Rattle.std.specs.Ordering.{is_eq, match_ordering, ordering_reverse}
 use Rattle.std.specs.declared.cmp.Ordering.{Ordering}
 use Rattle.std.specs.declared.cmp.Ordering.TheVariants.{Less, Equal, Greater}
@@ -25,8 +27,9 @@ use Rattle.host_timeline.specs.Timeline.{find_booking, started_booking, with_boo
 use Rattle.part_core.specs.Reservations.{reserved, booking_of, with_some, bookings_of}
 use Rattle.part_core.specs.Seen.{IsUnbooked}
 use Rattle.row_ledger.specs.Closing.{closed_each}
-use Rattle.host_book.specs.Reservations.{freed_row, freed_rows, lapses, released}
-use Rattle.row_ledger.proofs.RowLemmas.{above_other, change_found, change_none}
+use Rattle.row_ledger.specs.Deadlines.{is_among, IsDue}
+use Rattle.host_book.specs.Reservations.{freed_row, freed_rows, lapses, lapses_at, released, without_lapsed}
+use Rattle.row_ledger.proofs.RowLemmas.{above_other, change_found, change_none, each_found}
 
 -- ---- one row and its reservation ----
 abbrev HasKey : RunKey → Option Booking → Type 0
@@ -276,6 +279,25 @@ bookings_planned f k r b rows up at none key is own =
     ∙ ap (λ l. with_booking l b) (bookings_lifted k rows ∙ without_apart k rows (all_apart k rows up (subst (λ o. IfSome o (λ x. is_booked x ≡ false)) (sym at) none)))
 
 -- ---- settling ----
+-- two keys are the same whichever comes first
+either_way : (a b : RunKey) → is_eq (key_cmp a b) ≡ is_eq (key_cmp b a)
+either_way a b = ap is_eq (key_cmp_total.antisymm a b) ∙ turned (key_cmp b a)
+  where
+    turned : (c : Ordering) → is_eq (ordering_reverse c) ≡ is_eq c
+    turned Less = refl
+    turned Equal = refl
+    turned Greater = refl
+
+filter_alike : (p q : Booking → Bool) → ((b : Booking) → p b ≡ q b) → (bs : List Booking) → filter p bs ≡ filter q bs
+filter_alike p q alike [] = refl
+filter_alike p q alike (b ∷ bs) = ap₂ (λ t l. cond t (b ∷ l) l) (alike b) (filter_alike p q alike bs)
+
+filter_twice : (p q r : Booking → Bool) → ((b : Booking) → cond (q b) (p b) false ≡ r b) → (bs : List Booking) → filter p (filter q bs) ≡ filter r bs
+filter_twice p q r both [] = refl
+filter_twice p q r both (b ∷ bs) =
+    elim (q b) as (λ t. filter p (cond t (b ∷ filter q bs) (filter q bs)) ≡ cond (cond t (p b) false) (b ∷ filter p (filter q bs)) (filter p (filter q bs))) [ true ↦ refl | false ↦ refl ]
+    ∙ ap₂ (λ t l. cond t (b ∷ l) l) (both b) (filter_twice p q r both bs)
+
 module _ (m : ℕ) where
   closed_booking : (r : RunRow) (o : Option Closing) → booking_of (closed_by o r) ≡ cond (is_some o) None (booking_of r)
   closed_booking r None = refl
@@ -284,50 +306,66 @@ module _ (m : ℕ) where
   settled_booking : (r : RunRow) → booking_of (settled_row m r) ≡ cond (lapses m r) None (booking_of r)
   settled_booking r = closed_booking r (lapse_of m r)
 
-  -- a reservation of another key stays where others go
-  released_past : (b : Booking) (rs : List RunRow) (bs : List Booking) → AllByRecursion (λ y. is_eq (key_cmp b.key y.key) ≡ false) rs → released m rs (b ∷ bs) ≡ b ∷ released m rs bs
-  released_past b [] bs all = refl
-  released_past b (r ∷ rs) bs all =
-      let rest = without_booking bs r.key in
-      let keep : without_booking (b ∷ bs) r.key ≡ b ∷ rest = ap (λ x. cond (not x) (b ∷ rest) rest) all.0 in
-      elim (lapses m r) as (λ x. released m rs (cond x (without_booking (b ∷ bs) r.key) (b ∷ bs)) ≡ b ∷ released m rs (cond x rest bs)) [
-        | true ↦ ap (released m rs) keep ∙ released_past b rs rest all.1
-        | false ↦ released_past b rs bs all.1
-      ]
+  -- where the rows lapse that are due, and only their reservations go
+  module _ (rows : List RunRow) where
+    abbrev stays : List RunKey → Booking → Bool
+    stays ks b = not (is_among b.key ks && lapses_at m (find_row rows b.key))
 
-  without_none : (k : RunKey) (bs : List Booking) → AllByRecursion (λ b. is_eq (key_cmp b.key k) ≡ false) bs → without_booking bs k ≡ bs
-  without_none k [] all = refl
-  without_none k (b ∷ bs) all = ap (λ x. cond (not x) (b ∷ without_booking bs k) (without_booking bs k)) all.0 ∙ ap (λ l. b ∷ l) (without_none k bs all.1)
+    one_less : (k : RunKey) (ks : List RunKey) (b : Booking) → lapses_at m (find_row rows k) ≡ true → cond (not (is_eq (key_cmp b.key k))) (stays ks b) false ≡ stays (k ∷ ks) b
+    one_less k ks b lapsed = go (is_eq (key_cmp b.key k)) refl
+      where
+        go : (t : Bool) → is_eq (key_cmp b.key k) ≡ t → cond (not t) (stays ks b) false ≡ stays (k ∷ ks) b
+        go true is = sym (ap₂ (λ x y. not ((x || is_among b.key ks) && y)) (either_way k b.key ∙ is) (ap (λ j. lapses_at m (find_row rows j)) (key_is b.key k is) ∙ lapsed))
+        go false is = sym (ap (λ x. not ((x || is_among b.key ks) && lapses_at m (find_row rows b.key))) (either_way k b.key ∙ is))
 
-  same_is : (a k : RunKey) → a ≡ k → is_eq (key_cmp a k) ≡ true
-  same_is a k same = ap (λ j. is_eq (key_cmp j k)) same ∙ ap is_eq (key_cmp_same k)
+    none_less : (k : RunKey) (ks : List RunKey) (b : Booking) → lapses_at m (find_row rows k) ≡ false → stays ks b ≡ stays (k ∷ ks) b
+    none_less k ks b stands = go (is_eq (key_cmp b.key k)) refl
+      where
+        go : (t : Bool) → is_eq (key_cmp b.key k) ≡ t → stays ks b ≡ stays (k ∷ ks) b
+        go true is =
+            let off : lapses_at m (find_row rows b.key) ≡ false = ap (λ j. lapses_at m (find_row rows j)) (key_is b.key k is) ∙ stands in
+            ap (λ y. not (is_among b.key ks && y)) off ∙ (ap not (and-false (is_among b.key ks)) ∙ sym (ap (λ y. not (is_among b.key (k ∷ ks) && y)) off ∙ ap not (and-false (is_among b.key (k ∷ ks)))))
+        go false is = sym (ap (λ x. not ((x || is_among b.key ks) && lapses_at m (find_row rows b.key))) (either_way k b.key ∙ is))
 
-  without_own : (k : RunKey) (o : Option Booking) (bs : List Booking) → HasKey k o → AllByRecursion (λ b. is_eq (key_cmp b.key k) ≡ false) bs → without_booking (with_some o bs) k ≡ bs
-  without_own k None bs has all = without_none k bs all
-  without_own k (Some b) bs has all = ap (λ x. cond (not x) (b ∷ without_booking bs k) (without_booking bs k)) (same_is b.key k has) ∙ without_none k bs all
+    released_filter : (ks : List RunKey) (bs : List Booking) → released m rows ks bs ≡ filter (stays ks) bs
+    released_filter [] bs = sym (filter_all bs)
+      where
+        filter_all : (bs : List Booking) → filter (stays []) bs ≡ bs
+        filter_all [] = refl
+        filter_all (b ∷ bs) = ap (λ l. b ∷ l) (filter_all bs)
+    released_filter (k ∷ ks) bs = released_filter ks (without_lapsed m rows k bs) ∙ go (lapses_at m (find_row rows k)) refl
+      where
+        go : (t : Bool) → lapses_at m (find_row rows k) ≡ t → filter (stays ks) (cond t (without_booking bs k) bs) ≡ filter (stays (k ∷ ks)) bs
+        go true is = filter_twice (stays ks) (λ b. not (is_eq (key_cmp b.key k))) (stays (k ∷ ks)) (λ b. one_less k ks b is) bs
+        go false is = filter_alike (stays ks) (stays (k ∷ ks)) (λ b. none_less k ks b is) bs
 
-  below_is_other : (k j : RunKey) (rs : List RunRow) → j ≡ k → AllByRecursion (λ y. key_cmp k y.key ≡ Less) rs → AllByRecursion (λ y. is_eq (key_cmp j y.key) ≡ false) rs
-  below_is_other k j [] same all = tt
-  below_is_other k j (r ∷ rs) same all = (ap (λ i. is_eq (key_cmp i r.key)) same ∙ ap is_eq all.0, below_is_other k j rs same all.1)
+    module _ (ks : List RunKey) where
+      settled_one : (r : RunRow) → find_row rows r.key ≡ Some r → IsDue m ks r → (o : Option Booking) → HasKey r.key o → (bs : List Booking) → filter (stays ks) (with_some o bs) ≡ with_some (cond (lapses m r) None o) (filter (stays ks) bs)
+      settled_one r at due None has bs = elim (lapses m r) as (λ t. filter (stays ks) bs ≡ with_some (cond t None None) (filter (stays ks) bs)) [ true ↦ refl | false ↦ refl ]
+      settled_one r at due (Some b) has bs =
+          ap (λ t. cond t (b ∷ filter (stays ks) bs) (filter (stays ks) bs)) (own ∙ by_lapse (lapses m r) refl)
+          ∙ elim (lapses m r) as (λ t. cond (not t) (b ∷ filter (stays ks) bs) (filter (stays ks) bs) ≡ with_some (cond t None (Some b)) (filter (stays ks) bs)) [ true ↦ refl | false ↦ refl ]
+        where
+          own : stays ks b ≡ not (is_among r.key ks && lapses m r)
+          own = ap₂ (λ x y. not (x && y)) (ap (λ j. is_among j ks) has) (ap (λ j. lapses_at m (find_row rows j)) has ∙ ap (lapses_at m) at)
 
-  open_settled : (r : RunRow) (o : Option Booking) (rs : List RunRow) → HasKey r.key o → AllByRecursion (λ y. key_cmp r.key y.key ≡ Less) rs
-      → released m rs (bookings_of rs) ≡ bookings_of (settled_rows m rs) → released m rs (with_some o (bookings_of rs)) ≡ with_some o (bookings_of (settled_rows m rs))
-  open_settled r None rs has up later = later
-  open_settled r (Some b) rs has up later = released_past b rs (bookings_of rs) (below_is_other r.key b.key rs has up) ∙ ap (λ l. b ∷ l) later
+          by_lapse : (t : Bool) → lapses m r ≡ t → not (is_among r.key ks && lapses m r) ≡ not (lapses m r)
+          by_lapse true is = ap (λ x. not (x && lapses m r)) (due is)
+          by_lapse false is = ap (λ y. not (is_among r.key ks && y)) is ∙ (ap not (and-false (is_among r.key ks)) ∙ sym (ap not is))
+
+      all_settled : (xs : List RunRow) → AllByRecursion (λ x. find_row rows x.key ≡ Some x) xs → AllByRecursion (IsDue m ks) xs → filter (stays ks) (bookings_of xs) ≡ bookings_of (settled_rows m xs)
+      all_settled [] at due = refl
+      all_settled (x ∷ xs) at due =
+          settled_one x at.0 due.0 (booking_of x) (booking_has_key x) (bookings_of xs)
+          ∙ (ap (with_some (cond (lapses m x) None (booking_of x))) (all_settled xs at.1 due.1) ∙ ap (λ o. with_some o (bookings_of (settled_rows m xs))) (sym (settled_booking x)))
 
   -- without what lapses the reservations are those of the settled rows
-  pub bookings_settled : (rows : List RunRow) → IsAscendingRows rows → released m rows (bookings_of rows) ≡ bookings_of (settled_rows m rows)
-  bookings_settled [] up = refl
-  bookings_settled (r ∷ rs) up =
-      let bs = bookings_of rs in
-      let later : released m rs bs ≡ bookings_of (settled_rows m rs) = bookings_settled rs up.1 in
-      let others = all_bookings (λ k. is_eq (key_cmp k r.key) ≡ false) rs (above_other r.key rs up.0) in
-      let here : released m rs (cond (lapses m r) (without_booking (with_some (booking_of r) bs) r.key) (with_some (booking_of r) bs)) ≡ with_some (cond (lapses m r) None (booking_of r)) (bookings_of (settled_rows m rs)) =
-      elim (lapses m r) as (λ x. released m rs (cond x (without_booking (with_some (booking_of r) bs) r.key) (with_some (booking_of r) bs)) ≡ with_some (cond x None (booking_of r)) (bookings_of (settled_rows m rs))) [
-        | true ↦ ap (released m rs) (without_own r.key (booking_of r) bs (booking_has_key r) others) ∙ later
-        | false ↦ open_settled r (booking_of r) rs (booking_has_key r) up.0 later
-      ] in
-      here ∙ ap (λ o. with_some o (bookings_of (settled_rows m rs))) (sym (settled_booking r))
+  pub bookings_settled : (rows : List RunRow) (ks : List RunKey) → All (IsDue m ks) rows → IsAscendingRows rows → released m rows ks (bookings_of rows) ≡ bookings_of (settled_rows m rows)
+  bookings_settled rows ks due up = released_filter rows ks (bookings_of rows) ∙ all_settled rows ks rows (each_found rows up) (recursion_from_All (IsDue m ks) rows due)
+
+below_is_other : (k j : RunKey) (rs : List RunRow) → j ≡ k → AllByRecursion (λ y. key_cmp k y.key ≡ Less) rs → AllByRecursion (λ y. is_eq (key_cmp j y.key) ≡ false) rs
+below_is_other k j [] same all = tt
+below_is_other k j (r ∷ rs) same all = (ap (λ i. is_eq (key_cmp i r.key)) same ∙ ap is_eq all.0, below_is_other k j rs same all.1)
 
 -- ---- closing by the reservations ----
 module _ (m : ℕ) (key : RunKey) (class : Class) (s : Span) where
@@ -355,7 +393,7 @@ module _ (m : ℕ) (key : RunKey) (class : Class) (s : Span) where
   closed_freed : (rows : List RunRow) → IsAscendingRows rows → closed_each m key class s (bookings_of rows) rows ≡ freed_rows m key class s rows
   closed_freed [] up = refl
   closed_freed (r ∷ rs) up =
-      go (is_booked r) r.interval (closed_freed rs up.1) (all_bookings (λ k. is_eq (key_cmp r.key k) ≡ false) rs (below_is_other m r.key r.key rs refl up.0))
+      go (is_booked r) r.interval (closed_freed rs up.1) (all_bookings (λ k. is_eq (key_cmp r.key k) ≡ false) rs (below_is_other r.key r.key rs refl up.0))
     where
       go : (b : Bool) (o : Option Span) → closed_each m key class s (bookings_of rs) rs ≡ freed_rows m key class s rs → AllByRecursion (λ y. is_eq (key_cmp r.key y.key) ≡ false) (bookings_of rs)
           → closed_each m key class s (with_some (cond b (reserved r o) None) (bookings_of rs)) (r ∷ rs) ≡ cond (b && clashes class s (test_class r.test) o) (close_one r) r ∷ freed_rows m key class s rs

@@ -1,5 +1,5 @@
 -- The reservations of rows as these settle and give way, one after another.
-use Rattle.std.specs.Prelude.{ℕ, Bool, false, List, [], ◌∷◌, map, is_some, if◌then◌else◌}
+use Rattle.std.specs.Prelude.{ℕ, Bool, false, List, [], ◌∷◌, map, None, Option, Some, is_some, if◌then◌else◌}
 use Rattle.ps_time.specs.Span.{Span, span_of}
 use Rattle.ps_time.specs.declared.class.Class.{Class}
 use Rattle.ps_time.specs.declared.key.RunKey.{RunKey}
@@ -10,6 +10,7 @@ use Rattle.run_states.specs.declared.why.Why.TheVariants.{Preempted}
 use Rattle.run_states.specs.Conflict.{blocks}
 use Rattle.run_states.specs.Life.{close_row, lapse_of}
 use Rattle.run_states.specs.Preemption.{planned_span}
+use Rattle.run_states.specs.Rows.{find_row}
 use Rattle.host_timeline.specs.declared.booking.Booking.{Booking}
 use Rattle.host_timeline.specs.Booking.{firm_from_of}
 use Rattle.host_timeline.specs.Timeline.{without_booking}
@@ -38,10 +39,18 @@ planned_reservation start r = record {
 abbrev pub lapses : ℕ → RunRow → Bool
 lapses m r = is_some (lapse_of m r)
 
--- the reservations without those of the rows that lapse by m
-abbrev pub released : ℕ → List RunRow → List Booking → List Booking
-released m [] bs = bs
-released m (r ∷ rs) bs = released m rs (if lapses m r then without_booking bs r.key else bs)
+abbrev pub lapses_at : ℕ → Option RunRow → Bool
+lapses_at m None = false
+lapses_at m (Some r) = lapses m r
+
+-- the reservations without the one of the key, where its row lapses by m
+abbrev pub without_lapsed : ℕ → List RunRow → RunKey → List Booking → List Booking
+without_lapsed m rows k bs = if lapses_at m (find_row rows k) then without_booking bs k else bs
+
+-- and without those of these keys
+abbrev pub released : ℕ → List RunRow → List RunKey → List Booking → List Booking
+released m rows [] bs = bs
+released m rows (k ∷ ks) bs = released m rows ks (without_lapsed m rows k bs)
 
 -- the row, closed at m in favour of the run that has the key, where it clashes with it
 abbrev pub freed_row : ℕ → RunKey → Class → Span → RunRow → RunRow

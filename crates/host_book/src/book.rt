@@ -15,10 +15,11 @@ ghost use Rattle.host_model.specs.declared.change.Change.TheVariants.{AcceptHear
 ghost use Rattle.run_states.specs.LawfulRow.{BringsResults};
 ghost use Rattle.live_rows.specs.Still.{live_keys, StillStay};
 ghost use Rattle.host_book.specs.Host.{noted};
+ghost use Rattle.row_ledger.specs.Deadlines.{due_keys, IsAscendingDeadlines, Waits};
 ghost use Rattle.row_ledger.specs.Ledger.{fact_bytes, most_counted, IsNoPlan};
 ghost use Rattle.host_model.specs.NewRow.{all_unheard};
 ghost use Rattle.host_book.specs.Ready.{AllFit, all_brought, brought_bytes, changes_of, is_heard, is_merged, most_archives, IsBare, IsReady};
-ghost use Rattle.host_book.specs.Reservations.{released};
+ghost use Rattle.host_book.specs.Reservations.{lapses_at, released, without_lapsed};
 
 use crate::merging::states_due;
 use crate::new_row::{accepted_row, asked_row, planned_reservation, reservation_of};
@@ -37,6 +38,7 @@ use ps_time::key::RunKey;
 use ps_time::memory::Memory;
 use ps_time::moment::Moment;
 use ps_time::text::Text;
+use row_ledger::deadlines::Deadlines;
 use row_ledger::ledger::Ledger;
 use run_states::answer::{Answer, FreeAnswer, Other, Told};
 use run_states::fact::Fact;
@@ -192,6 +194,16 @@ impl HostBook {
         }
     }
 
+    /// From when on which row lapses, unless it changes before: a row that lapses by a moment has its key among those whose
+    /// deadline has come by then.
+    pub fn deadlines(&self) -> &Deadlines
+        ensures ascending { IsAscendingDeadlines result.now.list }
+        ensures waits { All (Waits result.now.list) self.now.book.rows }
+    {
+        let _ = self.number;
+        self.ledger.deadlines()
+    }
+
     /// Whether a row may lapse by the moment, in seconds since 1970 UTC; where none does, the rows settle as they are.
     pub fn may_lapse(&self, moment: Moment) -> bool
         ensures { IsFalse result → settled_rows moment self.now.book.rows ≡ self.now.book.rows }
@@ -243,7 +255,12 @@ impl HostBook {
             self.moment = moment;
             return;
         }
-        release_lapsed(&mut self.timeline, self.ledger.rows().list(), moment);
+        release_lapsed(
+            &mut self.timeline,
+            self.ledger.deadlines(),
+            self.ledger.rows(),
+            moment,
+        );
         self.ledger.settle(moment);
         self.moment = moment;
     }
@@ -678,15 +695,36 @@ fn close_one(task: &mut TaskRow, serial: u32, moment: Moment)
     }
 }
 
-// Takes the reservations of the rows out that lapse by the moment.
-fn release_lapsed(timeline: &mut Timeline, rows: &[RunRow], moment: Moment)
-    requires { All HasMoments rows.now }
-    ensures list { timeline.new.list ≡ released moment rows.now timeline.old.list }
+// Takes the reservations of the rows out that lapse by the moment, which are among those whose deadline has come.
+fn release_lapsed(timeline: &mut Timeline, deadlines: &Deadlines, rows: &Rows, moment: Moment)
+    requires { All HasMoments rows.now.list }
+    ensures list { timeline.new.list ≡ released moment rows.now.list (due_keys moment deadlines.now.list) timeline.old.list }
     ensures room { timeline.old.room ≤ timeline.new.room }
 {
-    for row in rows {
-        if row.lapse(moment).is_some() {
-            timeline.release(row.key);
-        }
+    for place in 0..deadlines.len() {
+        let Some(key) = deadlines.due(place, moment) else {
+            return;
+        };
+        release_if_lapsed(timeline, rows, key, moment);
+    }
+}
+
+fn release_if_lapsed(timeline: &mut Timeline, rows: &Rows, key: RunKey, moment: Moment)
+    requires { All HasMoments rows.now.list }
+    ensures list { timeline.new.list ≡ without_lapsed moment rows.now.list key timeline.old.list }
+    ensures room { timeline.old.room ≤ timeline.new.room }
+{
+    if has_lapsed(rows, key, moment) {
+        timeline.release(key);
+    }
+}
+
+fn has_lapsed(rows: &Rows, key: RunKey, moment: Moment) -> bool
+    requires { All HasMoments rows.now.list }
+    ensures { result ≡ lapses_at moment (find_row rows.now.list key) }
+{
+    match rows.find(key) {
+        Some(row) => row.lapse(moment).is_some(),
+        None => false,
     }
 }
