@@ -1,9 +1,9 @@
 pub mod CountLemmas
 pub mod DraftLemmas
+pub mod DueLemmas
 pub mod FreeLemmas
 pub mod HostingLemmas
 pub mod KindLemmas
-pub mod LiveLemmas
 pub mod MakeLemmas
 pub mod OverLemmas
 pub mod PickLemmas

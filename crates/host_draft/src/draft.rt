@@ -1,7 +1,6 @@
 //! The draft of a step: a host's book as it is within the step, and the changes that the step has made so far.
 ghost use Rattle.std.specs.Prelude.{◌≡◌, ◌≤◌, [], IfOk};
 ghost use Rattle.ps_time.specs.declared.moment.TheConstants.{MAX_MOMENT};
-ghost use Rattle.limit_apply.specs.Limits.{Config as LimitsSeen};
 ghost use Rattle.ps_time.specs.declared.key.RunKey.{RunKey};
 ghost use Rattle.run_states.specs.Life.{settled_rows};
 ghost use Rattle.run_states.specs.Rows.{find_row};
@@ -64,8 +63,8 @@ impl<'a> Model for Draft<'a> {
 
 impl<'a> Draft<'a> {
     /// Of the book as it settles at the moment, in seconds since 1970 UTC, without changes; `first` are the limits of
-    /// the configuration, which hold where none were set. Where a row may lapse by then it looks at the live rows alone, and
-    /// copies those of them that do; else at none.
+    /// the configuration, which hold where none were set. Of the rows it looks at those alone whose deadline has come by then,
+    /// and copies the ones that lapse.
     pub fn new(
         alloc: Global,
         book: &'a HostBook,
@@ -140,5 +139,5 @@ fn lapsed_rows(alloc: Global, book: &HostBook, moment: Moment) -> Result<Rows, M
     if !book.may_lapse(moment) {
         return Ok(Rows::new(alloc));
     }
-    lapsed(alloc, book.live(), book.rows(), moment)
+    lapsed(alloc, book.deadlines(), book.rows(), moment)
 }

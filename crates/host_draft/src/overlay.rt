@@ -3,24 +3,23 @@ ghost use Rattle.std.specs.Prelude.{◌≡◌, ◌≤◌, [], All, IfOk, OnErr, 
 ghost use Rattle.std.specs.List.{last_or};
 ghost use Rattle.std.specs.Option.{option_copied};
 ghost use Rattle.std.specs.Ordering.{is_eq};
-ghost use Rattle.ps_time.specs.Key.{key_cmp};
 ghost use Rattle.ps_time.specs.declared.moment.TheConstants.{MAX_MOMENT};
 ghost use Rattle.run_states.specs.Life.{HasMoments, settled_row};
 ghost use Rattle.run_states.specs.Preemption.{starts_after, yields};
-ghost use Rattle.run_states.specs.Rows.{find_row, IsAscendingRows};
+ghost use Rattle.run_states.specs.Rows.{find_row};
 ghost use Rattle.host_model.specs.Apply.{put_new};
 ghost use Rattle.host_timeline.specs.Booking.{conflicting_after, is_after, keys_of, lesser_of};
-ghost use Rattle.row_ledger.specs.Ledger.{is_live_at};
+ghost use Rattle.row_ledger.specs.Deadlines.{due_keys};
 ghost use Rattle.host_draft.specs.Overlay.{hard_below, below, hides, is_hard, lapsed_copy, lapsed_over, later, meets, meets_below, named, over};
 
 use host_timeline::timeline::Timeline;
-use live_rows::still::is_still;
 use ps_time::class::Class;
 use ps_time::interval::Interval;
 use ps_time::items::Items;
 use ps_time::key::RunKey;
 use ps_time::memory::Memory;
 use ps_time::moment::{Moment, ON_DECK};
+use row_ledger::deadlines::Deadlines;
 use run_states::row::RunRow;
 use run_states::rows::Rows;
 use std::alloc::Global;
@@ -36,19 +35,22 @@ pub(crate) struct Sought {
     pub(crate) priority: Option<i16>,
 }
 
-/// Copies of those of the book's rows of these keys that lapse by the moment, closed.
+/// Copies of those of the book's rows that lapse by the moment, closed, where these are the deadlines of all.
 pub(crate) fn lapsed(
     alloc: Global,
-    keys: &[RunKey],
+    deadlines: &Deadlines,
     book: &Rows,
     moment: Moment,
 ) -> Result<Rows, Memory>
     requires { All HasMoments book.now.list }
-    ensures { IfOk result (λ made. made.list ≡ lapsed_over moment book.now.list keys.now []) }
+    ensures { IfOk result (λ made. made.list ≡ lapsed_over moment book.now.list (due_keys moment deadlines.now.list) []) }
 {
     let mut made = Rows::new(alloc);
-    for key in keys {
-        put_lapsed(alloc, &mut made, book, *key, moment)?;
+    for place in 0..deadlines.len() {
+        let Some(key) = deadlines.due(place, moment) else {
+            return Ok(made);
+        };
+        put_lapsed(alloc, &mut made, book, key, moment)?;
     }
     Ok(made)
 }
