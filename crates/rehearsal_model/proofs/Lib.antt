@@ -1,6 +1,7 @@
 pub mod AskLemmas
 pub mod FirstLemmas
 pub mod HostLemmas
+pub mod KnownLemmas
 pub mod LineLemmas
 pub mod ListLemmas
 pub mod MoveLemmas

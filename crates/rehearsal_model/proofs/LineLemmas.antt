@@ -1,4 +1,4 @@
--- A line leads on: what is seen after it, and that its world is one that a rehearsal comes to.
+-- A move and a line lead on: what is seen after it, and that its world is one that a rehearsal comes to.
 use Rattle.std.specs.Prelude.{All, IsTrue, filter, max, nat_le, set}
 use Rattle.std.proofs.Common.{◌≡◌, ◌≤◌, ◌<◌, ◌+◌, ◌-◌, ◌&&◌, ◌==◌, inl, inr, ℕ, true, not, List, [], ◌∷◌, ◌++◌, length, map, get_or, reverse, Option, Some, None, refl, sym, ap, ◌∙◌, subst, arith}
 use Rattle.std.proofs.lemmas.Bool.{and_from, and_parts, cases_eq}
@@ -48,7 +48,7 @@ numbers_all : (P : ℕ → Type 0) (n : ℕ) (ls : List Letter) → ((k : ℕ) �
 numbers_all P n [] each = All-nil P
 numbers_all P n (l ∷ ls) each = All-cons P n (numbers_from (n + 1) ls) (each n (omega arith) (omega arith)) (numbers_all P (n + 1) ls (λ k low high. each k (omega (arith, low)) (omega (arith, high))))
 
-is_within : (n count more : ℕ) → count ≤ more → IsTrue (nat_le 1 n && nat_le n count) → IsTrue (nat_le 1 n && nat_le n more)
+pub is_within : (n count more : ℕ) → count ≤ more → IsTrue (nat_le 1 n && nat_le n count) → IsTrue (nat_le 1 n && nat_le n more)
 is_within n count more le e =
     let parts = and_parts (nat_le 1 n) (nat_le n count) e in
     let first : nat_le n count ≡ true = parts.1 in
@@ -75,10 +75,10 @@ module _ (hosts : List ScriptHost) (lawful : AreLawfulHosts hosts) (s : Show) (r
   letters_seen move is =
       ap reverse (letters_moved hosts lawful s reach move is) ∙ reverse-append (reverse (joining hosts b move)) s.world.letters ∙ ap (λ xs. reverse s.world.letters ++ xs) (reverse-reverse (joining hosts b move))
 
-  seen_moved : (l : ScriptLine) (move : Move) → IsMove hosts move → seen hosts (moved hosts s l move) ≡ moved_seen hosts b l move
-  seen_moved l move is =
-      ap (λ x. seen_with x (reverse (world_after move).letters) (flying_after hosts b move) (max s.last (moment_of_line l))) (stages_moved hosts lawful s reach move is)
-      ∙ ap (λ x. seen_with (stages_after hosts b move) x (flying_after hosts b move) (max s.last (moment_of_line l))) (letters_seen move is)
+  pub seen_moved : (m : ℕ) (move : Move) → IsMove hosts move → seen hosts (moved hosts s m move) ≡ moved_seen hosts b m move
+  seen_moved m move is =
+      ap (λ x. seen_with x (reverse (world_after move).letters) (flying_after hosts b move) (max s.last m)) (stages_moved hosts lawful s reach move is)
+      ∙ ap (λ x. seen_with (stages_after hosts b move) x (flying_after hosts b move) (max s.last m)) (letters_seen move is)
 
   -- ---- configurations
   long : length b.stages ≡ length hosts
@@ -98,6 +98,7 @@ module _ (hosts : List ScriptHost) (lawful : AreLawfulHosts hosts) (s : Show) (r
   configs_moved (Move.Turns place clock) = configs_at place (acted (stage_at b place) clock input.Turn) refl
   configs_moved (Move.Retools place tools) =
       set_configs hosts b.stages long reach.configs place (record { config = retooled tools (config_at b place); book = (stage_at b place).book }) (λ h at. (tools, ap (retooled tools) (reach.configs place h at).1))
+  configs_moved (Move.Reopens place clock) = configs_at place (acted (stage_at b place) clock input.Open) refl
   configs_moved (Move.Arrives n clock) = configs_arrived clock (message b n)
   configs_moved (Move.Lost n) = reach.configs
 
@@ -132,6 +133,7 @@ module _ (hosts : List ScriptHost) (lawful : AreLawfulHosts hosts) (s : Show) (r
   joined_known (Move.Tries place clock i) is = All-nil Known
   joined_known (Move.Turns place clock) is = sent_known place is.0 clock
   joined_known (Move.Retools place tools) is = All-nil Known
+  joined_known (Move.Reopens place clock) is = All-nil Known
   joined_known (Move.Arrives n clock) is = replies_known clock (message b n) (λ l e. known hosts lawful s reach (n - 1) l (sym (aged_is s.world.letters (n - 1)) ∙ e))
   joined_known (Move.Lost n) is = All-nil Known
 
@@ -150,22 +152,23 @@ module _ (hosts : List ScriptHost) (lawful : AreLawfulHosts hosts) (s : Show) (r
   flying_all P all (Move.Tries place clock i) = all
   flying_all P all (Move.Turns place clock) = all
   flying_all P all (Move.Retools place tools) = all
+  flying_all P all (Move.Reopens place clock) = all
   flying_all P all (Move.Arrives n clock) = All-filter (λ f. not (f == n)) P s.flying all
   flying_all P all (Move.Lost n) = All-filter (λ f. not (f == n)) P s.flying all
 
-  flying_moved : (l : ScriptLine) (move : Move) → IsMove hosts move → All (λ n. IsTrue (is_sent (seen hosts (moved hosts s l move)) n)) (flying_after hosts b move)
-  flying_moved l move is =
+  flying_moved : (m : ℕ) (move : Move) → IsMove hosts move → All (λ n. IsTrue (is_sent (seen hosts (moved hosts s m move)) n)) (flying_after hosts b move)
+  flying_moved m move is =
       let js : List Letter = joining hosts b move in
       let count : ℕ = length b.letters in
       let more : ℕ = length (reverse (world_after move).letters) in
       let sum : more ≡ count + length js = counted move is in
-      All-append (λ n. IsTrue (is_sent (seen hosts (moved hosts s l move)) n)) (still_flying b move) (numbers_from (count + 1) js)
+      All-append (λ n. IsTrue (is_sent (seen hosts (moved hosts s m move)) n)) (still_flying b move) (numbers_from (count + 1) js)
       (All-weaker (λ n. IsTrue (is_sent b n)) (λ n. IsTrue (nat_le 1 n && nat_le n more)) (λ n sent. is_within n count more (omega (arith, sum)) sent) (still_flying b move) (flying_all (λ n. IsTrue (is_sent b n)) reach.flying move))
       (numbers_all (λ n. IsTrue (nat_le 1 n && nat_le n more)) (count + 1) js (λ k low high. is_new k count more low (omega (arith, sum, high))))
 
   -- ---- it leads on
-  reaches_moved : (l : ScriptLine) (move : Move) → IsMove hosts move → MayMove b move → moment_of_line l ≤ greatest_moment → Reaches hosts (moved hosts s l move)
-  reaches_moved l move is may low =
+  pub reaches_moved : (m : ℕ) (move : Move) → IsMove hosts move → MayMove b move → m ≤ greatest_moment → Reaches hosts (moved hosts s m move)
+  reaches_moved m move is may low =
       let first : World = start (name_numbered hosts) (config_numbered hosts) in
       let events : List Event = events_of hosts s move in
       let last : s.last ≤ greatest_moment = reach.last in
@@ -176,13 +179,13 @@ module _ (hosts : List ScriptHost) (lawful : AreLawfulHosts hosts) (s : Show) (r
         configs = subst (ConfigsOf hosts) (sym (stages_moved hosts lawful s reach move is)) (configs_moved move);
         askers = letters_all (λ l. IsHost hosts l.asker) (λ l ok. ok.0) reach.askers move is;
         asked = letters_all (λ l. IsHost hosts l.asked) (λ l ok. ok.1) reach.asked move is;
-        flying = flying_moved l move is;
+        flying = flying_moved m move is;
         last = omega (arith, last, low);
       }
 
   -- ---- a line
   pub line_seen : (l : ScriptLine) → IsLawfulLine (length hosts) l → seen hosts (after hosts s l) ≡ seen_after hosts (seen hosts s) l
-  line_seen l is = seen_moved l (move_of b l) (move_is hosts b reach.last l is)
+  line_seen l is = seen_moved (moment_of_line l) (move_of b l) (move_is hosts b reach.last l is)
 
   pub line_reaches : (l : ScriptLine) → IsLawfulLine (length hosts) l → MayMove (seen hosts s) (move_of (seen hosts s) l) → Reaches hosts (after hosts s l)
-  line_reaches l is may = reaches_moved l (move_of b l) (move_is hosts b reach.last l is) may (moment_within (length hosts) l is)
+  line_reaches l is may = reaches_moved (moment_of_line l) (move_of b l) (move_is hosts b reach.last l is) may (moment_within (length hosts) l is)

@@ -13,8 +13,10 @@ use Rattle.host_model.specs.declared.input.Input.{Input}
 use Rattle.host_model.specs.declared.input.Input.TheVariants as input
 use Rattle.host_model.specs.declared.lead.Due.{Due}
 use Rattle.host_model.specs.declared.reply.Reply.{Reply}
-use Rattle.psched_world.specs.Events.{MayRun, Right, answered, arrived, brings, delivered, goes_to, idle_stage, is_client, is_inner, reply_now, run, stepped}
-use Rattle.psched_world.specs.World.{Letter, Stage, World, aged, stages, start}
+use Rattle.host_model.proofs.StepFollows.{step_follows}
+use Rattle.psched_world.specs.Events.{MayRun, Right, answered, arrived, brings, delivered, goes_to, idle_stage, is_client, is_inner, reply_now, run, step_stage, stepped}
+use Rattle.psched_world.specs.World.{Letter, Stage, World, aged, push, stages, start}
+use Rattle.psched_world.proofs.Lawfulness.{right_now}
 use Rattle.psched_world.proofs.Stages.{aged_last}
 use Rattle.psched_world.proofs.Worlds.{stages_same}
 use Rattle.psched_script.specs.Lawful.{AreLawfulHosts, IsLawfulLine}
@@ -30,6 +32,7 @@ use Rattle.rehearsal_model.specs.Requests.{delete, get, post}
 use Rattle.rehearsal_model.specs.Seen.{Seen, acted, config_at, has_arrived, is_flying, reply_at, stage_at}
 use Rattle.rehearsal_model.proofs.AskLemmas.{asked_by_client}
 use Rattle.rehearsal_model.proofs.HostLemmas.{differ, host_at, number_is, right_with, stands}
+use Rattle.rehearsal_model.proofs.KnownLemmas.{known_inv}
 use Rattle.rehearsal_model.proofs.ListLemmas.{aged_is, all_aged}
 use Rattle.rehearsal_model.proofs.SeenLemmas.{present, pushed_at, stage_numbered, step_seen}
 use Rattle.rehearsal_model.proofs.TurnLemmas.{tells_may, turn_told, with_letters}
@@ -43,6 +46,7 @@ IsMove hosts (Move.Asks place clock i) = (place < length hosts) × (clock ≤ gr
 IsMove hosts (Move.Tries place clock i) = (place < length hosts) × (clock ≤ greatest_moment) × (is_inner i ≡ true)
 IsMove hosts (Move.Turns place clock) = (place < length hosts) × (clock ≤ greatest_moment)
 IsMove hosts (Move.Retools place tools) = (place < length hosts) × (list_all is_tool tools ≡ true) × (all_differ tools ≡ true)
+IsMove hosts (Move.Reopens place clock) = (place < length hosts) × (clock ≤ greatest_moment)
 IsMove hosts (Move.Arrives n clock) = clock ≤ greatest_moment
 IsMove hosts (Move.Lost n) = Unit {0}
 
@@ -164,6 +168,13 @@ module _ (hosts : List ScriptHost) (lawful : AreLawfulHosts hosts) (s : Show) (r
         let first : retooled tools (config_at b place) ≡ retooled tools (first_config hosts h) = ap (retooled tools) (reach.configs place h (host_at hosts place within).1).1 in
         subst (λ ns. Right ns n (retooled tools (config_at b place))) (sym names) (subst (λ k. Right (name_numbered hosts) k (retooled tools (config_at b place))) number (subst (λ c. Right (name_numbered hosts) h.number c) (sym first) (right_with hosts lawful place h (host_at hosts place within).1 tools known different)))
 
+    -- ---- opened again, under the same configuration
+    reopened_stages : (clock : ℕ) → present hosts (push w n (step_stage w n clock (config_at b place) input.Open)) ≡ stepped_at b place clock input.Open
+    reopened_stages clock = ap (λ x. present hosts (push w n (step_stage w n clock x.config input.Open))) stage_here ∙ step_here clock input.Open
+
+    config_right : Right w.names n (config_at b place)
+    config_right = subst (λ x. Right w.names n x.config) (sym stage_here) (right_now step_follows w (known_inv hosts lawful s reach).orderly n)
+
   -- ---- a message that arrives
   module _ (clock : ℕ) (l : Letter) where
     arrived_stages : (r : Option Reply) → IsHost hosts (goes_to l r) → present hosts (arrived w clock l r) ≡ stepped_at b (place_numbered hosts (goes_to l r)) clock (brings l r)
@@ -194,6 +205,7 @@ module _ (hosts : List ScriptHost) (lawful : AreLawfulHosts hosts) (s : Show) (r
   stages_moved (Move.Tries place clock i) is = tried_stages place is.0 clock i is.2
   stages_moved (Move.Turns place clock) is = ap (present hosts) (turned place is.0 clock) ∙ step_here place is.0 clock input.Turn
   stages_moved (Move.Retools place tools) is = retooled_stages place is.0 tools
+  stages_moved (Move.Reopens place clock) is = reopened_stages place is.0 clock
   stages_moved (Move.Arrives n clock) is = delivered_stages clock (aged w.letters (n - 1)) (known (n - 1)) ∙ ap (arrived_at hosts b clock) (sym (aged_is w.letters (n - 1)))
   stages_moved (Move.Lost n) is = refl
 
@@ -203,6 +215,7 @@ module _ (hosts : List ScriptHost) (lawful : AreLawfulHosts hosts) (s : Show) (r
   letters_moved (Move.Tries place clock i) is = tried_letters place is.0 clock i is.2
   letters_moved (Move.Turns place clock) is = ap (λ v. v.letters) (turned place is.0 clock)
   letters_moved (Move.Retools place tools) is = refl
+  letters_moved (Move.Reopens place clock) is = refl
   letters_moved (Move.Arrives n clock) is = delivered_letters clock (aged w.letters (n - 1)) (known (n - 1)) ∙ ap (λ o. reverse (replies hosts b clock o) ++ w.letters) (sym (aged_is w.letters (n - 1)))
   letters_moved (Move.Lost n) is = refl
 
@@ -214,5 +227,6 @@ module _ (hosts : List ScriptHost) (lawful : AreLawfulHosts hosts) (s : Show) (r
   may_moved (Move.Turns place clock) is may =
       ((is.1, tt), tells_may b (number_at hosts place) (suc (length (w.hosts (number_at hosts place)).before)) clock is.1 (orders (acted (stage_at b place) clock input.Turn).book clock) 0 (stepped w (number_at hosts place) clock input.Turn))
   may_moved (Move.Retools place tools) is may = (retooled_right place is.0 tools is.1 is.2, tt)
+  may_moved (Move.Reopens place clock) is may = ((is.1, config_right place is.0), tt)
   may_moved (Move.Arrives n clock) is may = (is, tt)
   may_moved (Move.Lost n) is may = (tt, tt)

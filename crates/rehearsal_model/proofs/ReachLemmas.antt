@@ -8,7 +8,6 @@ use Rattle.psched_world.specs.Laws.{Safe}
 use Rattle.psched_world.specs.World.{Letter, Stage, aged}
 use Rattle.psched_world.proofs.Agreeing.{safe_law}
 use Rattle.psched_world.proofs.Invariant.{Inv, LetterOk}
-use Rattle.psched_world.proofs.Keeping.{always_inv}
 use Rattle.psched_world.proofs.Lawfulness.{right_now}
 use Rattle.psched_world.proofs.Letters.{order_in}
 use Rattle.psched_script.specs.Lawful.{AreLawfulHosts}
@@ -19,6 +18,7 @@ use Rattle.rehearsal_model.specs.Reaching.{IsHost, Reaches}
 use Rattle.rehearsal_model.specs.Rehearsal.{Show, seen}
 use Rattle.rehearsal_model.specs.Seen.{Seen, config_at, message}
 use Rattle.rehearsal_model.proofs.HostLemmas.{differ, first_right, host_at, stands}
+use Rattle.rehearsal_model.proofs.KnownLemmas.{known_inv}
 use Rattle.rehearsal_model.proofs.ListLemmas.{aged_is}
 use Rattle.rehearsal_model.proofs.MoveLemmas.{goes_known, known}
 use Rattle.rehearsal_model.proofs.SeenLemmas.{stage_is, stage_numbered}
@@ -28,7 +28,7 @@ module _ (hosts : List ScriptHost) (lawful : AreLawfulHosts hosts) (s : Show) (r
   b = seen hosts s
 
   inv : Inv s.world
-  inv = subst Inv (sym reach.world) (always_inv step_follows (name_numbered hosts) (config_numbered hosts) (first_right hosts lawful) reach.events reach.may)
+  inv = known_inv hosts lawful s reach
 
   pub config_is : (place : ℕ) → place < length hosts → IsConfig (config_at b place)
   config_is place within =

@@ -1,4 +1,4 @@
--- What is seen after a line, over what was seen before it.
+-- What is seen after a move or a line, over what was seen before it.
 use Rattle.std.specs.Prelude.{◌++◌, List, [], None, Option, Some, map, max, set, ℕ}
 use Rattle.host_model.specs.Book.{empty_book}
 use Rattle.host_model.specs.declared.input.Input.{Input}
@@ -33,16 +33,18 @@ stages_after hosts b (Move.Asks place clock i) = stepped_at b place clock i
 stages_after hosts b (Move.Tries place clock i) = stepped_at b place clock i
 stages_after hosts b (Move.Turns place clock) = stepped_at b place clock input.Turn
 stages_after hosts b (Move.Retools place tools) = set b.stages place (record { config = retooled tools (config_at b place); book = book_at b place })
+stages_after hosts b (Move.Reopens place clock) = stepped_at b place clock input.Open
 stages_after hosts b (Move.Arrives n clock) = arrived_at hosts b clock (message b n)
 stages_after hosts b (Move.Lost n) = b.stages
 
-abbrev pub moved_seen : List ScriptHost → Seen → ScriptLine → Move → Seen
-moved_seen hosts b l move = record {
+-- a move at a moment
+abbrev pub moved_seen : List ScriptHost → Seen → ℕ → Move → Seen
+moved_seen hosts b m move = record {
   stages = stages_after hosts b move;
   letters = b.letters ++ joining hosts b move;
   flying = flying_after hosts b move;
-  last = max b.last (moment_of_line l);
+  last = max b.last m;
 }
 
 abbrev pub seen_after : List ScriptHost → Seen → ScriptLine → Seen
-seen_after hosts b l = moved_seen hosts b l (move_of b l)
+seen_after hosts b l = moved_seen hosts b (moment_of_line l) (move_of b l)

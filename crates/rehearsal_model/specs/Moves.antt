@@ -38,6 +38,8 @@ pub data Move : Type 0 where
   Turns : (place clock : ℕ) → Move
   -- a host gets other tools
   Retools : (place : ℕ) (tools : List (List ℕ)) → Move
+  -- a host is opened again under its configuration, as after a crash
+  Reopens : (place clock : ℕ) → Move
   Arrives : (number clock : ℕ) → Move
   Lost : (number : ℕ) → Move
 

@@ -31,7 +31,7 @@ pub record Show : Type 0 where
   pub world : World
   -- the numbers of the messages in flight, ascending
   pub flying : List ℕ
-  -- the greatest moment of the lines so far; 0 at first
+  -- the greatest moment of the moves so far; 0 at first
   pub last : ℕ
 
 -- what a script sees of it
@@ -76,15 +76,17 @@ events_of hosts s (Move.Asks place clock i) = Event.Client (number_at hosts plac
 events_of hosts s (Move.Tries place clock i) = Event.Inner (number_at hosts place) clock i ∷ []
 events_of hosts s (Move.Turns place clock) = turn_events s (seen hosts s) (number_at hosts place) place clock
 events_of hosts s (Move.Retools place tools) = Event.Reconfigure (number_at hosts place) (retooled tools (config_at (seen hosts s) place)) ∷ []
+events_of hosts s (Move.Reopens place clock) = Event.Reopen (number_at hosts place) clock (config_at (seen hosts s) place) ∷ []
 events_of hosts s (Move.Arrives n clock) = Event.Deliver (n - 1) clock ∷ []
 events_of hosts s (Move.Lost n) = Event.Lose (n - 1) ∷ []
 
--- ---- lines
-abbrev pub moved : List ScriptHost → Show → ScriptLine → Move → Show
-moved hosts s l move = record { world = run (events_of hosts s move) s.world; flying = flying_after hosts (seen hosts s) move; last = max s.last (moment_of_line l) }
+-- a move at a moment
+abbrev pub moved : List ScriptHost → Show → ℕ → Move → Show
+moved hosts s m move = record { world = run (events_of hosts s move) s.world; flying = flying_after hosts (seen hosts s) move; last = max s.last m }
 
+-- ---- lines
 abbrev pub after : List ScriptHost → Show → ScriptLine → Show
-after hosts s l = moved hosts s l (move_of (seen hosts s) l)
+after hosts s l = moved hosts s (moment_of_line l) (move_of (seen hosts s) l)
 
 abbrev pub after_all : List ScriptHost → Show → List Numbered → Show
 after_all hosts s [] = s

@@ -16,7 +16,7 @@ pub record Seen : Type 0 where
   pub letters : List Letter
   -- the numbers of those in flight, ascending
   pub flying : List ℕ
-  -- the greatest moment of the lines so far; 0 at first
+  -- the greatest moment of the moves so far; 0 at first
   pub last : ℕ
 
 -- a place without a host is read as one that never acts

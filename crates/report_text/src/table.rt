@@ -100,8 +100,8 @@ impl fmt::Display for Entry {
     }
 }
 
-// The state of the row once it is settled at the moment.
-fn settled_state(row: &RunRow, moment: Moment) -> State
+/// The state of the row once it is settled at the moment.
+pub fn settled_state(row: &RunRow, moment: Moment) -> State
     requires moment { moment ≤ MAX_MOMENT }
     requires row { HasMoments row.now }
     ensures { result ≡ state_of (settled_row moment row.now) moment }
