@@ -2,6 +2,7 @@
 ghost use Rattle.std.specs.List.{list_any};
 ghost use Rattle.std.specs.Prelude.{◌∷◌, ◌==◌, ◌≡◌, ◌<◌, [], IfOk, OnOk, Some, length, max, true};
 ghost use Rattle.host_model.specs.Conditions.{IsInput};
+ghost use Rattle.host_model.specs.declared.input.Input.TheVariants.{Open};
 ghost use Rattle.rehearsal_model.specs.Seen.{config_at, has_arrived, is_flying, is_sent, landed, message, reply_at, stage_at};
 ghost use Rattle.rehearsal_state.specs.Moved.{with_letters, with_step, with_tools};
 ghost use Rattle.rehearsal_state.specs.Ready.{IsReady};
@@ -24,7 +25,7 @@ pub struct Rehearsal {
     messages: Vec<Message>,
     // the numbers of those in flight, ascending
     flying: Vec<u64>,
-    // the greatest moment of the lines so far
+    // the greatest moment of the moves so far
     last: Moment,
 }
 
@@ -49,7 +50,7 @@ impl Drop for Rehearsal {
 }
 
 impl Rehearsal {
-    /// These hosts, before the first line.
+    /// These hosts, before the first move.
     pub fn new(alloc: Global, seats: Vec<Seat>) -> Rehearsal
         ensures { result ≡ record { stages = seats.items; letters = []; flying = []; last = 0 } }
     {
@@ -79,14 +80,14 @@ impl Rehearsal {
         self.flying.as_slice()
     }
 
-    /// The greatest moment of the lines so far, in seconds since 1970 UTC; 0 at first.
+    /// The greatest moment of the moves so far, in seconds since 1970 UTC; 0 at first.
     pub fn last(&self) -> Moment
         ensures { result ≡ self.now.last }
     {
         self.last
     }
 
-    /// A line of this moment has been run.
+    /// A move of this moment has been made.
     pub fn advance(&mut self, moment: Moment)
         ensures { self.new ≡ record self.old { last = max self.old.last moment } }
     {
@@ -116,6 +117,17 @@ impl Rehearsal {
     {
         let seat = &mut self.seats[place];
         seat.act(alloc, clock, input)
+    }
+
+    /// Opens the host at a place again, at a clock in seconds since 1970 UTC, as after a crash. It has its book, and ends what it
+    /// was running.
+    pub fn reopen(&mut self, alloc: Global, place: usize, clock: Moment) -> Result<(), Memory>
+        requires { IsReady self.old place clock }
+        ensures { OnOk result (self.new ≡ with_step self.old place clock Open) }
+    {
+        let reply = self.ask(alloc, place, clock, Input::Open)?;
+        drop(reply);
+        Ok(())
     }
 
     /// Gives the host at a place other tools.
