@@ -1,3 +1,3 @@
 mod ArriveLemmas
 mod LineLemmas
-mod PlayLemmas
+pub mod PlayLemmas

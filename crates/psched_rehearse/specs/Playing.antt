@@ -24,6 +24,12 @@ pub record IsPlaying (hosts : List ScriptHost) (b : Seen) : Type 0 where
   pub flying : (n : ℕ) → is_flying b n ≡ true → is_sent b n ≡ true
   pub last : b.last ≤ greatest_moment
 
+-- a line that speaks of what stands at a path
+abbrev pub is_at_path : ScriptLine → Bool
+is_at_path (line.Get at host path) = true
+is_at_path (line.Delete at host address path) = true
+is_at_path _ = false
+
 -- a line that asks a host something: to book a run, or what a request asks
 abbrev pub is_asked : ScriptLine → Bool
 is_asked (line.Book at host class priority start len) = true

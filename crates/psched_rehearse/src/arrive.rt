@@ -48,6 +48,38 @@ fn bring(
     now.ask(alloc, place, clock, input)
 }
 
+/// An order was replied to: the reply is sent.
+fn send_back(alloc: Global, now: &mut Rehearsal, number: u64, reply: Reply) -> Result<(), Memory>
+    requires { is_sent now.old number ≡ true }
+    ensures { (l : Letter) → message now.old number ≡ Some l → OnOk result (now.new ≡ with_letters now.old (record l { reply = Some reply } ∷ [])) }
+{
+    let letter = now.message(number).answered(alloc, reply)?;
+    now.send(letter)
+}
+
+/// A message that was sent arrives at a clock, in seconds since 1970 UTC: an order is answered, a reply is heard. Nothing is
+/// reported.
+pub fn receive(
+    alloc: Global,
+    hosts: &[ScriptHost],
+    now: &mut Rehearsal,
+    number: u64,
+    clock: Moment,
+) -> Result<(), Memory>
+    requires playing { IsPlaying hosts.now now.old }
+    requires sent { is_sent now.old number ≡ true }
+    requires clock { clock ≤ MAX_MOMENT }
+    ensures { OnOk result (now.new ≡ with_move hosts.now now.old (Arrives number clock)) }
+{
+    let is_order = now.message(number).reply.is_none();
+    let reply = bring(alloc, hosts, now, number, clock)?;
+    if is_order {
+        return send_back(alloc, now, number, reply);
+    }
+    drop(reply);
+    Ok(())
+}
+
 /// An order was replied to: the reply is sent, and both are reported.
 fn send_reply(
     alloc: Global,

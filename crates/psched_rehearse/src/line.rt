@@ -9,7 +9,7 @@ ghost use Rattle.rehearsal_model.specs.Reaching.{MayMove};
 ghost use Rattle.rehearsal_model.specs.Rehearsal.{told, turn_told};
 ghost use Rattle.rehearsal_state.specs.Moved.{with_move, with_tools};
 ghost use Rattle.rehearsal_state.specs.Ready.{IsReady};
-ghost use Rattle.psched_rehearse.specs.Playing.{AreConfigs, IsPlaying, is_asked};
+ghost use Rattle.psched_rehearse.specs.Playing.{AreConfigs, IsPlaying, is_asked, is_at_path};
 
 use crate::archive::archive;
 use crate::arrive::{deliver, lose, repeat};
@@ -67,6 +67,39 @@ fn take_turn(
     add_letters(report, hosts, now.messages(), before)
 }
 
+// A line that speaks of what stands at a path.
+fn run_at_path(
+    alloc: Global,
+    now: &mut Rehearsal,
+    event: &ScriptLine,
+    line: u64,
+    report: &mut ReportText,
+) -> Result<(), Memory>
+    requires kind { is_at_path event.now ≡ true }
+    requires lawful { IsLawfulLine (length now.old.stages) event.now }
+    requires configs { AreConfigs now.old }
+    ensures report { (hosts : List ScriptHost) → OnOk result (report.new ≡ report.old ++ line_text line (told hosts now.old event.now)) }
+    ensures seen { (hosts : List ScriptHost) → OnOk result (now.new ≡ with_move hosts now.old (move_of now.old event.now)) }
+    ensures may { OnOk result (MayMove now.old (move_of now.old event.now)) }
+{
+    match event {
+        ScriptLine::Get { at, host, path } => {
+            let path = path.as_str();
+            get(alloc, now, *host, *at, path, line, report)
+        }
+        ScriptLine::Delete {
+            at,
+            host,
+            address,
+            path,
+        } => {
+            let (address, path) = (address.as_str(), path.as_str());
+            delete(alloc, now, *host, *at, address, path, line, report)
+        }
+        _ => Ok(()),
+    }
+}
+
 // A line that asks a host something.
 fn run_asked(
     alloc: Global,
@@ -99,41 +132,11 @@ fn run_asked(
             host,
             address,
             body,
-        } => post(
-            alloc,
-            now,
-            *host,
-            *at,
-            address.as_str(),
-            body.as_str(),
-            line,
-            report,
-        ),
-        ScriptLine::Get { at, host, path } => get(
-            alloc,
-            now,
-            *host,
-            *at,
-            path.as_str(),
-            line,
-            report,
-        ),
-        ScriptLine::Delete {
-            at,
-            host,
-            address,
-            path,
-        } => delete(
-            alloc,
-            now,
-            *host,
-            *at,
-            address.as_str(),
-            path.as_str(),
-            line,
-            report,
-        ),
-        _ => Ok(()),
+        } => {
+            let (address, body) = (address.as_str(), body.as_str());
+            post(alloc, now, *host, *at, address, body, line, report)
+        }
+        _ => run_at_path(alloc, now, event, line, report),
     }
 }
 

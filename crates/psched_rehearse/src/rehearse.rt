@@ -20,7 +20,7 @@ use report_text::table::add_table;
 use std::alloc::Global;
 
 /// The hosts of a script, opened at moment 0.
-fn open_hosts(alloc: Global, hosts: &[ScriptHost]) -> Result<Vec<Seat>, Memory>
+pub fn open_hosts(alloc: Global, hosts: &[ScriptHost]) -> Result<Vec<Seat>, Memory>
     requires { AreLawfulHosts hosts.now }
     ensures { IfOk result (λ seats. seats.items ≡ map (opened_stage hosts.now) hosts.now) }
 {
