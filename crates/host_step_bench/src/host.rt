@@ -1,20 +1,15 @@
-//! Host a, whose steps are measured.
-ghost use Rattle.std.specs.Prelude.{◌≡◌, ◌≤◌, ◌∷◌, [], IfOk};
+//! The sample host, whose steps are measured.
+ghost use Rattle.std.specs.Prelude.{◌≡◌, ◌≤◌};
 ghost use Rattle.ps_time.specs.declared.moment.TheConstants.{MAX_MOMENT};
-ghost use Rattle.limit_apply.specs.Read.{IsKept};
-ghost use Rattle.host_model.specs.Conditions.{IsConfig, IsInput};
-ghost use Rattle.host_step_bench.specs.Given.{the_peer, the_tools};
+ghost use Rattle.host_model.specs.Conditions.{IsInput};
 
 use host_book::book::HostBook;
-use host_model::config::{Config, Peer};
+use host_model::config::Config;
 use host_model::input::Input;
 use host_step::act::act;
-use limit_apply::kept::law_one_kept;
-use limit_apply::limits::Limits;
-use ps_time::items::Items;
 use ps_time::memory::Memory;
 use ps_time::moment::Moment;
-use ps_time::text::Text;
+use sample_host::config::config;
 use std::alloc::Global;
 use std::marker::Model;
 
@@ -43,63 +38,10 @@ impl Model for Host {
     ghost invariant = { λ h. IsConfig h.config × (h.book.number ≡ h.config.number) };
 }
 
-fn limits(alloc: Global) -> Result<Limits, Memory>
-    ensures { IfOk result IsKept }
-{
-    let limits = Limits::open(alloc)?;
-    law_one_kept(&limits);
-    Ok(limits)
-}
-
-fn peers(alloc: Global) -> Result<Items<Peer>, Memory>
-    ensures { IfOk result (λ peers. peers ≡ the_peer ∷ []) }
-{
-    let name = Text::new(alloc, "b")?;
-    let mut peers = Items::new(alloc);
-    peers.push(Peer {
-        number: 2,
-        name,
-        authority: no_text(alloc),
-        key: no_text(alloc),
-    })?;
-    Ok(peers)
-}
-
-fn installed(alloc: Global) -> Result<Items<Text>, Memory>
-    ensures { IfOk result (λ names. names ≡ the_tools) }
-{
-    let mut names = Items::new(alloc);
-    names.push(Text::new(alloc, "sleep")?)?;
-    Ok(names)
-}
-
-fn no_text(alloc: Global) -> Text
-    ensures { result ≡ [] }
-{
-    Text::from_string(String::new(alloc))
-}
-
-fn config(alloc: Global, limits: Limits) -> Result<Config, Memory>
-    requires { IsKept limits }
-    ensures { IfOk result IsConfig }
-{
-    let name = Text::new(alloc, "a")?;
-    let peers = peers(alloc)?;
-    let installed = installed(alloc)?;
-    Ok(Config {
-        number: 1,
-        name,
-        authority: no_text(alloc),
-        peers,
-        installed,
-        limits,
-    })
-}
-
 impl Host {
-    /// Host a with the number 1, the peer b with the number 2, the tool `sleep`, and an empty book.
+    /// The sample host with an empty book.
     pub(crate) fn new(alloc: Global) -> Result<Host, Memory> {
-        let config = config(alloc, limits(alloc)?)?;
+        let config = config(alloc)?;
         let book = HostBook::new(alloc, config.number);
         Ok(Host { config, book })
     }

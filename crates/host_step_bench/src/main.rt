@@ -12,10 +12,11 @@ mod host;
 mod steps;
 
 use crate::host::Host;
-use crate::steps::{Filling, a_test, book, clock_after, confirm, fill, later, propose, turn};
+use crate::steps::{Filling, a_test, book, confirm, fill, propose, turn};
 use plugin_core::test_spec::TestSpec;
 use ps_time::memory::Memory;
 use ps_time::moment::Moment;
+use sample_host::booking::{clock_after, later};
 use std::alloc::Global;
 use std::process::ExitCode;
 use std::time::Instant;

@@ -4,7 +4,6 @@ ghost use Rattle.plugin_core.specs.Bounds.{IsTest};
 ghost use Rattle.ps_time.specs.declared.moment.TheConstants.{MAX_MOMENT};
 ghost use Rattle.host_model.specs.Conditions.{IsInput};
 ghost use Rattle.host_model.specs.Propose.{lead_name};
-ghost use Rattle.host_model.specs.declared.config.Config.{Config as Known};
 
 use crate::host::Host;
 use host_inputs::participant::lead_name;
@@ -14,21 +13,13 @@ use plugin_core::read_test::read_test;
 use plugin_core::test_spec::TestSpec;
 use ps_json::tree::read_tree;
 use ps_time::asker::Asker;
-use ps_time::class::Class;
 use ps_time::key::RunKey;
 use ps_time::memory::Memory;
-use ps_time::moment::{MAX_MOMENT, Moment};
+use ps_time::moment::Moment;
 use ps_time::text::Text;
 use run_states::proposal::Proposal;
+use sample_host::booking::{BATCH, a_booking, clock_of, later};
 use std::alloc::Global;
-
-// The clock at first.
-const BEGIN: Moment = 1_000_000;
-
-// How many runs lapse together, as a book is filled, and how long that takes.
-const BATCH: u64 = 1_000;
-
-const BATCH_LENGTH: u64 = 1_100;
 
 /// Whose runs fill a book.
 #[derive(Clone, Copy)]
@@ -37,40 +28,6 @@ pub(crate) enum Filling {
     Own,
     /// Those of its peer, whose keys stand behind its own.
     Peer,
-}
-
-/// A moment so much later, as far as there is one.
-pub(crate) fn later(moment: Moment, seconds: u64) -> Moment
-    ensures { result ≤ MAX_MOMENT }
-{
-    moment.saturating_add(seconds).min(MAX_MOMENT)
-}
-
-/// The clock as so many runs have lapsed.
-pub(crate) fn clock_after(runs: u32) -> Moment
-    ensures { result ≤ MAX_MOMENT }
-{
-    later(BEGIN, (u64::from(runs) / BATCH + 1) * BATCH_LENGTH)
-}
-
-// The clock at which the run of this number is booked, so that those of the batches before have lapsed.
-fn clock_of(number: u32) -> Moment
-    ensures { result ≤ MAX_MOMENT }
-{
-    later(BEGIN, u64::from(number) / BATCH * BATCH_LENGTH)
-}
-
-// A run of ten seconds that conflicts with no other.
-fn a_booking(start: Moment) -> Input
-    requires { start ≤ MAX_MOMENT }
-    ensures { (c : Known) → IsInput c result }
-{
-    Input::Book {
-        class: Class::Background,
-        priority: 0,
-        start,
-        length: 10,
-    }
 }
 
 /// Books a run.

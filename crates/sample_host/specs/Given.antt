@@ -1,4 +1,4 @@
--- The peer and the tool of the host whose steps are measured.
+-- The peer and the tool of the host that programs measure.
 use Rattle.std.specs.Prelude.{◌∷◌, List, [], codes, ℕ}
 use Rattle.host_model.specs.declared.config.Peer.{Peer}
 

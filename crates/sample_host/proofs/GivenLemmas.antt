@@ -1,4 +1,4 @@
--- The configuration of the host whose steps are measured.
+-- The configuration of the host that programs measure.
 use Rattle.std.specs.Prelude.{codes}
 use Rattle.std.proofs.Common.{◌≡◌, ◌∷◌, List, [], ℕ, refl, subst, sym, arith}
 use Rattle.std.proofs.lemmas.List.Elements.{All-cons, All-nil}
@@ -7,7 +7,7 @@ use Rattle.limit_apply.specs.Read.{IsKept}
 use Rattle.host_model.specs.Conditions.{IsConfig, IsPeer}
 use Rattle.host_model.specs.declared.config.Config.{Config}
 use Rattle.host_model.specs.declared.config.Peer.{Peer}
-use Rattle.host_step_bench.specs.Given.{the_peer, the_tools}
+use Rattle.sample_host.specs.Given.{the_peer, the_tools}
 
 abbrev config_with : Limits → List ℕ → List ℕ → List Peer → List (List ℕ) → Config
 config_with l name authority peers tools = record { number = 1; name = name; authority = authority; peers = peers; installed = tools; limits = l }

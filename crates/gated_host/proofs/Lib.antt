@@ -1,0 +1,4 @@
+mod CountLemmas
+mod GrowthLemmas
+mod RoomLemmas
+mod StepLemmas

@@ -1,0 +1,4 @@
+pub mod Gated
+pub mod Comes
+pub mod Laws
+pub mod Applied
