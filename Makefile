@@ -4,7 +4,7 @@
 # make examples                     runs examples/ on build/psched
 # make test                         the gate: every proof and test, then the examples
 # make gate-cost                    the gate, and the processor seconds that each crate takes in it
-# make bench                        times build/psched, the opening of journals, requests, steps of a host, and reports on stored results
+# make bench                        times build/psched, the opening of journals, requests, steps of a host, kept hosts, and reports on stored results
 .PHONY: rehearse validate-limits build examples test gate-cost bench
 
 PROVED := crates/psched_cli/out/psched_cli
@@ -47,5 +47,7 @@ bench: build
 	python3 bench/interface.py crates/api_bench/out/api_bench
 	-cd crates/host_step_bench && rt run -- starts 64 3
 	python3 bench/host.py crates/host_step_bench/out/host_step_bench
+	-cd crates/host_keep_bench && rt run -- book 64 3
+	python3 bench/keep.py crates/host_keep_bench/out/host_keep_bench crates/host_step_bench/out/host_step_bench
 	-cd crates/result_keeper_bench && rt run -- out/store 4
 	python3 bench/keeper.py crates/result_keeper_bench/out/result_keeper_bench
