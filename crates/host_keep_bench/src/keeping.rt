@@ -25,7 +25,7 @@ pub(crate) struct Told {
 }
 
 /// The sample host for which the disks stand.
-pub(crate) fn opened<D: Disk>(alloc: Global, pair: (D, D)) -> Option<Keep<Host, D>>
+pub(crate) fn opened<D: Disk + Drop>(alloc: Global, pair: (D, D)) -> Option<Keep<Host, D>>
     ensures { IfSome result (λ keep. IsConfig keep.machine.standing.config) }
 {
     let Ok(config) = config(alloc) else {
@@ -109,7 +109,11 @@ pub(crate) fn filled(alloc: Global, rows: u32) -> Option<Keep<Host, MemoryDisk>>
 }
 
 /// Books so many runs more.
-pub(crate) fn recorded<D: Disk>(alloc: Global, keep: Keep<Host, D>, count: u32) -> Option<Told>
+pub(crate) fn recorded<D: Disk + Drop>(
+    alloc: Global,
+    keep: Keep<Host, D>,
+    count: u32,
+) -> Option<Told>
     requires { IsConfig keep.machine.standing.config }
 {
     let mut keep = keep;

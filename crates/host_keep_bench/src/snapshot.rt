@@ -13,7 +13,11 @@ use std::alloc::Global;
 const MOST_IMAGE_BYTES: usize = 4_294_967_295;
 
 /// Puts a snapshot of a book with so many rows on the disks.
-pub(crate) fn put_snapshot<D: Disk>(alloc: Global, pair: (D, D), rows: u32) -> Option<Told> {
+pub(crate) fn put_snapshot<D: Disk + Drop>(
+    alloc: Global,
+    pair: (D, D),
+    rows: u32,
+) -> Option<Told> {
     let (first, second) = pair;
     let Ok((mut journal, list)) = Journal::open(alloc, first, second) else {
         return None;
