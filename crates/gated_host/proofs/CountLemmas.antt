@@ -1,8 +1,8 @@
 -- Which calls count as changes.
 use Rattle.std.specs.Prelude.{Bool, ◌==◌, ◌&&◌, ◌||◌, is_some, not}
-use Rattle.std.proofs.Common.{◌≡◌, ◌≤◌, ℕ, ◌+◌, ◌-◌, true, false, List, Option, None, Some, ap, arith, length, option_map, refl, subst, sym, ◌∙◌}
+use Rattle.std.proofs.Common.{◌≡◌, ◌≤◌, ℕ, ◌+◌, ◌-◌, true, false, List, Option, None, Some, ap, arith, length, option_map, refl, ◌∙◌}
 use Rattle.std.proofs.lemmas.Bool.Decides.{nat_tests}
-use Rattle.host_journal.specs.State.{State, SameButRoom}
+use Rattle.host_journal.specs.State.{State}
 use Rattle.machine_keep.specs.Course.{Moves}
 
 -- the records end elsewhere

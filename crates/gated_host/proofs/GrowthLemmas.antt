@@ -1,8 +1,8 @@
 -- A kept host grows by each step, also by one that is found to stand after a fault.
-use Rattle.std.specs.Prelude.{Bool, IfOk, IfSome, IsTrue}
-use Rattle.std.proofs.Common.{◌≡◌, ◌≤◌, ◌⊎◌, ◌∙◌, ℕ, true, false, List, Option, None, Some, Result, Ok, Err, ap, refl, subst, sym}
+use Rattle.std.specs.Prelude.{Bool, IfSome}
+use Rattle.std.proofs.Common.{◌≡◌, ◌⊎◌, ℕ, true, false, List, Option, None, Some, Result, Ok, Err, inl, inr, refl, subst, sym}
 use Rattle.ps_disks.specs.declared.disk.DiskCall.{DiskCall}
-use Rattle.machine_keep.specs.Course.{Answered, Leaves, Unfound, Unkept, Wanting}
+use Rattle.machine_keep.specs.Course.{Leaves, Unfound}
 use Rattle.machine_keep.specs.Kept.{Kept, after_step, caught}
 use Rattle.machine_keep.specs.declared.fault.StepFault.{StepFault}
 use Rattle.machine_keep.specs.declared.fault.StepFault.TheVariants.{Disk, Memory}
@@ -65,13 +65,13 @@ left_grown : (t : Standing) (made : Option HostStep) (image : Option (List ℕ))
 left_grown t made None now unsure left grown = subst (λ (s : Standing). Grown t.book s.book) (sym left.0) (Grown-refl t.book)
 left_grown t made (Some image) now unsure left grown = subst (λ (s : Standing). Grown t.book s.book) (sym left.0) grown
 
+none_stands : (s : Standing) (o : Option HostStep) → o ≡ None → IfSome o (MayStand s)
+none_stands s o none = subst (λ (x : Option HostStep). IfSome x (MayStand s)) (sym none) tt
+
 left_stands : (t : Standing) (made : Option HostStep) (image : Option (List ℕ)) (now : Standing) (unsure : Option HostStep) → Leaves after t made image now unsure → IfSome made (MayStand t) → IfSome unsure (MayStand now)
 left_stands t made None now unsure left stands =
     subst (λ (o : Option HostStep). IfSome o (MayStand now)) (sym left.1) (subst (λ (s : Standing). IfSome made (MayStand s)) (sym left.0) stands)
 left_stands t made (Some image) now unsure left stands = none_stands now unsure left.1
-
-none_stands : (s : Standing) (o : Option HostStep) → o ≡ None → IfSome o (MayStand s)
-none_stands s o none = subst (λ (x : Option HostStep). IfSome x (MayStand s)) (sym none) tt
 
 -- ---- a call of a keep
 module _ {D : Type 0} (premise : Type 0) (seen : D → List ℕ) (told : D → Option (List DiskCall)) (may_leave : D → List ℕ → Type 0) (moment : D → ℕ) (left_since : D → ℕ → List ℕ → Type 0) (faults : D → ℕ)

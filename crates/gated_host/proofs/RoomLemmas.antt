@@ -1,6 +1,6 @@
 -- What is said of a call of a kept host, said of what is seen of it.
-use Rattle.std.specs.Prelude.{Bool, IfSome, is_some}
-use Rattle.std.proofs.Common.{◌≡◌, ℕ, ◌+◌, true, false, List, [], ◌∷◌, Option, None, Some, Result, Ok, Err, ap, option_map, refl, subst, sym}
+use Rattle.std.specs.Prelude.{Bool}
+use Rattle.std.proofs.Common.{◌≡◌, ℕ, List, Option, None, Some, Result, Ok, Err, ap, option_map, refl, subst}
 use Rattle.ps_disks.specs.declared.disk.DiskCall.{DiskCall}
 use Rattle.host_journal.specs.State.{State, IsAt, SameButRoom, is_ready, stored, with_room}
 use Rattle.host_journal.specs.declared.reading.Counted.{Counted}
@@ -20,11 +20,11 @@ use Rattle.gated_host.specs.Gated.{seen_of}
 pub same_bare : {D : Type 0} (s now : State D) → SameButRoom s now → with_room now 0 ≡ with_room s 0
 same_bare {D} s now same = ap (λ (x : State D). with_room x 0) same
 
-at_bare : {D : Type 0} (s : State D) (pair : Result Counted DiskPlace) → IsAt s pair → IsAt (with_room s 0) pair
+pub at_bare : {D : Type 0} (s : State D) (pair : Result Counted DiskPlace) → IsAt s pair → IsAt (with_room s 0) pair
 at_bare s (Ok k) at = at
 at_bare s (Err place) at = at
 
-found_bare : {D : Type 0} (premise : Type 0) (seen : D → List ℕ) (old place : State D) (stood : Bool) → IsFound premise seen old stood place → IsFound premise seen (with_room old 0) stood (with_room place 0)
+pub found_bare : {D : Type 0} (premise : Type 0) (seen : D → List ℕ) (old place : State D) (stood : Bool) → IsFound premise seen old stood place → IsFound premise seen (with_room old 0) stood (with_room place 0)
 found_bare {D} premise seen old place stood f = record {
   same = λ ready. ap (λ (x : State D). with_room x 0) (f.same ready);
   ready = f.ready;
@@ -33,12 +33,12 @@ found_bare {D} premise seen old place stood f = record {
   shut = f.shut;
 }
 
-shortened_bare : {D S : Type 0} (stands : List (List ℕ) → S → Type 0) (s : S) (off off_now : ℕ) (place : State D) (o i : Option (List ℕ)) → Shortens stands s off off_now place o i → Shortens stands s off off_now (with_room place 0) o i
+pub shortened_bare : {D S : Type 0} (stands : List (List ℕ) → S → Type 0) (s : S) (off off_now : ℕ) (place : State D) (o i : Option (List ℕ)) → Shortens stands s off off_now place o i → Shortens stands s off off_now (with_room place 0) o i
 shortened_bare stands s off off_now place None i x = x
 shortened_bare stands s off off_now place (Some payload) None x = x
 shortened_bare stands s off off_now place (Some payload) (Some image) x = x
 
-moved_bare : {D : Type 0} (place now : State D) (o i : Option (List ℕ)) → Moves place o i now → Moves (with_room place 0) o i (with_room now 0)
+pub moved_bare : {D : Type 0} (place now : State D) (o i : Option (List ℕ)) → Moves place o i now → Moves (with_room place 0) o i (with_room now 0)
 moved_bare place now None i m = same_bare place now m
 moved_bare place now (Some payload) None m = record { second = m.second; generation = m.generation; start = m.start; shut = m.shut; end = m.end }
 moved_bare place now (Some payload) (Some image) m = record { second = m.second; generation = m.generation; start = m.start; end = m.end }
@@ -49,7 +49,7 @@ due_bare stands s place (Some payload) None x = x
 due_bare stands s place None (Some image) x = x
 due_bare stands s place (Some payload) (Some image) x = x
 
-calls_bare : {D : Type 0} (ready : Bool) (place : State D) (o i : Option (List ℕ)) → step_calls ready place o i ≡ step_calls ready (with_room place 0) o i
+pub calls_bare : {D : Type 0} (ready : Bool) (place : State D) (o i : Option (List ℕ)) → step_calls ready place o i ≡ step_calls ready (with_room place 0) o i
 calls_bare ready place None None = refl
 calls_bare ready place None (Some image) = refl
 calls_bare ready place (Some payload) None = refl
@@ -57,7 +57,7 @@ calls_bare ready place (Some payload) (Some image) = refl
 
 -- ---- the three ends of a call
 module _ {D : Type 0} (premise : Type 0) (seen : D → List ℕ) (told : D → Option (List DiskCall)) (k l : Kept Seen D HostStep) where
-  pub answered_seen : (call : HostCall) (said : Reply) → AnsweredKeep premise seen told k l call said
+  abbrev pub answered_seen : (call : HostCall) (said : Reply) → AnsweredKeep premise seen told k l call said
       → Answered premise seen told (λ (s : Standing). s) StandsNow bytes_of Answers Follows after (seen_of k) (seen_of l) call said
   answered_seen call said a = record {
     stood = a.stood;

@@ -1,13 +1,12 @@
 -- What a step of a kept host comes to, as it is seen behind a gate.
-use Rattle.std.specs.Prelude.{Bool, IfOk, IfSome, IsTrue, ◌||◌, is_some, not}
-use Rattle.std.proofs.Common.{◌≡◌, ◌≤◌, ◌⊎◌, ◌∙◌, ℕ, true, false, List, Option, None, Some, Result, Ok, Err, ap, inl, inr, option_map, refl, subst, sym, ⊎_elim}
+use Rattle.std.specs.Prelude.{Bool, ◌||◌, ◌&&◌, ◌==◌, ◌-◌, is_some, not}
+use Rattle.std.proofs.Common.{◌≡◌, ◌≤◌, ◌∙◌, ℕ, true, false, List, Option, None, Result, Ok, Err, ap, inl, inr, option_map, refl, subst, sym, ⊎_elim}
 use Rattle.ps_disks.specs.declared.disk.DiskCall.{DiskCall}
 use Rattle.host_journal.specs.State.{State, is_ready, with_room}
 use Rattle.machine_keep.specs.Course.{Moves, Shortens}
 use Rattle.machine_keep.specs.Kept.{Kept, after_step, caught}
 use Rattle.machine_keep.specs.declared.fault.StepFault.{StepFault}
 use Rattle.machine_keep.specs.declared.fault.StepFault.TheVariants.{Disk, Memory}
-use Rattle.host_model.specs.Book.{Book}
 use Rattle.host_model.specs.Step.{step_book, step_reply}
 use Rattle.host_model.specs.declared.config.Config.{Config}
 use Rattle.host_model.specs.declared.reply.Reply.{Reply}
@@ -25,6 +24,12 @@ use Rattle.gated_host.proofs.RoomLemmas.{answered_seen, same_bare, unfound_seen,
 -- whether a step counts as a change
 abbrev pub counted : {D : Type 0} → Kept Seen D HostStep → Kept Seen D HostStep → Result Reply StepFault → Bool
 counted k l r = (is_fault r || not (is_ready k.journal.pending)) || moved k.journal l.journal
+
+pub counted_is : {D : Type 0} (k l : Kept Seen D HostStep) (r : Result Reply StepFault) (failed ready has_moved changed : Bool) (generation bytes : ℕ)
+    → failed ≡ is_fault r → ready ≡ is_ready k.journal.pending → generation ≡ k.journal.generation → bytes ≡ k.journal.end - k.journal.start
+    → has_moved ≡ not ((l.journal.generation == generation) && (l.journal.end - l.journal.start == bytes)) → changed ≡ ((failed || not ready) || has_moved) → changed ≡ counted k l r
+counted_is k l r failed ready has_moved changed generation bytes failed_is ready_is generation_is bytes_is moved_is changed_is =
+    rw (changed_is, moved_is, failed_is, ready_is, generation_is, bytes_is) refl
 
 same_seen : {D : Type 0} (k l : Kept Seen D HostStep) → l.machine.standing ≡ k.machine.standing → with_room l.journal 0 ≡ with_room k.journal 0 → l.unsure ≡ k.unsure → l.put_off ≡ k.put_off → seen_of l ≡ seen_of k
 same_seen k l standing journal unsure put_off = cc
@@ -91,7 +96,7 @@ module _ {D : Type 0} (premise : Type 0) (seen : D → List ℕ) (told : D → O
   answered_same said a sure sure_after ready none =
       let still : Moves a.place None a.image l.journal = subst (λ (o : Option HostStep). Moves a.place (option_map bytes_of o) a.image l.journal) none a.moved in
       let off : Shortens StandsNow l.machine.standing k.put_off l.put_off a.place None a.image =
-          subst (λ (o : Option HostStep). Shortens StandsNow l.machine.standing k.put_off l.put_off a.place (option_map bytes_of o) a.image) none a.shortened in
+      subst (λ (o : Option HostStep). Shortens StandsNow l.machine.standing k.put_off l.put_off a.place (option_map bytes_of o) a.image) none a.shortened in
       same_seen k l
       (a.became ∙ (ap (λ (o : Option HostStep). after_step after (found_by a.stood) o) none ∙ found_sure a.stood sure))
       (same_bare a.place l.journal still ∙ ap (λ (s : State D). with_room s 0) (a.found.same ready))
@@ -107,10 +112,10 @@ module _ {D : Type 0} (premise : Type 0) (seen : D → List ℕ) (told : D → O
       w.put_off
 
   pub same : (r : Result Reply StepFault) → Applied premise seen told may_leave moment left_since faults k l call r → (changed : Bool) → changed ≡ counted k l r → changed ≡ false → seen_of l ≡ seen_of k
-  same (Ok said) a changed is no =
-      let none = no_step (is_ready k.journal.pending) a.answered.step (sym (answered_counts said a.answered a.order) ∙ (sym is ∙ no)) in
+  same (Ok said) a changed is still =
+      let none = no_step (is_ready k.journal.pending) a.answered.step (sym (answered_counts said a.answered a.order) ∙ (sym is ∙ still)) in
       answered_same said a.answered (a.sure none.0) (a.sure_after (a.ready (λ e. cc))) none.0 none.1
-  same (Err Disk) a changed is no = let never : ⊥ = cc in absurd never
-  same (Err Memory) a changed is no =
-      let ready = was_ready (is_ready k.journal.pending) (sym (wanting_counts (a.wanting refl) a.order) ∙ (sym is ∙ no)) in
+  same (Err Disk) a changed is still = let never : ⊥ = cc in absurd never
+  same (Err Memory) a changed is still =
+      let ready = was_ready (is_ready k.journal.pending) (sym (wanting_counts (a.wanting refl) a.order) ∙ (sym is ∙ still)) in
       wanting_same (a.wanting refl) (a.sure ready) (a.sure_after (a.ready (λ e. cc))) ready

@@ -1,5 +1,5 @@
 -- What a call of a kept host comes to behind a gate: its reply, whether it counts as a change, and the state that it leaves.
-use Rattle.std.specs.Prelude.{◌≡◌, ◌≤◌, ◌⊎◌, ◌||◌, ℕ, Bool, true, false, not, is_some, List, Option, Result, Ok, Err, IfOk}
+use Rattle.std.specs.Prelude.{◌≡◌, ◌⊎◌, ◌||◌, ℕ, Bool, true, false, not, is_some, List, Option, Result, Ok, Err, IfOk}
 use Rattle.ps_ports.specs.Causes.{Rose}
 use Rattle.ps_disks.specs.declared.disk.DiskCall.{DiskCall}
 use Rattle.host_journal.specs.Pair.{pair_of}

@@ -1,7 +1,7 @@
 -- A kept host as passes see it behind a gate: what may be asked of it, and how it grows.
 use Rattle.std.specs.Prelude.{◌≡◌, ◌≤◌, ℕ, Bool, List}
 use Rattle.ps_time.specs.Numbers.{greatest_moment}
-use Rattle.host_journal.specs.State.{State, first_disk, has_record, second_disk, stored, with_room}
+use Rattle.host_journal.specs.State.{first_disk, has_record, second_disk, stored, with_room}
 use Rattle.machine_keep.specs.Kept.{Kept, caught}
 use Rattle.host_model.specs.Grown.{Grown}
 use Rattle.host_model.specs.Lawful.{Lawful}

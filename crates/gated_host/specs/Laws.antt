@@ -1,5 +1,5 @@
 -- Kept hosts grow as any state behind a gate does.
-use Rattle.std.proofs.Common.{◌≡◌, ◌≤◌, ◌∙◌, ℕ, refl, subst, sym}
+use Rattle.std.proofs.Common.{◌∙◌, ℕ, refl, subst, sym}
 use Rattle.std.proofs.Math.Nat.{le_trans}
 use Rattle.std.proofs.Common.{le_refl}
 use Rattle.host_journal.specs.State.{first_disk, second_disk}

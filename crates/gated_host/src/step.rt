@@ -36,8 +36,9 @@ pub(crate) fn step<D: Disk>(
     let generation = keep.generation();
     let bytes = keep.record_bytes();
     let answer = applied(alloc, keep, call);
+    let failed = is_fault(&answer);
     let has_moved = moved(keep, generation, bytes);
-    let changed = is_fault(&answer) || !was_ready || has_moved;
+    let changed = any(failed, !was_ready, has_moved);
     (answer, changed)
 }
 
@@ -68,6 +69,12 @@ fn moved<D: Disk>(keep: &Keep<Host, D>, generation: u64, bytes: u64) -> bool
     ensures { result ≡ not ((keep.now.journal.generation == generation) && (keep.now.journal.end - keep.now.journal.start == bytes)) }
 {
     !(keep.generation() == generation && keep.record_bytes() == bytes)
+}
+
+fn any(one: bool, two: bool, three: bool) -> bool
+    ensures { result ≡ ((one || two) || three) }
+{
+    one || two || three
 }
 
 fn is_fault(answer: &Result<Reply, StepFault>) -> bool
