@@ -65,6 +65,8 @@ pub fn open<D: Disk>(
     ensures fault { IfErr result (λ f. f.reason ≡ KeepReason.DiskFault → Rose (D.disk_faults first) (D.disk_faults f.first) ⊎ Rose (D.disk_faults second) (D.disk_faults f.second)) }
     ensures calm { IfOk result (λ keep. (D.disk_faults (first_disk keep.journal) ≡ D.disk_faults first) × (D.disk_faults (second_disk keep.journal) ≡ D.disk_faults second)) }
     ensures calm_err { IfErr result (λ f. (f.reason ≡ KeepReason.DiskFault → ⊥) → (D.disk_faults f.first ≡ D.disk_faults first) × (D.disk_faults f.second ≡ D.disk_faults second)) }
+    ensures went { IfOk result (λ keep. D.went first (first_disk keep.journal) × D.went second (second_disk keep.journal)) }
+    ensures went_err { IfErr result (λ f. D.went first f.first × D.went second f.second) }
 {
     match Keep::open(alloc, config, first, second) {
         Ok(keep) => begin(alloc, keep, clock),
@@ -99,6 +101,8 @@ fn begin<D: Disk>(
     ensures fault { IfErr result (λ f. f.reason ≡ KeepReason.DiskFault → Rose (D.disk_faults (first_disk keep.journal)) (D.disk_faults f.first) ⊎ Rose (D.disk_faults (second_disk keep.journal)) (D.disk_faults f.second)) }
     ensures calm { IfOk result (λ k. (D.disk_faults (first_disk k.journal) ≡ D.disk_faults (first_disk keep.journal)) × (D.disk_faults (second_disk k.journal) ≡ D.disk_faults (second_disk keep.journal))) }
     ensures calm_err { IfErr result (λ f. (f.reason ≡ KeepReason.DiskFault → ⊥) → (D.disk_faults f.first ≡ D.disk_faults (first_disk keep.journal)) × (D.disk_faults f.second ≡ D.disk_faults (second_disk keep.journal))) }
+    ensures went { IfOk result (λ k. D.went (first_disk keep.journal) (first_disk k.journal) × D.went (second_disk keep.journal) (second_disk k.journal)) }
+    ensures went_err { IfErr result (λ f. D.went (first_disk keep.journal) f.first × D.went (second_disk keep.journal) f.second) }
 {
     let mut keep = keep;
     keep.known();
