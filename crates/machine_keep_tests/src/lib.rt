@@ -2,6 +2,7 @@
 //! snapshots that are put off.
 #![tactic(auto)]
 
+pub mod armed;
 #[cfg(test)]
 mod disks;
 pub mod gatherer;
