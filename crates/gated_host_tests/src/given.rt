@@ -1,7 +1,10 @@
 //! The sample host behind a gate, and calls of a pass.
-ghost use Rattle.std.specs.Prelude.{◌≡◌, ◌≤◌, IfErr, IfOk};
+ghost use Rattle.std.specs.Prelude.{◌≡◌, ◌≤◌, IfOk, Some};
+ghost use Rattle.host_gate.specs.declared.view.Mark.{Mark};
 ghost use Rattle.host_model.specs.Conditions.{IsConfig};
 ghost use Rattle.ps_time.specs.declared.moment.TheConstants.{MAX_MOMENT};
+ghost use Rattle.ps_disks.specs.MemoryDisk.{DiskState};
+ghost use Rattle.gated_host.specs.Gated.{Gated, MayAsk};
 ghost use Rattle.gated_host_tests.specs.Sees.{SeesHost};
 
 use gated_host::call::{KeepCall, KeepReply};
@@ -49,6 +52,25 @@ pub(crate) fn host(alloc: Global, clock: Moment) -> Result<Behind, Fail>
     }
 }
 
+// One call through the gate.
+fn ask<R: Wait>(
+    rt: &R,
+    gate: &Gate<Behind>,
+    pass: &mut Pass<Behind>,
+    call: KeepCall,
+) -> Option<(KeepReply, Front)>
+    requires gate { pass.old.gate ≡ gate.now }
+    requires sees { SeesHost pass.old.seen }
+    requires may { (m : Mark (Gated DiskState)) → pass.old.seen ≡ Some m → MayAsk m.state call }
+    ensures gate { pass.new.gate ≡ gate.now }
+    ensures sees { SeesHost pass.new.seen }
+{
+    match gate.call(rt, pass, call) {
+        Ok((reply, front)) => Some((reply, front)),
+        Err(_) => None,
+    }
+}
+
 /// Books a run. Answers the front, where it is booked.
 pub(crate) fn book<R: Wait>(
     rt: &R,
@@ -63,14 +85,17 @@ pub(crate) fn book<R: Wait>(
     ensures sees { SeesHost pass.new.seen }
 {
     let input = a_booking(later(clock, 100));
-    let call = KeepCall::Apply(HostCall { clock, input });
-    match gate.call(rt, pass, call) {
-        Ok((KeepReply::Answer(Ok(Reply::Booked { .. })), front)) => Some(front),
-        Ok((other, _)) => {
+    let (reply, front) = ask(rt, gate, pass, KeepCall::Apply(HostCall { clock, input }))?;
+    if is_booked(reply) { Some(front) } else { None }
+}
+
+fn is_booked(reply: KeepReply) -> bool {
+    match reply {
+        KeepReply::Answer(Ok(Reply::Booked { .. })) => true,
+        other => {
             drop(other);
-            None
+            false
         }
-        Err(_) => None,
     }
 }
 
@@ -87,12 +112,16 @@ pub(crate) fn count_orders<R: Wait>(
     ensures gate { pass.new.gate ≡ gate.now }
     ensures sees { SeesHost pass.new.seen }
 {
-    match gate.call(rt, pass, KeepCall::Orders(clock)) {
-        Ok((KeepReply::Orders(Ok(orders)), front)) => Some((orders.len(), front)),
-        Ok((other, _)) => {
+    let (reply, front) = ask(rt, gate, pass, KeepCall::Orders(clock))?;
+    Some((order_count(reply)?, front))
+}
+
+fn order_count(reply: KeepReply) -> Option<usize> {
+    match reply {
+        KeepReply::Orders(Ok(orders)) => Some(orders.len()),
+        other => {
             drop(other);
             None
         }
-        Err(_) => None,
     }
 }

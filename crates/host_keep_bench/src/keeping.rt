@@ -88,7 +88,7 @@ fn row_count<D: Disk>(keep: &Keep<Host, D>) -> usize {
     keep.machine().book().rows().list().len()
 }
 
-fn told<D: Disk>(keep: &Keep<Host, D>, median: u64) -> Told {
+fn state_of<D: Disk>(keep: &Keep<Host, D>, median: u64) -> Told {
     Told {
         rows: row_count(keep),
         generation: keep.generation(),
@@ -119,7 +119,7 @@ pub(crate) fn recorded<D: Disk + Drop>(
     let mut keep = keep;
     let first = u32::try_from(row_count(&keep)).ok()?;
     if fill(alloc, &mut keep, first, first.saturating_add(count)) {
-        Some(told(&keep, 0))
+        Some(state_of(&keep, 0))
     } else {
         None
     }
@@ -165,5 +165,5 @@ fn median(times: Vec<u64>) -> Option<u64> {
 pub(crate) fn booked(rt: &HostRuntime, rows: u32, count: u32) -> Option<Told> {
     let mut keep = filled(rt.alloc(), rows)?;
     let times = times_of(rt, &mut keep, rows, count)?;
-    Some(told(&keep, median(times)?))
+    Some(state_of(&keep, median(times)?))
 }

@@ -13,11 +13,7 @@ use std::alloc::Global;
 const MOST_IMAGE_BYTES: usize = 4_294_967_295;
 
 /// Puts a snapshot of a book with so many rows on the disks.
-pub(crate) fn put_snapshot<D: Disk + Drop>(
-    alloc: Global,
-    pair: (D, D),
-    rows: u32,
-) -> Option<Told> {
+pub(crate) fn put_snapshot<D: Disk + Drop>(alloc: Global, pair: (D, D), rows: u32) -> Option<Told> {
     let (first, second) = pair;
     let Ok((mut journal, list)) = Journal::open(alloc, first, second) else {
         return None;
@@ -42,11 +38,7 @@ fn put<D: Disk>(alloc: Global, host: &Host, journal: &mut Journal<D>) -> Option<
     journal.snapshot(image).ok()
 }
 
-fn image_in<D: Disk>(
-    alloc: Global,
-    host: &Host,
-    journal: &mut Journal<D>,
-) -> Option<SnapshotImage>
+fn image_in<D: Disk>(alloc: Global, host: &Host, journal: &mut Journal<D>) -> Option<SnapshotImage>
     ensures room { IfSome result (λ image. length image.bytes + 13 ≤ image.room) }
     ensures bound { IfSome result (λ image. length image.bytes ≤ 4294967295) }
     ensures same { SameButRoom journal.old journal.new }
