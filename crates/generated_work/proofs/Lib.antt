@@ -1,0 +1,3 @@
+mod HostLemmas
+mod ShownLemmas
+mod WorkLemmas
