@@ -1,7 +1,7 @@
 #!/usr/bin/env python3
 """Times kept hosts, and prints
 
-- the seconds of an opening of a book of 50,000 rows in a snapshot, and how many bytes a row takes at the peak beside the file;
+- the seconds of the processor that an opening takes of a book of 50,000 rows in a snapshot, and how many bytes a row takes at the peak beside the file;
 - the seconds that 1,000 and 10,000 records behind a snapshot add to an opening, and their ratio;
 - what a booking over a book of 49,500 rows takes on disks in memory, beside the same booking of a host that isn't kept, in microseconds.
 
@@ -12,9 +12,8 @@ import pathlib
 import subprocess
 import sys
 import tempfile
-import time
 
-ROUNDS = 3
+ROUNDS = 5
 ROWS = 50_000
 BEHIND = 10_000
 RECORDS = [1_000, 10_000]
@@ -29,14 +28,13 @@ def run(*words: str) -> str:
 
 
 def opened(program: str, folder: str, rows: int) -> tuple[float, int]:
-    """The least seconds of some openings, and the peak of memory in bytes."""
+    """The least seconds of the processor that some openings took, and the peak of memory in bytes."""
     best, peak = float("inf"), 0
     for _ in range(ROUNDS):
-        begin = time.perf_counter()
         child = subprocess.Popen([program, "records", folder, "0"], stdout=subprocess.PIPE, text=True)
         printed = child.stdout.read().strip()
         _, status, usage = os.wait4(child.pid, 0)
-        best, peak = min(best, time.perf_counter() - begin), max(peak, usage.ru_maxrss * 1024)
+        best, peak = min(best, usage.ru_utime + usage.ru_stime), max(peak, usage.ru_maxrss * 1024)
         if status != 0 or not printed.startswith(f"{rows} rows, generation 2"):
             sys.exit(f"{folder}: status {status}, {printed!r}, not {rows} rows")
     return best, peak
