@@ -6,7 +6,7 @@ use Rattle.ps_ports.specs.declared.fault.AllFault.{AllFault}
 use Rattle.ps_ports.specs.declared.fault.AllFault.TheVariants.{TooLong as MoreCame, ReadFault, Memory}
 use Rattle.ps_time.specs.Numbers.{most_input_bytes}
 use Rattle.psched_top.specs.declared.command.Command.{Command}
-use Rattle.psched_top.specs.declared.command.Command.TheVariants.{Rehearse, ValidateLimits, Help, Version}
+use Rattle.psched_top.specs.declared.command.Command.TheVariants.{Rehearse, ValidateLimits, Generate, Help, Version}
 use Rattle.psched_top.specs.declared.outcome.Outcome.{Outcome}
 use Rattle.psched_top.specs.declared.outcome.Outcome.TheVariants.{TooLong, CannotRead}
 use Rattle.psched_top.specs.Command.{takes_input}
@@ -27,6 +27,7 @@ too_long : (command : Option Command) (input : List ℕ) → takes_input command
 too_long None input reads more = absurd (cc)
 too_long (Some Help) input reads more = absurd (cc)
 too_long (Some Version) input reads more = absurd (cc)
+too_long (Some (Generate count)) input reads more = absurd (cc)
 too_long (Some Rehearse) input reads more = search (rules, tests)
 too_long (Some ValidateLimits) input reads more = search (rules, tests)
 

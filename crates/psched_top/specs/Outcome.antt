@@ -11,17 +11,19 @@ use Rattle.psched_script.specs.Refusal.{fault_text}
 use Rattle.rehearsal_model.specs.Rehearsal.{report_of}
 use Rattle.psched_script.specs.Script.{script_of}
 use Rattle.limit_apply.specs.Read.{config_in}
+use Rattle.generated_work.specs.Summary.{summary_of}
 use Rattle.psched_top.specs.Limits.{refusal_text, valid_text}
 use Rattle.psched_top.specs.declared.command.Command.{Command}
-use Rattle.psched_top.specs.declared.command.Command.TheVariants.{Rehearse, ValidateLimits, Help, Version as VersionWord}
+use Rattle.psched_top.specs.declared.command.Command.TheVariants.{Rehearse, ValidateLimits, Generate, Help, Version as VersionWord}
 use Rattle.psched_top.specs.declared.outcome.Outcome.{Outcome}
-use Rattle.psched_top.specs.declared.outcome.Outcome.TheVariants.{Usage, Version, Report, Valid, WrongWords, Refused, TooLong, CannotRead}
+use Rattle.psched_top.specs.declared.outcome.Outcome.TheVariants.{Usage, Version, Report, Valid, Summary, WrongWords, Refused, TooLong, CannotRead}
 
 abbrev pub status_of : Outcome → ℕ
 status_of Usage = 0
 status_of Version = 0
 status_of (Report text) = 0
 status_of (Valid text) = 0
+status_of (Summary text) = 0
 status_of WrongWords = 1
 status_of (Refused text) = 2
 status_of TooLong = 2
@@ -39,6 +41,7 @@ text_of Usage = usage_line
 text_of Version = line (codes "psched 0.1.0")
 text_of (Report text) = text
 text_of (Valid text) = text
+text_of (Summary text) = text
 text_of WrongWords = usage_line
 text_of (Refused text) = text
 text_of TooLong = line (codes "input too long")
@@ -69,5 +72,6 @@ abbrev pub outcome_of : Option Command → List ℕ → Outcome
 outcome_of None input = WrongWords
 outcome_of (Some Help) input = Usage
 outcome_of (Some VersionWord) input = Version
+outcome_of (Some (Generate count)) input = Summary (summary_of count)
 outcome_of (Some Rehearse) input = outcome_of_input (λ bytes. outcome_of_script (script_of bytes)) input
 outcome_of (Some ValidateLimits) input = outcome_of_input (λ bytes. outcome_of_limits (config_in bytes)) input

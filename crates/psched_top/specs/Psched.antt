@@ -8,12 +8,14 @@ use Rattle.limit_apply.specs.Limits.{Config}
 use Rattle.psched_script.specs.declared.script.Script.{Script}
 use Rattle.rehearsal_model.specs.Rehearsal.{report_of, world_of}
 use Rattle.psched_script.specs.Script.{script_of}
+use Rattle.generated_work.specs.Summary.{summary_of}
+use Rattle.generated_work.specs.Work.{work_of}
 use Rattle.psched_top.specs.Command.{takes_input}
 use Rattle.limit_apply.specs.Read.{config_in}
 use Rattle.psched_top.specs.Limits.{valid_text}
 use Rattle.psched_top.specs.declared.command.Command.{Command}
 use Rattle.psched_top.specs.declared.outcome.Outcome.{Outcome}
-use Rattle.psched_top.specs.declared.outcome.Outcome.TheVariants.{Report, Valid, CannotRead}
+use Rattle.psched_top.specs.declared.outcome.Outcome.TheVariants.{Report, Valid, Summary, CannotRead}
 use Rattle.psched_top.specs.Outcome.{line, outcome_of, status_of, text_of}
 
 -- where the source tells its bytes, this is all that it held
@@ -102,3 +104,11 @@ Reported held left old new = (r : Rehearsed held left) × Appends old new (repor
 -- the line of the configuration's counts was written
 abbrev pub Validated : Option (List ℕ) → Option (List ℕ) → Option (List ℕ) → Option (List ℕ) → Type 0
 Validated held left old new = (c : Checked held left) × Appends old new (line (valid_text c.config))
+
+-- the world of so many posts keeps the laws, and its summary is the outcome
+abbrev pub IsGenerated : ℕ → Outcome → Type 0
+IsGenerated count outcome = Safe (work_of count) × (outcome ≡ Summary (summary_of count))
+
+-- the summary of so many posts was written, whose world keeps the laws
+abbrev pub Generated : ℕ → Option (List ℕ) → Option (List ℕ) → Type 0
+Generated count old new = Safe (work_of count) × Appends old new (summary_of count)

@@ -5,3 +5,4 @@ mod command;
 mod limits;
 mod outcome;
 pub mod psched;
+mod words;

@@ -19,6 +19,8 @@ pub enum Outcome {
     Report(Items<u8>),
     /// The input is a configuration of limits: how many entries it has.
     Valid(Text),
+    /// The summary of generated work.
+    Summary(Text),
     /// The words aren't in the grammar.
     WrongWords,
     /// The input isn't in the command's grammar: its first refusal.
@@ -36,6 +38,7 @@ impl Drop for Outcome {
             Outcome::Version => {}
             Outcome::Report(_) => {}
             Outcome::Valid(_) => {}
+            Outcome::Summary(_) => {}
             Outcome::WrongWords => {}
             Outcome::Refused(_) => {}
             Outcome::TooLong => {}
@@ -49,7 +52,11 @@ impl Outcome {
         ensures { result ≡ status_of self.now }
     {
         match self {
-            Outcome::Usage | Outcome::Version | Outcome::Report(_) | Outcome::Valid(_) => 0,
+            Outcome::Usage
+            | Outcome::Version
+            | Outcome::Report(_)
+            | Outcome::Valid(_)
+            | Outcome::Summary(_) => 0,
             Outcome::WrongWords => 1,
             Outcome::Refused(_) | Outcome::TooLong => 2,
             Outcome::CannotRead => 3,
@@ -63,7 +70,9 @@ impl Outcome {
             Outcome::Usage | Outcome::WrongWords => USAGE.as_bytes(),
             Outcome::Version => b"psched 0.1.0\n",
             Outcome::Report(bytes) => bytes.as_slice(),
-            Outcome::Valid(text) | Outcome::Refused(text) => text.as_str().as_bytes(),
+            Outcome::Valid(text) | Outcome::Summary(text) | Outcome::Refused(text) => {
+                text.as_str().as_bytes()
+            }
             Outcome::TooLong => b"input too long\n",
             Outcome::CannotRead => b"cannot read\n",
         }

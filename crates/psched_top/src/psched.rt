@@ -1,16 +1,17 @@
 //! The top call: psched over any source and sink.
-ghost use Rattle.std.specs.Prelude.{◌≡◌, ◌≢◌, ◌≤◌, ◌<◌, true, false, Some, None, IfOk, IfSome, IsErr};
+ghost use Rattle.std.specs.Prelude.{◌≡◌, ◌≢◌, ◌≤◌, ◌<◌, ℕ, true, false, Some, None, IfOk, IfSome, IsErr};
 ghost use Rattle.std.specs.Io.KnownBytes.{Appends};
 ghost use Rattle.ps_ports.specs.All.{WrotePrefix};
 ghost use Rattle.ps_ports.specs.Causes.{Rose};
 ghost use Rattle.psched_script.specs.Script.{script_of};
-ghost use Rattle.psched_top.specs.Command.{asked, takes_input};
+ghost use Rattle.psched_top.specs.Command.{asked, takes_input, wants_memory};
 ghost use Rattle.psched_top.specs.Outcome.{outcome_of, outcome_of_script, status_of, text_of, unread_of};
-ghost use Rattle.psched_top.specs.Psched.{Comes, CutShort, Exactly, IsChecked, IsRehearsed, IsSafeReport, Reported, Told, Validated};
+ghost use Rattle.psched_top.specs.Psched.{Comes, CutShort, Exactly, Generated, IsChecked, IsGenerated, IsRehearsed, IsSafeReport, Reported, Told, Validated};
 
 use crate::command::{Command, read_command};
 use crate::limits::validate_bytes;
 use crate::outcome::Outcome;
+use generated_work::generate::generate;
 use ps_ports::all::{read_all, write_all};
 use ps_ports::fault::AllFault;
 use ps_ports::sink::Sink;
@@ -80,18 +81,27 @@ fn validate_source<S: Source>(alloc: Global, source: &mut S) -> Result<Outcome, 
     }
 }
 
+fn generate_count(alloc: Global, count: u32) -> Result<Outcome, Memory>
+    requires { count ≤ 2000 }
+    ensures { IfOk result (IsGenerated count) }
+{
+    Ok(Outcome::Summary(generate(alloc, count)?))
+}
+
 fn run<S: Source>(alloc: Global, words: &[String], source: &mut S) -> Result<Outcome, Memory>
     ensures comes { IfOk result (Comes (asked words.now) (S.left source.old) (S.read_faults source.old) (S.read_faults source.new)) }
     ensures rehearsed { IfOk result (λ outcome. status_of outcome ≡ 0 → asked words.now ≡ Some Command.Rehearse → IsRehearsed (S.left source.old) (S.left source.new) outcome) }
     ensures validated { IfOk result (λ outcome. status_of outcome ≡ 0 → asked words.now ≡ Some Command.ValidateLimits → IsChecked (S.left source.old) (S.left source.new) outcome) }
-    ensures memory { IsErr result → takes_input (asked words.now) ≡ true }
+    ensures generated { IfOk result (λ outcome. (count : ℕ) → asked words.now ≡ Some (Command.Generate count) → IsGenerated count outcome) }
+    ensures memory { IsErr result → wants_memory words.now ≡ true }
     ensures unread { takes_input (asked words.now) ≡ false → source.new ≡ source.old }
     ensures later { S.read_faults source.old ≤ S.read_faults source.new }
     ensures kept { S.kept source.old source.new }
 {
-    match read_command(words) {
+    match read_command(alloc, words)? {
         Some(Command::Rehearse) => rehearse_source(alloc, source),
         Some(Command::ValidateLimits) => validate_source(alloc, source),
+        Some(Command::Generate { count }) => generate_count(alloc, count),
         Some(Command::Help) => Ok(Outcome::Usage),
         Some(Command::Version) => Ok(Outcome::Version),
         None => Ok(Outcome::WrongWords),
@@ -134,6 +144,9 @@ pub fn psched<S: Source, K: Sink>(
     // A check that succeeds wrote how many entries the configuration has.
     ensures validated { result ≡ 0 → asked words.now ≡ Some Command.ValidateLimits → Validated (S.left source.old) (S.left source.new) (K.written sink.old) (K.written sink.new) }
 
+    // Generated work that is done wrote its summary, and its world keeps the laws.
+    ensures generated { result ≡ 0 → (count : ℕ) → asked words.now ≡ Some (Command.Generate count) → Generated count (K.written sink.old) (K.written sink.new) }
+
     ensures wrong_words { result ≡ 1 → asked words.now ≡ None }
     ensures read_fault { result ≡ 3 → Rose (S.read_faults source.old) (S.read_faults source.new) }
     ensures write_fault { result ≡ 4 → Rose (K.write_faults sink.old) (K.write_faults sink.new) }
@@ -141,9 +154,9 @@ pub fn psched<S: Source, K: Sink>(
     // A part of the front of the text that was due went out.
     ensures prefix { result ≡ 4 → CutShort (asked words.now) (S.left source.old) (S.read_faults source.old) (S.read_faults source.new) (K.written sink.old) (K.written sink.new) }
 
-    // Want of memory, in a command that reads alone. Nothing was written.
+    // Want of memory, in a command that reads or in `generate` alone. Nothing was written.
     ensures memory { 4 < result → result ≡ 10 }
-    ensures memory_wanted { result ≡ 10 → takes_input (asked words.now) ≡ true }
+    ensures memory_wanted { result ≡ 10 → wants_memory words.now ≡ true }
     ensures memory_unsaid { result ≡ 10 → sink.new ≡ sink.old }
 
     // The other commands, and words that aren't in the grammar, read nothing.

@@ -22,8 +22,27 @@ a 100 150 exclusive 0 pending 00010000-0000-8001-8000-000000010000
 a 150 200 exclusive 0 pending 00010000-0000-8001-8000-000000020000
 ";
 
+const NO_WORK: &str = "\
+hosts 8
+tasks 0
+messages 0
+lost 0
+crashes 0
+pending 0
+on-deck 0
+running 0
+cleanup 0
+finished 0
+overdue 0
+missed 0
+failed 0
+preempted 0
+nonstart 0
+canceled 0
+";
+
 /// Words, cut at each space, and the status and text that they come to.
-static WORDS: [(&str, u8, &str); 10] = [
+static WORDS: [(&str, u8, &str); 19] = [
     ("--help", 0, USAGE),
     ("--version", 0, "psched 0.1.0\n"),
     ("", 1, USAGE),
@@ -31,7 +50,16 @@ static WORDS: [(&str, u8, &str); 10] = [
     ("rehearse rehearse", 1, USAGE),
     ("--help --version", 1, USAGE),
     ("-h", 1, USAGE),
-    ("generate 1", 1, USAGE),
+    ("generate 0", 0, NO_WORK),
+    ("generate 0000000000", 0, NO_WORK),
+    ("generate -- 0", 0, NO_WORK),
+    ("generate", 1, USAGE),
+    ("generate 0 0", 1, USAGE),
+    ("generate 2001", 1, USAGE),
+    ("generate 00000000000", 1, USAGE),
+    ("generate -1", 1, USAGE),
+    ("generate 0x1", 1, USAGE),
+    ("generate --help", 1, USAGE),
     ("validate_limits", 1, USAGE),
     ("validate-limits rehearse", 1, USAGE),
 ];
@@ -109,10 +137,12 @@ type Faulty = (
 
 // The first read gives the whole script, and the second the end; other words read nothing. One write
 // takes a whole text, and of an empty text nothing is written.
-static FAULTY: [Faulty; 9] = [
+static FAULTY: [Faulty; 11] = [
     ("rehearse", TOUCHING, &[1], &[], 3, "cannot read\n"),
     ("rehearse", TOUCHING, &[2], &[], 3, "cannot read\n"),
     ("--version", TOUCHING, &[1], &[], 0, "psched 0.1.0\n"),
+    ("generate 0", TOUCHING, &[1], &[], 0, NO_WORK),
+    ("generate 0", b"", &[], &[1], 4, ""),
     ("rehearse", TOUCHING, &[], &[1], 4, ""),
     ("rehearse", b"10", &[], &[1], 4, ""),
     ("--help", b"", &[], &[1], 4, ""),
