@@ -87,11 +87,7 @@ impl KeptHost {
     /// The bytes of its book as a snapshot.
     pub(crate) fn book_bytes(&self, alloc: Global) -> Result<Vec<u8>, Memory> {
         let image = SnapshotImage::of_buffer([0; 12].to_vec(alloc)?);
-        Ok(self
-            .keep
-            .machine()
-            .write_image(alloc, image)?
-            .into_buffer())
+        Ok(self.keep.machine().write_image(alloc, image)?.into_buffer())
     }
 
     /// Lets a call of each disk fail, numbered from 1 from now on, or none.
@@ -102,7 +98,12 @@ impl KeptHost {
     }
 
     /// Makes a step at the clock, in seconds since 1970 UTC.
-    pub(crate) fn act(&mut self, alloc: Global, clock: Moment, input: Input) -> Result<Outcome, Memory>
+    pub(crate) fn act(
+        &mut self,
+        alloc: Global,
+        clock: Moment,
+        input: Input,
+    ) -> Result<Outcome, Memory>
         requires clock { clock ≤ MAX_MOMENT }
         requires bounds { IsInput self.old input }
         requires short { input_texts input ≤ most_input_texts }
