@@ -41,8 +41,48 @@ nonstart 0
 canceled 0
 ";
 
+// `h7` idles alone for 37 seconds, from the seventh second on: nobody is asked, and six seconds behind the post the run is on deck.
+const ONE_POST: &str = "\
+hosts 8
+tasks 1
+messages 0
+lost 0
+crashes 0
+pending 0
+on-deck 1
+running 0
+cleanup 0
+finished 0
+overdue 0
+missed 0
+failed 0
+preempted 0
+nonstart 0
+canceled 0
+";
+
+// Then `h3` streams to `h4`. Its first question is lost and goes out again; a second later than without that, both have the run.
+const TWO_POSTS: &str = "\
+hosts 8
+tasks 2
+messages 7
+lost 1
+crashes 0
+pending 0
+on-deck 3
+running 0
+cleanup 0
+finished 0
+overdue 0
+missed 0
+failed 0
+preempted 0
+nonstart 0
+canceled 0
+";
+
 /// Words, cut at each space, and the status and text that they come to.
-static WORDS: [(&str, u8, &str); 19] = [
+static WORDS: [(&str, u8, &str); 21] = [
     ("--help", 0, USAGE),
     ("--version", 0, "psched 0.1.0\n"),
     ("", 1, USAGE),
@@ -53,6 +93,8 @@ static WORDS: [(&str, u8, &str); 19] = [
     ("generate 0", 0, NO_WORK),
     ("generate 0000000000", 0, NO_WORK),
     ("generate -- 0", 0, NO_WORK),
+    ("generate 1", 0, ONE_POST),
+    ("generate 2", 0, TWO_POSTS),
     ("generate", 1, USAGE),
     ("generate 0 0", 1, USAGE),
     ("generate 2001", 1, USAGE),
