@@ -1,12 +1,11 @@
 -- Ranges that are apart: what they cover as an interval comes or goes, and what a search finds in them.
 use Rattle.std.proofs.Common.{◌≡◌, ◌∙◌, ◌<◌, ◌≤◌, ◌+◌, ◌-◌, ℕ, zero, suc, List, [], ◌∷◌, ◌++◌, length, get_or, set, take, drop, Bool, true, false, cond, not, ltb, max, min, Option, Some, None, ◌&&◌, ◌||◌, inl, inr, refl, sym, ap, ap₂, subst, arith}
-use Rattle.std.specs.List.{AllByRecursion, copy_within, insert, remove}
+use Rattle.std.specs.List.{AllByRecursion, insert, remove, remove_range}
 use Rattle.std.specs.List.Sorted.{IsNonDecreasingBy, IsPartitionPoint}
 use Rattle.std.specs.Option.{option_to_list}
 use Rattle.std.proofs.lemmas.Bool.{cases_lt}
 use Rattle.std.proofs.lemmas.Bool.Decides.{nat_tests}
-use Rattle.std.proofs.lemmas.List.{append_assoc, drop-set-lt, get_or-drop, length-drop, length-set, set_split, take_all, take_more_set}
-use Rattle.std.proofs.lemmas.List.Edits.{take-paste}
+use Rattle.std.proofs.lemmas.List.{append_assoc, drop-set-lt, get_or-drop, length-drop, set_split, take_more_set}
 use Rattle.ps_time.specs.Span.{Span}
 use Rattle.host_timeline.specs.Busy.{begin_at, covers, has_second, hull, pieces, span_between, with_range, without_range, IsApart, IsCovered}
 
@@ -401,15 +400,9 @@ module _ (rs : List Span) (s : Span) (first end : ℕ) (some : s.start < s.end) 
       ∙ ap₂ (λ (a b : Span). (record { start = min a.start s.start; end = max b.end s.end }) ∷ drop end rs) start last)
 
 -- the gap behind a joined range is closed
-pub closed : (rs : List Span) (m : Span) (first end len n : ℕ) → first < end → end ≤ length rs → len ≡ length rs → n ≡ len - (end - first - 1) → take n (copy_within (set rs first m) end len (first + 1)) ≡ take first rs ++ m ∷ drop end rs
-closed rs m first end len n more within full is =
-    let count : n ≡ (first + 1) + (len - end) = omega (arith, is, more, within, full) in
-    let long : length (set rs first m) ≡ length rs = length-set rs first m in
-    let behind : drop end (set rs first m) ≡ drop end rs = drop-set-lt end rs first m more in
-    let left : len - end ≤ length (drop end (set rs first m)) = omega (arith, long, full, length-drop end (set rs first m)) in
-    ap (λ c. take c (copy_within (set rs first m) end len (first + 1))) count
-    ∙ take-paste (set rs first m) (first + 1) (drop end (set rs first m)) (len - end) (omega (arith, long, more, within)) left
-    ∙ ap₂ (λ a b. a ++ b) (take_more_set rs first m (omega (arith, more, within))) (ap (take (len - end)) behind ∙ take_all (len - end) (drop end rs) (omega (arith, full, length-drop end rs)))
+pub closed : (rs : List Span) (m : Span) (first end : ℕ) → first < end → end ≤ length rs → remove_range (set rs first m) (first + 1) end ≡ take first rs ++ m ∷ drop end rs
+closed rs m first end more within =
+    ap₂ (λ a b. a ++ b) (take_more_set rs first m (omega (arith, more, within))) (drop-set-lt end rs first m more)
     ∙ append_assoc (take first rs) (m ∷ []) (drop end rs)
 
 -- the range in which an interval lies

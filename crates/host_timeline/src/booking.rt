@@ -1,6 +1,7 @@
 //! Bookings: when they conflict with a run, and when they can be preempted.
 ghost use Rattle.std.specs.Prelude.{◌≡◌, ℕ, ◌+◌, ◌&&◌, not, nat_lt};
 ghost use Rattle.host_timeline.specs.Booking.{conflicts_with, can_preempt, is_after, is_firm, firm_from_of};
+ghost use Rattle.host_timeline.specs.Timeline.{started_booking};
 
 use ps_time::class::{Class, classes_conflict};
 use ps_time::interval::Interval;
@@ -29,6 +30,15 @@ pub fn firm_from(start: Moment, started: bool) -> Moment
     } else {
         start.saturating_sub(ON_DECK)
     }
+}
+
+/// The booking once its run was started.
+pub(crate) fn started(booking: &Booking) -> Booking
+    ensures { result ≡ started_booking booking.now }
+{
+    let mut started = *booking;
+    started.firm_from = 0;
+    started
 }
 
 impl Booking {

@@ -5,10 +5,11 @@ ghost use Rattle.std.specs.List.{list_all, AllWithin};
 ghost use Rattle.host_timeline.specs.declared.booking.Booking.{Booking as SeenBooking};
 ghost use Rattle.host_timeline.specs.Lane.{find_place, how_many, place_cmp, place_of, places_of, reaches, spans, starts_between, starts_by, with_place, without_place, with_started_place, IsAscendingPlaces, IsFoundAt, IsLane, IsOpenAt, FailsOthers, FailsOutside};
 
-use crate::booking::Booking;
+use crate::booking::{Booking, started};
 use ps_time::key::RunKey;
 use ps_time::memory::Memory;
 use ps_time::moment::{Length, Moment};
+use sliding_list::sliding_list::SlidingList;
 use std::alloc::Global;
 use std::cmp::Ordering;
 use std::marker::Model;
@@ -42,20 +43,20 @@ pub(crate) fn place_of(booking: &Booking) -> Place
 /// Bookings, ascending by start and then by key, and places that are reserved for more.
 #[derive(Drop)]
 pub(crate) struct Lane {
-    bookings: Vec<Booking>,
+    bookings: SlidingList<Booking>,
     // no booking is longer
     longest: Length,
 }
 
 impl Model for Lane {
-    ghost use Rattle.std.specs.Prelude.{◌-◌, vec_len, vec_capacity};
+    ghost use Rattle.std.specs.Prelude.{◌-◌, length};
     ghost use Rattle.host_timeline.specs.Lane.{Lane as Seen, IsLane};
 
     ghost Value = { Seen };
 
-    ghost view = { λ l. record { list = l.bookings.items; room = vec_capacity l.bookings - vec_len l.bookings } };
+    ghost view = { λ l. record { list = l.bookings.list; room = l.bookings.places - length l.bookings.list } };
 
-    ghost invariant = { λ l. IsLane l.bookings.items l.longest };
+    ghost invariant = { λ l. IsLane l.bookings.list l.longest };
 }
 
 impl Lane {
@@ -63,7 +64,7 @@ impl Lane {
         ensures { result.list ≡ [] }
     {
         Lane {
-            bookings: Vec::new(alloc),
+            bookings: SlidingList::new(alloc),
             longest: 0,
         }
     }
@@ -74,8 +75,7 @@ impl Lane {
         ensures never_less { self.old.room ≤ self.new.room }
         ensures ok { OnOk result (count ≤ self.new.room) }
     {
-        self.bookings.reserve(count)?;
-        Ok(())
+        self.bookings.reserve(count)
     }
 
     /// All of them.
@@ -98,7 +98,7 @@ impl Lane {
             Ok(_) => unreachable!(),
             Err(at) => {
                 self.longest = self.longest.max(interval.end - interval.start);
-                self.bookings.insert(at, *booking).unwrap()
+                self.bookings.insert(at, *booking)
             }
         }
     }
@@ -122,7 +122,10 @@ impl Lane {
         ensures places { places_of self.new ≡ places_of self.old }
     {
         match self.search(place) {
-            Ok(at) => self.bookings[at].firm_from = 0,
+            Ok(at) => {
+                let booking = self.bookings[at];
+                self.bookings.set(at, started(&booking));
+            }
             Err(_) => {}
         }
     }
@@ -141,7 +144,7 @@ impl Lane {
     pub(crate) fn nothing(&self) -> &[Booking]
         ensures { result.now ≡ [] }
     {
-        &self.bookings[..0]
+        &self.bookings.as_slice()[..0]
     }
 
     // Where the booking with the place is, or where it would go.
@@ -150,6 +153,7 @@ impl Lane {
         ensures absent { IfErr result (IsOpenAt self.now.list place) }
     {
         self.bookings
+            .as_slice()
             .binary_search_by_key(&place, |booking| place_of(booking))
     }
 }

@@ -10,24 +10,25 @@ use ps_time::class::Class;
 use ps_time::interval::Interval;
 use ps_time::memory::Memory;
 use ps_time::moment::Moment;
+use sliding_list::sliding_list::SlidingList;
 use std::alloc::Global;
 use std::marker::Model;
 
 /// Ranges of seconds, each maximal, and places that are reserved for more.
 #[derive(Drop)]
 pub(crate) struct Ranges {
-    ranges: Vec<Interval>,
+    ranges: SlidingList<Interval>,
 }
 
 impl Model for Ranges {
-    ghost use Rattle.std.specs.Prelude.{◌-◌, vec_len, vec_capacity};
+    ghost use Rattle.std.specs.Prelude.{◌-◌, length};
     ghost use Rattle.host_timeline.specs.Busy.{Ranges as Seen, IsApart};
 
     ghost Value = { Seen };
 
-    ghost view = { λ r. record { list = r.ranges.items; room = vec_capacity r.ranges - vec_len r.ranges } };
+    ghost view = { λ r. record { list = r.ranges.list; room = r.ranges.places - length r.ranges.list } };
 
-    ghost invariant = { λ r. IsApart r.ranges.items };
+    ghost invariant = { λ r. IsApart r.ranges.list };
 }
 
 impl Ranges {
@@ -35,7 +36,7 @@ impl Ranges {
         ensures { result.list ≡ [] }
     {
         Ranges {
-            ranges: Vec::new(alloc),
+            ranges: SlidingList::new(alloc),
         }
     }
 
@@ -45,8 +46,7 @@ impl Ranges {
         ensures never_less { self.old.room ≤ self.new.room }
         ensures ok { OnOk result (count ≤ self.new.room) }
     {
-        self.ranges.reserve(count)?;
-        Ok(())
+        self.ranges.reserve(count)
     }
 
     /// All of them.
@@ -61,7 +61,7 @@ impl Ranges {
     pub(crate) fn nothing(&self) -> &[Interval]
         ensures { result.now ≡ [] }
     {
-        &self.ranges[..0]
+        &self.ranges.as_slice()[..0]
     }
 
     /// A moment before which nothing starts that is covered throughout and ends behind `from`: the start of the range in
@@ -90,12 +90,10 @@ impl Ranges {
         if first < end {
             let start = self.ranges[first].start.min(interval.start);
             let last = self.ranges[end - 1].end.max(interval.end);
-            self.ranges[first] = Interval { start, end: last };
-            self.ranges.copy_within(end.., first + 1);
-            let left = self.ranges.len() - (end - first - 1);
-            self.ranges.truncate(left);
+            self.ranges.set(first, Interval { start, end: last });
+            self.ranges.remove_range(first + 1, end);
         } else {
-            self.ranges.insert(first, *interval).unwrap()
+            self.ranges.insert(first, *interval)
         }
     }
 
@@ -113,11 +111,11 @@ impl Ranges {
         let behind = span_between(interval.end, range.end);
         match (before, behind) {
             (Some(before), Some(behind)) => {
-                self.ranges[at] = before;
-                self.ranges.insert(at + 1, behind).unwrap()
+                self.ranges.set(at, before);
+                self.ranges.insert(at + 1, behind);
             }
-            (Some(piece), None) => self.ranges[at] = piece,
-            (None, Some(piece)) => self.ranges[at] = piece,
+            (Some(piece), None) => self.ranges.set(at, piece),
+            (None, Some(piece)) => self.ranges.set(at, piece),
             (None, None) => {
                 self.ranges.remove(at);
             }

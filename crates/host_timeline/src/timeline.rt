@@ -13,7 +13,7 @@ ghost use Rattle.host_timeline.specs.Timeline.{find_booking, with_booking, witho
 ghost use Rattle.host_timeline.specs.Lane.{how_many, same_class, Decide, Have, IsAscendingPlaces};
 ghost use Rattle.host_timeline.specs.declared.booking.Booking.{Booking as SeenBooking};
 
-use crate::booking::Booking;
+use crate::booking::{Booking, started};
 use crate::busy::Busy;
 use crate::free_starts::{keep_firm, near_bookings, reach, windows_beside};
 use crate::lanes::Lanes;
@@ -25,13 +25,14 @@ use ps_time::key::RunKey;
 use ps_time::memory::Memory;
 use ps_time::moment::{Length, Moment};
 use ps_time::tiers::Tiers;
+use sliding_list::sliding_list::SlidingList;
 use std::alloc::Global;
 use std::marker::Model;
 
 /// The bookings of a host, at most one of a key, and places that are reserved for more.
 #[derive(Drop)]
 pub struct Timeline {
-    bookings: Vec<Booking>,
+    bookings: SlidingList<Booking>,
     // the same bookings, by class and start
     lanes: Lanes,
     // what they take, by class
@@ -41,15 +42,15 @@ pub struct Timeline {
 }
 
 impl Model for Timeline {
-    ghost use Rattle.std.specs.Prelude.{◌-◌, vec_len, vec_capacity};
+    ghost use Rattle.std.specs.Prelude.{◌-◌, length};
     ghost use Rattle.host_timeline.specs.Indexed.{IsIndexed};
     ghost use Rattle.host_timeline.specs.Timeline.{Timeline as Seen};
 
     ghost Value = { Seen };
 
-    ghost view = { λ t. record { list = t.bookings.items; room = t.places - vec_len t.bookings } };
+    ghost view = { λ t. record { list = t.bookings.list; room = t.places - length t.bookings.list } };
 
-    ghost invariant = { λ t. IsIndexed t.bookings.items (vec_capacity t.bookings) t.places t.lanes t.busy };
+    ghost invariant = { λ t. IsIndexed t.bookings.list t.bookings.places t.places t.lanes t.busy };
 }
 
 impl Timeline {
@@ -57,7 +58,7 @@ impl Timeline {
         ensures { result.list ≡ [] }
     {
         Timeline {
-            bookings: Vec::new(alloc),
+            bookings: SlidingList::new(alloc),
             lanes: Lanes::new(alloc),
             busy: Busy::new(alloc),
             places: 0,
@@ -205,7 +206,7 @@ impl Timeline {
             Err(at) => {
                 self.lanes.insert(booking);
                 self.busy.cover(booking);
-                self.bookings.insert(at, *booking).unwrap()
+                self.bookings.insert(at, *booking)
             }
         }
     }
@@ -246,7 +247,7 @@ impl Timeline {
             Ok(at) => {
                 let booking = self.bookings[at];
                 self.lanes.mark_started(&booking);
-                self.bookings[at].firm_from = 0;
+                self.bookings.set(at, started(&booking));
             }
             Err(_) => {}
         }
@@ -283,6 +284,7 @@ impl Timeline {
         ensures ordered { IsInOrder self.now.list }
     {
         self.bookings
+            .as_slice()
             .binary_search_by_key(&key, |booking| booking.key)
     }
 }

@@ -9,4 +9,4 @@ pub returns : goal.returns
 returns c =
     let facts = c.binary_search_by_key.ensures in
     let by_place = facts.position place_of (answers_always _ _ _ (λ f a r g called. search rules)) in
-    rw (← c.self.view_is, ← c.deref.ensures.value) (searched _ c.self.inside.longest (rw c.deref.ensures.value c.self.invariant) c.args.place _ facts.bound by_place)
+    rw (← c.self.view_is, ← c.as_slice.ensures.value) (searched _ c.self.inside.longest (rw c.as_slice.ensures.value c.self.invariant) c.args.place _ facts.bound by_place)

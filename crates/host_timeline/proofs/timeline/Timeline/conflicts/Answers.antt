@@ -18,7 +18,7 @@ returns-clause-keys c =
     let bs = c.args.self.now.list in
     let xs = c.beside.result.0.now in
     let ys = c.beside.result.1.now in
-    let seen : c.self.inside.bookings.items ≡ bs = ap (λ (t : Timeline). t.list) c.self.view_is in
+    let seen : c.self.inside.bookings.list ≡ bs = ap (λ (t : Timeline). t.list) c.self.view_is in
     let have : Have class s.start (Some s.end) bs xs ys = subst (λ (i : Span). Have class i.start (Some i.end) bs xs ys) c.interval.view_is c.beside.ensures.have in
     let gathered : c.add_conflicts-2.new.keys.items ≡ keys_of (conflicting class s xs) ++ keys_of (conflicting class s ys) =
     c.in_ok-add_conflicts-2.ensures ∙ ap (λ l. l ++ keys_of (conflicting class s ys)) (c.in_ok-add_conflicts.ensures ∙ ap (λ l. l ++ keys_of (conflicting class s xs)) c.new-keys.ensures.items) in
@@ -28,5 +28,5 @@ returns-clause-keys c =
 -- the bookings are ascending, so the keys of some of them are
 pub returns-clause-ascending : goal.returns-clause-ascending
 returns-clause-ascending c =
-    let seen : c.self.inside.bookings.items ≡ c.args.self.now.list = ap (λ (t : Timeline). t.list) c.self.view_is in
+    let seen : c.self.inside.bookings.list ≡ c.args.self.now.list = ap (λ (t : Timeline). t.list) c.self.view_is in
     subst (IsAscending key_cmp (λ k. k)) (sym (returns-clause-keys c)) (ascending_passing (conflicts_with c.args.class c.args.interval.now) c.args.self.now.list (subst IsAscendingBookings seen c.self.invariant.in_order.ascending))

@@ -20,5 +20,5 @@ returns-clause-least c =
 
 pub returns-clause-walk : goal.returns-clause-walk
 returns-clause-walk c =
-    let seen : c.self.inside.bookings.items ≡ c.args.self.now.list = ap (λ (t : Timeline). t.list) c.self.view_is in
+    let seen : c.self.inside.bookings.list ≡ c.args.self.now.list = ap (λ (t : Timeline). t.list) c.self.view_is in
     walk_on c.args.class c.args.interval.now c.args.after c.args.self.now.list c.lesser_of.result (subst IsAscendingBookings seen c.self.invariant.in_order.ascending) (returns-clause-least c)
