@@ -1,5 +1,5 @@
 //! The keys of the rows that aren't still.
-ghost use Rattle.std.specs.Prelude.{◌≡◌, ◌<◌, ◌≤◌, [], IfErr, IfOk, None, OnOk, length, true, vec_capacity};
+ghost use Rattle.std.specs.Prelude.{◌≡◌, ◌<◌, ◌≤◌, [], IfErr, IfOk, None, OnOk, length, true};
 ghost use Rattle.run_states.specs.Rows.{IsAscendingRows};
 ghost use Rattle.live_rows.specs.LiveKeys.{drop_key, find_own, marked, with_key, IsGapFor, IsPlaceOf};
 ghost use Rattle.live_rows.specs.Still.{live_keys};
@@ -8,24 +8,24 @@ use crate::still::is_still;
 use ps_time::key::RunKey;
 use ps_time::memory::Memory;
 use run_states::row::RunRow;
+use sliding_list::sliding_list::SlidingList;
 use std::alloc::Global;
 use std::marker::Model;
 
 /// Different keys in ascending order, in places that were reserved.
 #[derive(Drop)]
 pub struct LiveKeys {
-    keys: Vec<RunKey>,
+    keys: SlidingList<RunKey>,
 }
 
 impl Model for LiveKeys {
-    ghost use Rattle.std.specs.Prelude.{vec_capacity};
     ghost use Rattle.live_rows.specs.LiveKeys.{LiveKeys as Seen, IsAscendingKeys};
 
     ghost Value = { Seen };
 
-    ghost view = { λ k. record { list = k.keys.items; places = vec_capacity k.keys } };
+    ghost view = { λ k. record { list = k.keys.list; places = k.keys.places } };
 
-    ghost invariant = { λ k. IsAscendingKeys k.keys.items };
+    ghost invariant = { λ k. IsAscendingKeys k.keys.list };
 }
 
 impl LiveKeys {
@@ -34,7 +34,7 @@ impl LiveKeys {
         ensures { result.list ≡ [] }
     {
         LiveKeys {
-            keys: Vec::new(alloc),
+            keys: SlidingList::new(alloc),
         }
     }
 
@@ -44,8 +44,7 @@ impl LiveKeys {
         ensures never_less { self.old.places ≤ self.new.places }
         ensures ok { OnOk result (places ≤ self.new.places) }
     {
-        self.keys.reserve(places.saturating_sub(self.keys.len()))?;
-        Ok(())
+        self.keys.reserve(places.saturating_sub(self.keys.len()))
     }
 
     /// The keys, ascending.
@@ -75,7 +74,7 @@ impl LiveKeys {
     {
         match self.search(key) {
             Ok(_) => {}
-            Err(at) => self.keys.insert(at, key).unwrap(),
+            Err(at) => self.keys.insert(at, key),
         }
     }
 
@@ -107,20 +106,20 @@ impl LiveKeys {
         ensures found { IfOk result (IsPlaceOf self.now.list key) }
         ensures absent { IfErr result (IsGapFor self.now.list key) }
     {
-        self.keys.binary_search_by_key(&key, |own| *own)
+        self.keys.as_slice().binary_search_by_key(&key, |own| *own)
     }
 }
 
 // Adds the keys of the rows that aren't still at the host with this number to none.
-fn fill(keys: &mut Vec<RunKey>, rows: &[RunRow], number: u16)
-    requires none { keys.old.items ≡ [] }
-    requires places { length rows.now ≤ vec_capacity keys.old }
-    ensures items { keys.new.items ≡ live_keys number rows.now }
-    ensures places { vec_capacity keys.old ≤ vec_capacity keys.new }
+fn fill(keys: &mut SlidingList<RunKey>, rows: &[RunRow], number: u16)
+    requires none { keys.old.list ≡ [] }
+    requires places { length rows.now ≤ keys.old.places }
+    ensures list { keys.new.list ≡ live_keys number rows.now }
+    ensures places { keys.old.places ≤ keys.new.places }
 {
     for row in rows {
         if !is_still(row, number) {
-            keys.push(row.key).unwrap();
+            keys.push(row.key);
         }
     }
 }

@@ -5,4 +5,4 @@ use Rattle.live_rows.proofs.live_keys.LiveKeys.refill.Goals as goal
 
 -- the keys of ascending rows ascend
 pub invariant_of-self : goal.invariant_of-self
-invariant_of-self c = subst IsAscendingKeys (sym c.fill.ensures.items) (live_up c.args.number c.args.rows.now c.requires.ascending)
+invariant_of-self c = subst IsAscendingKeys (sym c.fill.ensures.list) (live_up c.args.number c.args.rows.now c.requires.ascending)
