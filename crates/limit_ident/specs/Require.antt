@@ -1,8 +1,9 @@
 -- How many outcomes of a list have to be true.
-use Rattle.std.specs.Prelude.{ℕ, ◌+◌, ◌==◌, ◌||◌, nat_le, Bool, true, false, List, [], ◌∷◌, length, Option, Some, None}
-use Rattle.std.specs.Option.{unwrap_or}
+use Rattle.std.specs.Prelude.{◌≡◌, ℕ, ◌+◌, ◌==◌, nat_le, Bool, true, false, List, [], ◌∷◌, length}
 use Rattle.limit_ident.specs.declared.require.Require.{Require}
 use Rattle.limit_ident.specs.declared.require.Require.TheVariants.{All, Any, One, None as no_one}
+use Rattle.limit_ident.specs.declared.require.After.{After}
+use Rattle.limit_ident.specs.declared.require.After.TheVariants.{Decided, Open}
 
 abbrev pub trues : List Bool → ℕ
 trues [] = 0
@@ -16,27 +17,7 @@ met Any outcomes = nat_le 1 (trues outcomes)
 met One outcomes = trues outcomes == 1
 met no_one outcomes = trues outcomes == 0
 
--- ---- the same, as far as the first outcome that decides
-
--- what one more outcome decides, where one before it was true or none was
-abbrev pub decided : Require → Bool → Bool → Option Bool
-decided All found false = Some false
-decided All found true = None
-decided Any found true = Some true
-decided Any found false = None
-decided One true true = Some false
-decided One false true = None
-decided One found false = None
-decided no_one found true = Some false
-decided no_one found false = None
-
--- the answer where none decided
-abbrev pub ended : Require → Bool → Bool
-ended All found = true
-ended Any found = false
-ended One found = found
-ended no_one found = true
-
-abbrev pub walked : Require → Bool → List Bool → Bool
-walked require found [] = ended require found
-walked require found (outcome ∷ outcomes) = unwrap_or (decided require found outcome) (walked require (found || outcome) outcomes)
+-- what an outcome leaves: the answer, whatever comes behind it, or what is required of those behind it
+abbrev pub IsLeft : Require → Bool → After → Type 0
+IsLeft require outcome (Decided answer) = (others : List Bool) → met require (outcome ∷ others) ≡ answer
+IsLeft require outcome (Open left) = (others : List Bool) → met require (outcome ∷ others) ≡ met left others

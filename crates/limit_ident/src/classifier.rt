@@ -1,13 +1,11 @@
 //! Classifiers: which identifiers have to be true.
-ghost use Rattle.std.specs.Prelude.{◌≡◌, ◌<◌, length, map, false, IfOk};
-ghost use Rattle.limit_ident.specs.Identifier.{identified_at};
-ghost use Rattle.limit_ident.specs.Require.{walked};
+ghost use Rattle.std.specs.Prelude.{◌≡◌, ◌<◌, length, IfOk};
 ghost use Rattle.limit_ident.specs.Classifier.{held, held_at};
 
 use crate::identifier::Identifiers;
 use crate::known_asker::KnownAsker;
 use crate::named::{Entries, Named, copy_places};
-use crate::require::Require;
+use crate::require::{PlaceTest, Require};
 use ps_time::duplicate::Duplicate;
 use ps_time::items::Items;
 use ps_time::memory::Memory;
@@ -46,28 +44,29 @@ impl Duplicate for Classifier {
     }
 }
 
-impl Classifier {
-    /// It looks at identifiers as far as the first that decides.
-    fn walk(&self, identifiers: &Identifiers, asker: &KnownAsker) -> bool
-        ensures { result ≡ walked self.now.require false
-            (map (identified_at identifiers.now asker.now) self.now.identifiers) }
-    {
-        let mut found = false;
-        for place in self.identifiers.as_slice() {
-            let outcome = identifiers.is_true(*place, asker);
-            if let Some(answer) = self.require.decided(found, outcome) {
-                return answer;
-            }
-            found = found || outcome;
-        }
-        self.require.ended(found)
-    }
+/// Which identifiers are true of who asks.
+#[derive(Clone, Copy)]
+struct AreTrue<'a> {
+    identifiers: &'a Identifiers,
+    asker: &'a KnownAsker<'a>,
+}
 
-    #[tactic(auto, using(crate::proofs::RequireLemmas::walked_met))]
+impl<'a> PlaceTest for AreTrue<'a> {
+    ghost use Rattle.limit_ident.specs.Identifier.{identified_at};
+
+    ghost outcome = { λ t place. identified_at t.identifiers.now t.asker.now place };
+
+    fn passes(&self, place: usize) -> bool {
+        self.identifiers.is_true(place, self.asker)
+    }
+}
+
+impl Classifier {
     fn holds(&self, identifiers: &Identifiers, asker: &KnownAsker) -> bool
         ensures { result ≡ held identifiers.now asker.now self.now }
     {
-        self.walk(identifiers, asker)
+        let test = AreTrue { identifiers, asker };
+        self.require.is_met(self.identifiers.as_slice(), &test)
     }
 }
 

@@ -1,6 +1,6 @@
 //! How many of a list have to be true.
-ghost use Rattle.std.specs.Prelude.{◌≡◌, ℕ, List, Bool, false, IsNone};
-ghost use Rattle.limit_ident.specs.Require.{met, decided, ended, walked};
+ghost use Rattle.std.specs.Prelude.{◌≡◌, ℕ, [], Bool, map};
+ghost use Rattle.limit_ident.specs.Require.{met, IsLeft};
 
 use ps_time::duplicate::Duplicate;
 use ps_time::memory::Memory;
@@ -17,6 +17,23 @@ pub enum Require {
     None,
 }
 
+/// What one outcome leaves of a requirement.
+#[derive(Clone, Copy)]
+enum After {
+    /// The answer, whatever comes behind the outcome.
+    Decided(bool),
+    /// What is required of the outcomes behind it.
+    Open(Require),
+}
+
+/// A test of the places of a list. It has no memory of the places before.
+pub trait PlaceTest {
+    ghost outcome: { Self → ℕ → Bool };
+
+    fn passes(&self, place: usize) -> bool
+        ensures { result ≡ outcome self.now place };
+}
+
 impl Duplicate for Require {
     fn duplicate(&self, _alloc: Global) -> Result<Require, Memory> {
         Ok(*self)
@@ -24,33 +41,41 @@ impl Duplicate for Require {
 }
 
 impl Require {
-    /// The answer that one more outcome decides, where `found` says whether one before it was true.
-    pub fn decided(self, found: bool, outcome: bool) -> Option<bool>
-        ensures { result ≡ decided self found outcome }
+    fn after(self, outcome: bool) -> After
+        ensures { IsLeft self outcome result }
     {
         match self {
-            Require::All if !outcome => Some(false),
-            Require::Any if outcome => Some(true),
-            Require::One if found && outcome => Some(false),
-            Require::None if outcome => Some(false),
-            _ => None,
+            Require::All if !outcome => After::Decided(false),
+            Require::Any if outcome => After::Decided(true),
+            Require::One if outcome => After::Open(Require::None),
+            Require::None if outcome => After::Decided(false),
+            _ => After::Open(self),
         }
     }
 
-    /// The answer where no outcome decided.
-    pub fn ended(self, found: bool) -> bool
-        ensures { result ≡ ended self found }
+    fn is_met_by_none(self) -> bool
+        ensures { result ≡ met self [] }
     {
         match self {
             Require::All => true,
             Require::Any => false,
-            Require::One => found,
+            Require::One => false,
             Require::None => true,
         }
     }
-}
 
-/// A law: walking over outcomes up to the first that decides gives what their count gives.
-pub fn law_walked()
-    ensures { (require : Require) (outcomes : List Bool) → walked require false outcomes ≡ met require outcomes }
-{}
+    /// Whether as many of the places pass the test as are required. No place is tested behind the first whose
+    /// outcome decides.
+    pub fn is_met<T: PlaceTest>(self, places: &[usize], test: &T) -> bool
+        ensures { result ≡ met self (map (T.outcome test.now) places.now) }
+    {
+        let mut require = self;
+        for place in places {
+            match require.after(test.passes(*place)) {
+                After::Decided(answer) => return answer,
+                After::Open(left) => require = left,
+            }
+        }
+        require.is_met_by_none()
+    }
+}
