@@ -1,5 +1,6 @@
 -- What a configuration of limits answers.
-use Rattle.std.specs.Prelude.{ℕ, ◌+◌, ℤ, pos, negsuc, ◌≤ℤ◌, int_lt, Bool, List, [], ◌∷◌, length, All, Option, Some, None, if◌then◌else◌}
+use Rattle.std.specs.Prelude.{ℕ, ◌+◌, ℤ, pos, negsuc, ◌≤ℤ◌, int_lt, Bool, List, [], ◌∷◌, length, map, filter, All, Option, Some, None, if◌then◌else◌}
+use Rattle.std.specs.Int.{int_max}
 use Rattle.std.specs.Option.{unwrap_or}
 use Rattle.ps_time.specs.Span.{Span}
 use Rattle.ps_time.specs.declared.asker.Asker.{Asker}
@@ -57,19 +58,14 @@ verdict_at config asker test run = first_verdict (written_from config asker test
 
 -- ---- priorities
 
-abbrev pub greater : ℤ → ℤ → ℤ
-greater a b = if int_lt a b then b else a
-
 -- the greatest of a number and of those of a list
 abbrev pub greatest : ℤ → List ℤ → ℤ
 greatest z [] = z
-greatest z (y ∷ ys) = greatest (greater z y) ys
+greatest z (y ∷ ys) = int_max y (greatest z ys)
 
 -- the ceilings whose classifier holds
 abbrev pub held_ceilings : Config → Asker → List Ceiling → List ℤ
-held_ceilings config asker [] = []
-held_ceilings config asker (c ∷ cs) =
-    if holds_at config asker c.classifier then c.ceiling ∷ held_ceilings config asker cs else held_ceilings config asker cs
+held_ceilings config asker cs = map (λ c. c.ceiling) (filter (λ c. holds_at config asker c.classifier) cs)
 
 -- the greatest of the default and of the ceilings of classifiers that hold
 abbrev pub ceiling_of : Config → Asker → ℤ

@@ -1,11 +1,10 @@
 //! Applications: which limits are put to whom.
-ghost use Rattle.std.specs.Prelude.{◌≡◌, false, map};
+ghost use Rattle.std.specs.Prelude.{◌≡◌};
 ghost use Rattle.std.specs.List.{list_any, list_all};
-ghost use Rattle.limit_ident.specs.Require.{walked};
 ghost use Rattle.limit_apply.specs.Application.{limit_at, run_limit_at, group_passes, cites_run, passes, decided};
 
 use limit_ident::named::{Named, copy_places};
-use limit_ident::require::Require;
+use limit_ident::require::{PlaceTest, Require};
 use limit_rule::limit::Limit;
 use plugin_core::test_spec::TestSpec;
 use ps_time::asker::Verdict;
@@ -69,27 +68,30 @@ fn is_of_runs(limits: &[Named<Limit>], place: usize) -> bool
     place < limits.len() && limits[place].value.is_of_runs()
 }
 
-impl Group {
-    /// It looks at limits as far as the first that decides.
-    fn walk(&self, limits: &[Named<Limit>], test: &TestSpec, run: &Option<Interval>) -> bool
-        ensures { result ≡ walked self.now.require false (map (limit_at limits.now test.now run.now) self.now.limits) }
-    {
-        let mut found = false;
-        for place in self.limits.as_slice() {
-            let outcome = is_true(limits, *place, test, run);
-            if let Some(answer) = self.require.decided(found, outcome) {
-                return answer;
-            }
-            found = found || outcome;
-        }
-        self.require.ended(found)
-    }
+/// Which limits are true of a test, and of a run of it where there is one.
+#[derive(Clone, Copy)]
+struct AreTrue<'a> {
+    limits: &'a [Named<Limit>],
+    test: &'a TestSpec,
+    run: &'a Option<Interval>,
+}
 
-    #[tactic(auto, using(limit_ident::proofs::RequireLemmas::walked_met))]
+impl<'a> PlaceTest for AreTrue<'a> {
+    ghost use Rattle.limit_apply.specs.Application.{limit_at};
+
+    ghost outcome = { λ t place. limit_at t.limits.now t.test.now t.run.now place };
+
+    fn passes(&self, place: usize) -> bool {
+        is_true(self.limits, place, self.test, self.run)
+    }
+}
+
+impl Group {
     fn passes(&self, limits: &[Named<Limit>], test: &TestSpec, run: &Option<Interval>) -> bool
         ensures { result ≡ group_passes limits.now test.now run.now self.now }
     {
-        self.walk(limits, test, run)
+        let test = AreTrue { limits, test, run };
+        self.require.is_met(self.limits.as_slice(), &test)
     }
 
     fn cites_run(&self, limits: &[Named<Limit>]) -> bool

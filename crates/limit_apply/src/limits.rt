@@ -1,6 +1,6 @@
 //! A configuration of limits, and what it answers.
-ghost use Rattle.std.specs.Prelude.{◌≡◌, ◌≢◌, ℤ, IfOk, Ok};
-ghost use Rattle.limit_apply.specs.Limits.{Config, verdict_at, permits_of, below_ceiling, admits_of, ceiling_of, IsPriority, holds_at, counts_of};
+ghost use Rattle.std.specs.Prelude.{◌≡◌, ◌≢◌, ℤ, [], ◌∷◌, IfOk, Ok};
+ghost use Rattle.limit_apply.specs.Limits.{Config, verdict_at, permits_of, below_ceiling, admits_of, greatest, held_ceilings, ceiling_of, IsPriority, holds_at, counts_of};
 ghost use Rattle.limit_apply.specs.Read.{config_in, IsKept};
 
 use crate::application::Application;
@@ -112,14 +112,22 @@ impl Limits {
         place < self.classifiers.len() && self.classifiers.holds(place, &self.identifiers, asker)
     }
 
+    /// The greater of a ceiling and that of an entry, where its classifier holds.
+    fn raised(&self, asker: &KnownAsker, ceiling: i16, entry: Ceiling) -> i16
+        ensures { result ≡ greatest ceiling (held_ceilings self.now asker.now (entry ∷ [])) }
+    {
+        if entry.ceiling > ceiling && self.holds(entry.classifier, asker) {
+            return entry.ceiling;
+        }
+        ceiling
+    }
+
     fn greatest_ceiling(&self, asker: &KnownAsker) -> i16
         ensures { result ≡ ceiling_of self.now asker.now }
     {
         let mut greatest = self.priorities.default;
         for entry in self.priorities.ceilings.as_slice() {
-            if entry.ceiling > greatest && self.holds(entry.classifier, asker) {
-                greatest = entry.ceiling;
-            }
+            greatest = self.raised(asker, greatest, *entry);
         }
         greatest
     }
