@@ -2,6 +2,7 @@ mod AddsLemmas
 mod AppendLemmas
 mod CallLemmas
 mod ChoiceLemmas
+mod CrashLemmas
 mod FormatLemmas
 mod FrontLemmas
 mod HeadLemmas

@@ -1,4 +1,5 @@
 pub mod Calls
+pub mod Crash
 pub mod Format
 pub mod Front
 pub mod Image

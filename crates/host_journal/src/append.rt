@@ -82,7 +82,7 @@ impl<D: Disk> Journal<D> {
 }
 
 // Takes no memory.
-fn put_record(buffer: &mut Vec<u8>, payload: &[u8])
+pub(crate) fn put_record(buffer: &mut Vec<u8>, payload: &[u8])
     requires room { length payload.now + 13 ≤ vec_capacity buffer.old }
     requires bound { length payload.now < 2 ^ 32 }
     ensures items { buffer.new.items ≡ to_be_bytes w32 (length payload.now) ++ (payload.now ++ 0 ∷ []) }

@@ -1,5 +1,5 @@
 //! A journal on two disks.
-ghost use Rattle.std.specs.Prelude.{◌≡◌, ◌⊎◌, ◌+◌, ◌-◌, ◌≤◌, ◌<◌, ◌^◌, ℕ, not, if◌then◌else◌, IsTrue, Ok, Err, length, take, IfOk, IfErr, OnOk, OnErr, IsErrOf, ◌∷◌, []};
+ghost use Rattle.std.specs.Prelude.{◌≡◌, ◌⊎◌, ◌+◌, ◌-◌, ◌≤◌, ◌<◌, ◌^◌, ℕ, not, if◌then◌else◌, IsTrue, Ok, Err, length, take, IfOk, IfErr, OnOk, OnErr, IsErrOf, ◌∷◌, [], vec_capacity};
 ghost use Rattle.ps_ports.specs.Causes.{Rose};
 ghost use Rattle.ps_disks.specs.Disk.{Only};
 ghost use Rattle.ps_disks.specs.MemoryDisk.{armed, armed_number};
@@ -157,6 +157,26 @@ impl<D: Disk> Journal<D> {
         in_order(second, counting, other)
     }
 
+    // The disk that counts, the other one, and the buffer.
+    pub(crate) fn into_parts(self) -> (D, D, Vec<u8>)
+        ensures counting { result.0 ≡ self.counting }
+        ensures other { result.1 ≡ self.other }
+        ensures room { vec_capacity result.2 ≡ self.room }
+    {
+        let Journal {
+            counting,
+            other,
+            second: _,
+            generation: _,
+            start: _,
+            end: _,
+            shut: _,
+            pending: _,
+            buffer,
+        } = self;
+        (counting, other, buffer)
+    }
+
     /// What is known of a journal, and what more of one whose last call was `Ok`. Does nothing.
     pub fn known(&self)
         // Whatever a crash leaves isn't refused as no journal.
@@ -218,7 +238,7 @@ impl<D: Disk> Journal<D> {
     }
 }
 
-fn in_order<D>(second: bool, first: D, other: D) -> (D, D)
+pub(crate) fn in_order<D>(second: bool, first: D, other: D) -> (D, D)
     ensures one { result.0 ≡ (if second then other else first) }
     ensures two { result.1 ≡ (if second then first else other) }
 {

@@ -2,6 +2,7 @@
 #![tactic(auto)]
 
 pub mod append;
+pub mod crash;
 mod disk_calls;
 pub mod fault;
 pub mod image;
