@@ -9,7 +9,7 @@ use Rattle.host_journal.specs.Calls.{PartAfter, KeepsHead}
 use Rattle.host_journal.specs.Moments.{Shows, LiesBeside}
 use Rattle.host_journal.specs.Pair.{gates_at}
 use Rattle.host_journal.specs.State.{State, is_ready, stored, snapshot_of, close_calls as closing_calls, fill_calls, snapshot_calls, image_bytes, closing, EachImage, IsClosed, IsSound}
-use Rattle.host_journal.specs.Told.{TellsAll, TellsFirst, TellsBoth}
+use Rattle.host_journal.specs.Told.{TellsAll, MakesAll, TellsFirst, TellsBoth}
 use Rattle.host_journal.specs.declared.pending.Pending.{Pending}
 use Rattle.host_journal.specs.declared.pending.Pending.TheVariants.{Nothing, Unopened, Snapshot}
 use Rattle.host_journal.proofs.CallLemmas.{tells_on}
@@ -129,7 +129,8 @@ module _ {D : Type 0} (seen : D → List ℕ) (may_leave : D → List ℕ → Ty
           }
 
 -- The calls of a snapshot.
-module _ {D : Type 0} (told : D → Option (List DiskCall)) (s old : State D) (is : s ≡ old) (image piece : List ℕ) (is_piece : piece ≡ image_bytes (s.generation + 1) image) where
+module _ {D : Type 0} (told : D → Option (List DiskCall)) (faults : D → ℕ) (went : D → D → Type 0) (went_refl : (disk : D) → went disk disk) (went_trans : (a b c : D) → went a b → went b c → went a c)
+    (s old : State D) (is : s ≡ old) (image piece : List ℕ) (is_piece : piece ≡ image_bytes (s.generation + 1) image) where
   abbrev close_calls : List DiskCall
   close_calls = Write 8 (closing s.shut) ∷ Sync ∷ []
 
@@ -148,38 +149,46 @@ module _ {D : Type 0} (told : D → Option (List DiskCall)) (s old : State D) (i
   abbrev rest_calls : State D → List DiskCall
   rest_calls o = fill_calls (o.generation + 1) image
 
-  first_of : (new : D) → TellsFirst (told s.other) (told new) (close_calls ++ (put_calls piece ++ open_calls)) → TellsFirst (told old.other) (told new) (all_calls old)
+  first_of : (new : D) → TellsFirst told faults went s.other new (close_calls ++ (put_calls piece ++ open_calls)) → TellsFirst told faults went old.other new (all_calls old)
   first_of new first =
-      subst (λ (o : State D). TellsFirst (told o.other) (told new) (all_calls o)) is
-      (subst (λ (l : List ℕ). TellsFirst (told s.other) (told new) (close_calls ++ (put_calls l ++ open_calls))) is_piece first)
+      subst (λ (o : State D). TellsFirst told faults went o.other new (all_calls o)) is
+      (subst (λ (l : List ℕ). TellsFirst told faults went s.other new (close_calls ++ (put_calls l ++ open_calls))) is_piece first)
 
-  pub told_closing : (new : D) → TellsFirst (told s.other) (told new) close_calls → TellsFirst (told old.other) (told new) (all_calls old)
-  told_closing new first = first_of new (told_part (told s.other) (told new) close_calls (put_calls piece ++ open_calls) first)
+  -- where the image was being written, and where the gate was being opened
+  rest_putting : (shut new : D) → TellsFirst told faults went shut new (put_calls piece) → TellsFirst told faults went shut new (put_calls piece ++ open_calls)
+  rest_putting shut new first = told_part told faults went went_refl went_trans shut new (put_calls piece) open_calls first
 
-  pub told_putting : (shut new : D) → TellsAll (told s.other) (told shut) close_calls → TellsFirst (told shut) (told new) (put_calls piece) → TellsFirst (told old.other) (told new) (all_calls old)
-  told_putting shut new all first =
-      first_of new (told_rest (told s.other) (told shut) (told new) close_calls (put_calls piece ++ open_calls) all (told_part (told shut) (told new) (put_calls piece) open_calls first))
+  rest_opening : (shut put new : D) → MakesAll told faults went shut put (put_calls piece) → TellsFirst told faults went put new open_calls → TellsFirst told faults went shut new (put_calls piece ++ open_calls)
+  rest_opening shut put new more first = told_rest told faults went went_refl went_trans shut put new (put_calls piece) open_calls more first
+
+  behind_close : (shut new : D) → MakesAll told faults went s.other shut close_calls → TellsFirst told faults went shut new (put_calls piece ++ open_calls) → TellsFirst told faults went old.other new (all_calls old)
+  behind_close shut new all rest = first_of new (told_rest told faults went went_refl went_trans s.other shut new close_calls (put_calls piece ++ open_calls) all rest)
+
+  pub told_closing : (new : D) → TellsFirst told faults went s.other new close_calls → TellsFirst told faults went old.other new (all_calls old)
+  told_closing new first = first_of new (told_part told faults went went_refl went_trans s.other new close_calls (put_calls piece ++ open_calls) first)
+
+  pub told_putting : (shut new : D) → MakesAll told faults went s.other shut close_calls → TellsFirst told faults went shut new (put_calls piece) → TellsFirst told faults went old.other new (all_calls old)
+  told_putting shut new all first = behind_close shut new all (rest_putting shut new first)
+
+  pub told_opening : (shut put new : D) → MakesAll told faults went s.other shut close_calls → MakesAll told faults went shut put (put_calls piece) → TellsFirst told faults went put new open_calls
+      → TellsFirst told faults went old.other new (all_calls old)
+  told_opening shut put new all more first = behind_close shut new all (rest_opening shut put new more first)
 
   -- after the first two calls
-  rest_of : (mid : Option (List DiskCall)) (new : D) → TellsAll (told s.other) mid close_calls → TellsFirst mid (told new) (put_calls piece ++ open_calls) → TellsBoth (told old.other) (told new) (first_calls old) (rest_calls old)
-  rest_of mid new all first =
-      subst (λ (o : State D). TellsBoth (told o.other) (told new) (first_calls o) (rest_calls o)) is
-      (mid, all, subst (λ (l : List ℕ). TellsFirst mid (told new) (put_calls l ++ open_calls)) is_piece first)
+  rest_of : (shut new : D) → MakesAll told faults went s.other shut close_calls → TellsFirst told faults went shut new (put_calls piece ++ open_calls) → TellsBoth told faults went old.other new (first_calls old) (rest_calls old)
+  rest_of shut new all first =
+      subst (λ (o : State D). TellsBoth told faults went o.other new (first_calls o) (rest_calls o)) is
+      (record { mid = shut; before = all; first = subst (λ (l : List ℕ). TellsFirst told faults went shut new (put_calls l ++ open_calls)) is_piece first })
 
-  pub shut_closing : (new : D) → TellsFirst (told s.other) (told new) close_calls → TellsFirst (told old.other) (told new) (first_calls old)
-  shut_closing new first = subst (λ (o : State D). TellsFirst (told o.other) (told new) (first_calls o)) is first
+  pub shut_closing : (new : D) → TellsFirst told faults went s.other new close_calls → TellsFirst told faults went old.other new (first_calls old)
+  shut_closing new first = subst (λ (o : State D). TellsFirst told faults went o.other new (first_calls o)) is first
 
-  pub shut_putting : (shut new : D) → TellsAll (told s.other) (told shut) close_calls → TellsFirst (told shut) (told new) (put_calls piece) → TellsBoth (told old.other) (told new) (first_calls old) (rest_calls old)
-  shut_putting shut new all first = rest_of (told shut) new all (told_part (told shut) (told new) (put_calls piece) open_calls first)
+  pub shut_putting : (shut new : D) → MakesAll told faults went s.other shut close_calls → TellsFirst told faults went shut new (put_calls piece) → TellsBoth told faults went old.other new (first_calls old) (rest_calls old)
+  shut_putting shut new all first = rest_of shut new all (rest_putting shut new first)
 
-  pub shut_opening : (shut put new : D) → TellsAll (told s.other) (told shut) close_calls → TellsAll (told shut) (told put) (put_calls piece) → TellsFirst (told put) (told new) open_calls
-      → TellsBoth (told old.other) (told new) (first_calls old) (rest_calls old)
-  shut_opening shut put new all more first = rest_of (told shut) new all (told_rest (told shut) (told put) (told new) (put_calls piece) open_calls more first)
-
-  pub told_opening : (shut put new : D) → TellsAll (told s.other) (told shut) close_calls → TellsAll (told shut) (told put) (put_calls piece) → TellsFirst (told put) (told new) open_calls
-      → TellsFirst (told old.other) (told new) (all_calls old)
-  told_opening shut put new all more first =
-      first_of new (told_rest (told s.other) (told shut) (told new) close_calls (put_calls piece ++ open_calls) all (told_rest (told shut) (told put) (told new) (put_calls piece) open_calls more first))
+  pub shut_opening : (shut put new : D) → MakesAll told faults went s.other shut close_calls → MakesAll told faults went shut put (put_calls piece) → TellsFirst told faults went put new open_calls
+      → TellsBoth told faults went old.other new (first_calls old) (rest_calls old)
+  shut_opening shut put new all more first = rest_of shut new all (rest_opening shut put new more first)
 
   pub told_done : (shut put new x : D) → TellsAll (told s.other) (told shut) close_calls → TellsAll (told shut) (told put) (put_calls piece) → TellsAll (told put) (told new) open_calls → x ≡ new
       → TellsAll (told old.other) (told x) (all_calls old)

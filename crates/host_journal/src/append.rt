@@ -34,7 +34,7 @@ impl<D: Disk> Journal<D> {
         ensures end_err { OnErr result (self.new.end ≡ self.old.end) }
         ensures failed { OnErr result (is_ready self.new.pending ≡ false) }
         ensures told { OnOk result (TellsAll (D.told self.old.counting) (D.told self.new.counting) (append_calls self.old.end payload.now)) }
-        ensures told_first { OnErr result (TellsFirst (D.told self.old.counting) (D.told self.new.counting) (append_calls self.old.end payload.now)) }
+        ensures told_first { OnErr result (TellsFirst D.told D.disk_faults D.went self.old.counting self.new.counting (append_calls self.old.end payload.now)) }
         ensures later { D.disk_faults self.old.counting ≤ D.disk_faults self.new.counting }
         ensures calm { OnOk result (D.disk_faults self.new.counting ≡ D.disk_faults self.old.counting) }
         ensures cause { OnErr result (Rose (D.disk_faults self.old.counting) (D.disk_faults self.new.counting)) }
@@ -68,7 +68,7 @@ impl<D: Disk> Journal<D> {
         // So `reload` never answers that a record stands.
         ensures no_record { OnErr result ((pair : _) → has_record self.new.pending pair ≡ false) }
         ensures told { OnOk result (TellsAll (D.told self.old.counting) (D.told self.new.counting) (Cut (self.old.end + 1) ∷ Sync ∷ [])) }
-        ensures told_first { OnErr result (TellsFirst (D.told self.old.counting) (D.told self.new.counting) (Cut (self.old.end + 1) ∷ Sync ∷ [])) }
+        ensures told_first { OnErr result (TellsFirst D.told D.disk_faults D.went self.old.counting self.new.counting (Cut (self.old.end + 1) ∷ Sync ∷ [])) }
         ensures later { D.disk_faults self.old.counting ≤ D.disk_faults self.new.counting }
         ensures calm { OnOk result (D.disk_faults self.new.counting ≡ D.disk_faults self.old.counting) }
         ensures cause { OnErr result (Rose (D.disk_faults self.old.counting) (D.disk_faults self.new.counting)) }

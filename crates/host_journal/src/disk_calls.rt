@@ -19,7 +19,7 @@ pub fn write_and_sync<D: Disk>(disk: &mut D, at: u64, piece: &[u8]) -> Result<()
     ensures moments { D.premise → LeavesOnly D.moment D.left_since disk.old disk.new (PartAfter (Torn at (length piece.now)) (D.may_leave disk.old)) }
     ensures reach { OnOk result (at + length piece.now < 2 ^ 64) }
     ensures told { OnOk result (TellsAll (D.told disk.old) (D.told disk.new) (Write at piece.now ∷ Sync ∷ [])) }
-    ensures told_first { OnErr result (TellsFirst (D.told disk.old) (D.told disk.new) (Write at piece.now ∷ Sync ∷ [])) }
+    ensures told_first { OnErr result (TellsFirst D.told D.disk_faults D.went disk.old disk.new (Write at piece.now ∷ Sync ∷ [])) }
     ensures later { D.disk_faults disk.old ≤ D.disk_faults disk.new }
     ensures calm { OnOk result (D.disk_faults disk.new ≡ D.disk_faults disk.old) }
     ensures cause { OnErr result (Rose (D.disk_faults disk.old) (D.disk_faults disk.new)) }
@@ -38,7 +38,7 @@ pub fn cut_and_sync<D: Disk>(disk: &mut D, len: u64) -> Result<(), DiskFault>
     ensures images { D.premise → Follows (Shortened len) (D.may_leave disk.old) (D.may_leave disk.new) }
     ensures moments { D.premise → LeavesOnly D.moment D.left_since disk.old disk.new (PartAfter (Shortened len) (D.may_leave disk.old)) }
     ensures told { OnOk result (TellsAll (D.told disk.old) (D.told disk.new) (Cut len ∷ Sync ∷ [])) }
-    ensures told_first { OnErr result (TellsFirst (D.told disk.old) (D.told disk.new) (Cut len ∷ Sync ∷ [])) }
+    ensures told_first { OnErr result (TellsFirst D.told D.disk_faults D.went disk.old disk.new (Cut len ∷ Sync ∷ [])) }
     ensures later { D.disk_faults disk.old ≤ D.disk_faults disk.new }
     ensures calm { OnOk result (D.disk_faults disk.new ≡ D.disk_faults disk.old) }
     ensures cause { OnErr result (Rose (D.disk_faults disk.old) (D.disk_faults disk.new)) }
@@ -57,7 +57,7 @@ pub fn replace_rest<D: Disk>(disk: &mut D, piece: &[u8]) -> Result<(), DiskFault
     ensures moments { D.premise → LeavesOnly D.moment D.left_since disk.old disk.new (PartAfter KeepsHead (D.may_leave disk.old)) }
     ensures reach { OnOk result (9 + length piece.now < 2 ^ 64) }
     ensures told { OnOk result (TellsAll (D.told disk.old) (D.told disk.new) (Cut 9 ∷ Write 9 piece.now ∷ Sync ∷ [])) }
-    ensures told_first { OnErr result (TellsFirst (D.told disk.old) (D.told disk.new) (Cut 9 ∷ Write 9 piece.now ∷ Sync ∷ [])) }
+    ensures told_first { OnErr result (TellsFirst D.told D.disk_faults D.went disk.old disk.new (Cut 9 ∷ Write 9 piece.now ∷ Sync ∷ [])) }
     ensures later { D.disk_faults disk.old ≤ D.disk_faults disk.new }
     ensures calm { OnOk result (D.disk_faults disk.new ≡ D.disk_faults disk.old) }
     ensures cause { OnErr result (Rose (D.disk_faults disk.old) (D.disk_faults disk.new)) }
@@ -202,7 +202,7 @@ pub fn sync_both<D: Disk>(one: &mut D, other: &mut D) -> Result<(), DiskFault>
     ensures read_other { D.premise → IsRead D.seen D.may_leave D.moment D.left_since other.old other.new }
     ensures told_one { OnOk result (TellsAll (D.told one.old) (D.told one.new) (Sync ∷ [])) }
     ensures told_other { OnOk result (TellsAll (D.told other.old) (D.told other.new) (Sync ∷ [])) }
-    ensures told_err { OnErr result (TellsSyncs D.told one.old other.old one.new other.new) }
+    ensures told_err { OnErr result (TellsSyncs D.told D.disk_faults D.went one.old other.old one.new other.new) }
     ensures later_one { D.disk_faults one.old ≤ D.disk_faults one.new }
     ensures later_other { D.disk_faults other.old ≤ D.disk_faults other.new }
     ensures calm { OnOk result ((D.disk_faults one.new ≡ D.disk_faults one.old) × (D.disk_faults other.new ≡ D.disk_faults other.old)) }

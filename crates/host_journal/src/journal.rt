@@ -8,7 +8,7 @@ ghost use Rattle.host_journal.specs.Calls.{IsRead};
 ghost use Rattle.host_journal.specs.Format.{record_bytes, stands};
 ghost use Rattle.host_journal.specs.Front.{IsFrontOf};
 ghost use Rattle.host_journal.specs.Pair.{AreGatesOf, number_of, pair_of};
-ghost use Rattle.host_journal.specs.State.{is_ready, stored, opened_as, EachImage, IsAt, IsOurs, SameButRoom, first_disk, second_disk};
+ghost use Rattle.host_journal.specs.State.{is_ready, stored, opened_as, EachImage, IsAt, IsOurs, IsSound, SameButRoom, first_disk, second_disk};
 ghost use Rattle.host_journal.specs.Told.{TellsAll, TellsSyncs};
 
 use crate::disk_calls::{has_byte_at, read_head, read_rest};
@@ -91,10 +91,11 @@ impl<D: Disk> Journal<D> {
         ensures refused_first { D.premise → IfErr result (λ f. IsRead D.seen D.may_leave D.moment D.left_since first f.first) }
         ensures refused_second { D.premise → IfErr result (λ f. IsRead D.seen D.may_leave D.moment D.left_since second f.second) }
 
-        // It makes two calls that are told, the two syncs.
+        // It makes two calls that are told, the two syncs; where a fault was met, up to that.
         ensures told_first { IfOk result (λ r. TellsAll (D.told first) (D.told (first_disk r.0)) (Sync ∷ [])) }
         ensures told_second { IfOk result (λ r. TellsAll (D.told second) (D.told (second_disk r.0)) (Sync ∷ [])) }
-        ensures told_err { IfErr result (λ f. TellsSyncs D.told first second f.first f.second) }
+        ensures told_err { IfErr result (λ f. f.reason ≡ OpenReason.DiskFault → TellsSyncs D.told D.disk_faults D.went first second f.first f.second) }
+        ensures told_refused { IfErr result (λ f. (f.reason ≡ OpenReason.DiskFault → ⊥) → TellsAll (D.told first) (D.told f.first) (Sync ∷ []) × TellsAll (D.told second) (D.told f.second) (Sync ∷ [])) }
 
         // Exactly where the disks stand for nothing.
         ensures place { D.premise → IfErr result (λ f. (place : _) → f.reason ≡ OpenReason.NotAJournal place → pair_of (D.seen first) (D.seen second) ≡ Err place) }
@@ -184,6 +185,7 @@ impl<D: Disk> Journal<D> {
         ensures place { D.premise → IsTrue (is_ready self.now.pending) → IsAt self.now (stored D.seen self.now) }
         ensures durable { D.premise → IsTrue (is_ready self.now.pending) → EachImage D.may_leave self.now (λ pair. pair ≡ stored D.seen self.now) }
         ensures order { self.now.start ≤ self.now.end }
+        ensures sound { D.premise → IsSound D.seen D.may_leave self.now }
     {
         let _end = self.end;
     }
@@ -262,9 +264,9 @@ fn read_disks<D: Disk>(
     ensures fixed { D.premise → OnOk result (Only (D.seen first.new) (D.may_leave first.new) × Only (D.seen second.new) (D.may_leave second.new)) }
     ensures read_first { D.premise → IsRead D.seen D.may_leave D.moment D.left_since first.old first.new }
     ensures read_second { D.premise → IsRead D.seen D.may_leave D.moment D.left_since second.old second.new }
-    ensures told_first { OnOk result (TellsAll (D.told first.old) (D.told first.new) (Sync ∷ [])) }
-    ensures told_second { OnOk result (TellsAll (D.told second.old) (D.told second.new) (Sync ∷ [])) }
-    ensures told_err { OnErr result (TellsSyncs D.told first.old second.old first.new second.new) }
+    ensures told_first { (IsErrOf result OpenReason.DiskFault → ⊥) → TellsAll (D.told first.old) (D.told first.new) (Sync ∷ []) }
+    ensures told_second { (IsErrOf result OpenReason.DiskFault → ⊥) → TellsAll (D.told second.old) (D.told second.new) (Sync ∷ []) }
+    ensures told_err { IsErrOf result OpenReason.DiskFault → TellsSyncs D.told D.disk_faults D.went first.old second.old first.new second.new }
     ensures place { D.premise → (place : _) → IsErrOf result (OpenReason.NotAJournal place) → pair_of (D.seen first.old) (D.seen second.old) ≡ Err place }
     ensures fault { IsErrOf result OpenReason.DiskFault → Rose (D.disk_faults first.old) (D.disk_faults first.new) ⊎ Rose (D.disk_faults second.old) (D.disk_faults second.new) }
     ensures later_first { D.disk_faults first.old ≤ D.disk_faults first.new }

@@ -46,7 +46,7 @@ impl<D: Disk> Journal<D> {
         ensures room { self.new.room ≡ self.old.room }
         ensures told_first { OnOk result (TellsAll (D.told (first_disk self.old)) (D.told (first_disk self.new)) (Sync ∷ [])) }
         ensures told_second { OnOk result (TellsAll (D.told (second_disk self.old)) (D.told (second_disk self.new)) (Sync ∷ [])) }
-        ensures told_err { OnErr result (TellsSyncs D.told (first_disk self.old) (second_disk self.old) (first_disk self.new) (second_disk self.new)) }
+        ensures told_err { OnErr result (TellsSyncs D.told D.disk_faults D.went (first_disk self.old) (second_disk self.old) (first_disk self.new) (second_disk self.new)) }
         ensures later { (D.disk_faults (first_disk self.old) ≤ D.disk_faults (first_disk self.new)) × (D.disk_faults (second_disk self.old) ≤ D.disk_faults (second_disk self.new)) }
         ensures calm { OnOk result ((D.disk_faults (first_disk self.new) ≡ D.disk_faults (first_disk self.old)) × (D.disk_faults (second_disk self.new) ≡ D.disk_faults (second_disk self.old))) }
         ensures cause { OnErr result (Rose (D.disk_faults (first_disk self.old)) (D.disk_faults (first_disk self.new)) ⊎ Rose (D.disk_faults (second_disk self.old)) (D.disk_faults (second_disk self.new))) }
@@ -98,7 +98,7 @@ fn find_stood<D: Disk>(
     ensures read_other { D.premise → IsRead D.seen D.may_leave D.moment D.left_since other.old other.new }
     ensures told { OnOk result (TellsAll (D.told counting.old) (D.told counting.new) (Sync ∷ [])) }
     ensures told_other { OnOk result (TellsAll (D.told other.old) (D.told other.new) (Sync ∷ [])) }
-    ensures told_err { OnErr result (TellsSyncs D.told (if second then other.old else counting.old) (if second then counting.old else other.old) (if second then other.new else counting.new) (if second then counting.new else other.new)) }
+    ensures told_err { OnErr result (TellsSyncs D.told D.disk_faults D.went (if second then other.old else counting.old) (if second then counting.old else other.old) (if second then other.new else counting.new) (if second then counting.new else other.new)) }
     ensures later { D.disk_faults counting.old ≤ D.disk_faults counting.new }
     ensures later_other { D.disk_faults other.old ≤ D.disk_faults other.new }
     ensures calm { OnOk result ((D.disk_faults counting.new ≡ D.disk_faults counting.old) × (D.disk_faults other.new ≡ D.disk_faults other.old)) }
@@ -117,7 +117,7 @@ fn sync_in_order<D: Disk>(second: bool, counting: &mut D, other: &mut D) -> Resu
     ensures read_other { D.premise → IsRead D.seen D.may_leave D.moment D.left_since other.old other.new }
     ensures told { OnOk result (TellsAll (D.told counting.old) (D.told counting.new) (Sync ∷ [])) }
     ensures told_other { OnOk result (TellsAll (D.told other.old) (D.told other.new) (Sync ∷ [])) }
-    ensures told_err { OnErr result (TellsSyncs D.told (if second then other.old else counting.old) (if second then counting.old else other.old) (if second then other.new else counting.new) (if second then counting.new else other.new)) }
+    ensures told_err { OnErr result (TellsSyncs D.told D.disk_faults D.went (if second then other.old else counting.old) (if second then counting.old else other.old) (if second then other.new else counting.new) (if second then counting.new else other.new)) }
     ensures later { D.disk_faults counting.old ≤ D.disk_faults counting.new }
     ensures later_other { D.disk_faults other.old ≤ D.disk_faults other.new }
     ensures calm { OnOk result ((D.disk_faults counting.new ≡ D.disk_faults counting.old) × (D.disk_faults other.new ≡ D.disk_faults other.old)) }

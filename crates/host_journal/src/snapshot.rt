@@ -56,10 +56,10 @@ impl<D: Disk> Journal<D> {
         ensures no_record { OnErr result ((pair : _) → has_record self.new.pending pair ≡ false) }
         // What is then known of the head gate of the disk that doesn't count.
         ensures shut { OnOk result (self.new.shut ≡ false) }
-        ensures shut_err { OnErr result (((self.new.shut ≡ self.old.shut) × TellsFirst (D.told self.old.other) (D.told self.new.other) (close_calls self.old.shut))
-            ⊎ ((self.new.shut ≡ true) × TellsBoth (D.told self.old.other) (D.told self.new.other) (close_calls self.old.shut) (fill_calls (self.old.generation + 1) image.bytes))) }
+        ensures shut_err { OnErr result (((self.new.shut ≡ self.old.shut) × TellsFirst D.told D.disk_faults D.went self.old.other self.new.other (close_calls self.old.shut))
+            ⊎ ((self.new.shut ≡ true) × TellsBoth D.told D.disk_faults D.went self.old.other self.new.other (close_calls self.old.shut) (fill_calls (self.old.generation + 1) image.bytes))) }
         ensures told { OnOk result (TellsAll (D.told self.old.other) (D.told self.new.counting) (snapshot_calls self.old.shut (self.old.generation + 1) image.bytes)) }
-        ensures told_first { OnErr result (TellsFirst (D.told self.old.other) (D.told self.new.other) (snapshot_calls self.old.shut (self.old.generation + 1) image.bytes)) }
+        ensures told_first { OnErr result (TellsFirst D.told D.disk_faults D.went self.old.other self.new.other (snapshot_calls self.old.shut (self.old.generation + 1) image.bytes)) }
         ensures calm { OnOk result (D.disk_faults self.new.counting ≡ D.disk_faults self.old.other) }
         ensures cause { OnErr result (Rose (D.disk_faults self.old.other) (D.disk_faults self.new.other)) }
         ensures went { WentOn D.went self.old self.new }
@@ -90,7 +90,7 @@ fn close_head<D: Disk>(disk: &mut D, shut: bool) -> Result<(), DiskFault>
     ensures images { D.premise → Follows (Torn 8 (length (closing shut))) (D.may_leave disk.old) (D.may_leave disk.new) }
     ensures moments { D.premise → LeavesOnly D.moment D.left_since disk.old disk.new (PartAfter (Torn 8 (length (closing shut))) (D.may_leave disk.old)) }
     ensures told { OnOk result (TellsAll (D.told disk.old) (D.told disk.new) (Write 8 (closing shut) ∷ Sync ∷ [])) }
-    ensures told_first { OnErr result (TellsFirst (D.told disk.old) (D.told disk.new) (Write 8 (closing shut) ∷ Sync ∷ [])) }
+    ensures told_first { OnErr result (TellsFirst D.told D.disk_faults D.went disk.old disk.new (Write 8 (closing shut) ∷ Sync ∷ [])) }
     ensures later { D.disk_faults disk.old ≤ D.disk_faults disk.new }
     ensures calm { OnOk result (D.disk_faults disk.new ≡ D.disk_faults disk.old) }
     ensures cause { OnErr result (Rose (D.disk_faults disk.old) (D.disk_faults disk.new)) }

@@ -1,5 +1,7 @@
-use Rattle.std.proofs.Common.{sym, ◌∙◌}
+use Rattle.std.proofs.Common.{inr, refl, sym, ◌∙◌}
+use Rattle.host_journal.specs.declared.fault.OpenReason.{OpenReason}
 use Rattle.host_journal.proofs.ChoiceLemmas.{pair_read}
+use Rattle.host_journal.proofs.ToldLemmas.{behind_syncs, first_sync, handed_on}
 use Rattle.host_journal.proofs.journal.read_disks.Goals as goal
 
 pub returns-in-Err-2-clause-place : goal.returns-in-Err-2-clause-place
@@ -15,3 +17,26 @@ returns-clause-pair g c p =
     (c.in_ok-one.ensures.front p) (c.in_ok-two.ensures.front p) (sym c.in-Ok.is ∙ c.choose.ensures) (c.in_ok-one.ensures.read p).same (c.in_ok-two.ensures.read p).same
     (c.deref.ensures.value ∙ c.in_ok-bytes.ensures.bytes p) c.in_ok-counted.ensures.counted
     ∙ c.in-Ok-2.is
+
+pub returns-in_err-one-clause-told_err : goal.returns-in_err-one-clause-told_err
+returns-in_err-one-clause-told_err g c _ = first_sync g.D.Disk.told g.D.Disk.disk_faults g.D.Disk.went g.met.D.Disk.went_refl g.met.D.Disk.went_trans c.args.first.now c.args.second.now c.read_front.new.disk c.read_front.ensures.told c.in_err-one.ensures.cause c.read_front.ensures.went
+
+pub returns-in_err-two-clause-told_err : goal.returns-in_err-two-clause-told_err
+returns-in_err-two-clause-told_err g c _ = inr (record {
+  mid = c.read_front.new.disk;
+  before = record { told = c.read_front.ensures.told; calm = c.in_ok-one.ensures.calm; went = c.read_front.ensures.went };
+  still = refl;
+  told = c.read_front-2.ensures.told;
+  rose = inr c.in_err-two.ensures.cause;
+  went_one = g.met.D.Disk.went_refl c.read_front.new.disk;
+  went_other = c.read_front-2.ensures.went;
+})
+
+pub returns-in_err-bytes-clause-told_err : goal.returns-in_err-bytes-clause-told_err
+returns-in_err-bytes-clause-told_err g c is =
+    behind_syncs g.D.Disk.told g.D.Disk.disk_faults g.D.Disk.went g.met.D.Disk.went_refl g.met.D.Disk.went_trans c.args.first.now c.args.second.now c.read_front.new.disk c.read_front-2.new.disk c.read_either.new.first c.read_either.new.second
+    (record { told = c.read_front.ensures.told; calm = c.in_ok-one.ensures.calm; went = c.read_front.ensures.went })
+    (record { told = c.read_front-2.ensures.told; calm = c.in_ok-two.ensures.calm; went = c.read_front-2.ensures.went })
+    c.read_either.ensures.told_first c.read_either.ensures.told_second
+    (c.read_either.ensures.fault (handed_on c.from_residual-in_err-bytes.result c.read_either.result c.in_err-bytes.field-0.0 OpenReason.DiskFault c.from_residual-in_err-bytes.ensures.1 c.in_err-bytes.was is))
+    c.read_either.ensures.went_first c.read_either.ensures.went_second

@@ -185,31 +185,31 @@ returns-clause-durable g c p =
 
 pub returns-in_err-close_head-clause-told_first : goal.returns-in_err-close_head-clause-told_first
 returns-in_err-close_head-clause-told_first g c =
-    on_err _ c.from_residual.result (told_closing g.D.Disk.told _ _ c.self.view_is c.args.image.bytes c.put_image.new.buffer.items c.put_image.ensures.items c.close_head.new.disk c.in_err-close_head.ensures.told_first)
+    on_err _ c.from_residual.result (told_closing g.D.Disk.told g.D.Disk.disk_faults g.D.Disk.went g.met.D.Disk.went_refl g.met.D.Disk.went_trans _ _ c.self.view_is c.args.image.bytes c.put_image.new.buffer.items c.put_image.ensures.items c.close_head.new.disk c.in_err-close_head.ensures.told_first)
 
 pub returns-in_err-replace_rest-clause-told_first : goal.returns-in_err-replace_rest-clause-told_first
 returns-in_err-replace_rest-clause-told_first g c =
-    on_err _ c.from_residual-in_err-replace_rest.result (told_putting g.D.Disk.told _ _ c.self.view_is c.args.image.bytes c.deref.result.now (c.deref.ensures.value ∙ c.put_image.ensures.items) c.close_head.new.disk c.replace_rest.new.disk c.in_ok-close_head.ensures.told c.in_err-replace_rest.ensures.told_first)
+    on_err _ c.from_residual-in_err-replace_rest.result (told_putting g.D.Disk.told g.D.Disk.disk_faults g.D.Disk.went g.met.D.Disk.went_refl g.met.D.Disk.went_trans _ _ c.self.view_is c.args.image.bytes c.deref.result.now (c.deref.ensures.value ∙ c.put_image.ensures.items) c.close_head.new.disk c.replace_rest.new.disk (record { told = c.in_ok-close_head.ensures.told; calm = c.in_ok-close_head.ensures.calm; went = c.close_head.ensures.went }) c.in_err-replace_rest.ensures.told_first)
 
 pub returns-in_err-write_and_sync-clause-told_first : goal.returns-in_err-write_and_sync-clause-told_first
 returns-in_err-write_and_sync-clause-told_first g c =
-    on_err _ c.from_residual-in_err-write_and_sync.result (told_opening g.D.Disk.told _ _ c.self.view_is c.args.image.bytes c.deref.result.now (c.deref.ensures.value ∙ c.put_image.ensures.items) c.close_head.new.disk c.replace_rest.new.disk c.write_and_sync.new.disk c.in_ok-close_head.ensures.told c.in_ok-replace_rest.ensures.told c.in_err-write_and_sync.ensures.told_first)
+    on_err _ c.from_residual-in_err-write_and_sync.result (told_opening g.D.Disk.told g.D.Disk.disk_faults g.D.Disk.went g.met.D.Disk.went_refl g.met.D.Disk.went_trans _ _ c.self.view_is c.args.image.bytes c.deref.result.now (c.deref.ensures.value ∙ c.put_image.ensures.items) c.close_head.new.disk c.replace_rest.new.disk c.write_and_sync.new.disk (record { told = c.in_ok-close_head.ensures.told; calm = c.in_ok-close_head.ensures.calm; went = c.close_head.ensures.went }) (record { told = c.in_ok-replace_rest.ensures.told; calm = c.in_ok-replace_rest.ensures.calm; went = c.replace_rest.ensures.went }) c.in_err-write_and_sync.ensures.told_first)
 
 pub returns-clause-told : goal.returns-clause-told
 returns-clause-told g c =
-    told_done g.D.Disk.told _ _ c.self.view_is c.args.image.bytes c.deref.result.now (c.deref.ensures.value ∙ c.put_image.ensures.items) c.close_head.new.disk c.replace_rest.new.disk c.write_and_sync.new.disk c.swap.new.x c.in_ok-close_head.ensures.told c.in_ok-replace_rest.ensures.told c.in_ok-write_and_sync.ensures.told c.swap.ensures.x_after
+    told_done g.D.Disk.told g.D.Disk.disk_faults g.D.Disk.went g.met.D.Disk.went_refl g.met.D.Disk.went_trans _ _ c.self.view_is c.args.image.bytes c.deref.result.now (c.deref.ensures.value ∙ c.put_image.ensures.items) c.close_head.new.disk c.replace_rest.new.disk c.write_and_sync.new.disk c.swap.new.x c.in_ok-close_head.ensures.told c.in_ok-replace_rest.ensures.told c.in_ok-write_and_sync.ensures.told c.swap.ensures.x_after
 
 pub returns-in_err-close_head-clause-shut_err : goal.returns-in_err-close_head-clause-shut_err
 returns-in_err-close_head-clause-shut_err g c =
-    on_err _ c.from_residual.result (inl (ap (λ (s : State _). s.shut) c.self.view_is, shut_closing g.D.Disk.told _ _ c.self.view_is c.args.image.bytes c.put_image.new.buffer.items c.put_image.ensures.items c.close_head.new.disk c.in_err-close_head.ensures.told_first))
+    on_err _ c.from_residual.result (inl (ap (λ (s : State _). s.shut) c.self.view_is, shut_closing g.D.Disk.told g.D.Disk.disk_faults g.D.Disk.went g.met.D.Disk.went_refl g.met.D.Disk.went_trans _ _ c.self.view_is c.args.image.bytes c.put_image.new.buffer.items c.put_image.ensures.items c.close_head.new.disk c.in_err-close_head.ensures.told_first))
 
 pub returns-in_err-replace_rest-clause-shut_err : goal.returns-in_err-replace_rest-clause-shut_err
 returns-in_err-replace_rest-clause-shut_err g c =
-    on_err _ c.from_residual-in_err-replace_rest.result (inr (refl, shut_putting g.D.Disk.told _ _ c.self.view_is c.args.image.bytes c.deref.result.now (c.deref.ensures.value ∙ c.put_image.ensures.items) c.close_head.new.disk c.replace_rest.new.disk c.in_ok-close_head.ensures.told c.in_err-replace_rest.ensures.told_first))
+    on_err _ c.from_residual-in_err-replace_rest.result (inr (refl, shut_putting g.D.Disk.told g.D.Disk.disk_faults g.D.Disk.went g.met.D.Disk.went_refl g.met.D.Disk.went_trans _ _ c.self.view_is c.args.image.bytes c.deref.result.now (c.deref.ensures.value ∙ c.put_image.ensures.items) c.close_head.new.disk c.replace_rest.new.disk (record { told = c.in_ok-close_head.ensures.told; calm = c.in_ok-close_head.ensures.calm; went = c.close_head.ensures.went }) c.in_err-replace_rest.ensures.told_first))
 
 pub returns-in_err-write_and_sync-clause-shut_err : goal.returns-in_err-write_and_sync-clause-shut_err
 returns-in_err-write_and_sync-clause-shut_err g c =
-    on_err _ c.from_residual-in_err-write_and_sync.result (inr (refl, shut_opening g.D.Disk.told _ _ c.self.view_is c.args.image.bytes c.deref.result.now (c.deref.ensures.value ∙ c.put_image.ensures.items) c.close_head.new.disk c.replace_rest.new.disk c.write_and_sync.new.disk c.in_ok-close_head.ensures.told c.in_ok-replace_rest.ensures.told c.in_err-write_and_sync.ensures.told_first))
+    on_err _ c.from_residual-in_err-write_and_sync.result (inr (refl, shut_opening g.D.Disk.told g.D.Disk.disk_faults g.D.Disk.went g.met.D.Disk.went_refl g.met.D.Disk.went_trans _ _ c.self.view_is c.args.image.bytes c.deref.result.now (c.deref.ensures.value ∙ c.put_image.ensures.items) c.close_head.new.disk c.replace_rest.new.disk c.write_and_sync.new.disk (record { told = c.in_ok-close_head.ensures.told; calm = c.in_ok-close_head.ensures.calm; went = c.close_head.ensures.went }) (record { told = c.in_ok-replace_rest.ensures.told; calm = c.in_ok-replace_rest.ensures.calm; went = c.replace_rest.ensures.went }) c.in_err-write_and_sync.ensures.told_first))
 
 pub returns-in_err-write_and_sync-clause-went : goal.returns-in_err-write_and_sync-clause-went
 returns-in_err-write_and_sync-clause-went g c =
