@@ -1,58 +1,41 @@
 -- What two disks tell, call by call.
-use Rattle.std.proofs.Common.{◌≡◌, ◌≤◌, ℕ, ◌+◌, Bool, true, false, not, if◌then◌else◌, List, [], ◌∷◌, ◌++◌, length, take, append-nil, append_assoc, arith, ap, refl, sym, subst, length-append, ◌∙◌}
-use Rattle.std.specs.Prelude.{IsErrAnd, OnErr, Option, Some, None, Result, Ok, Err}
-use Rattle.std.proofs.lemmas.List.{length-map, take-append-le, take-map}
-use Rattle.std.proofs.Math.Seq.{take-append-add}
+use Rattle.std.proofs.Common.{◌≡◌, inl, inr, ℕ, Bool, true, false, not, if◌then◌else◌, List, [], ◌∷◌, ◌++◌, append_assoc, ap, refl, sym, subst, ◌∙◌}
+use Rattle.std.specs.Prelude.{Option}
 use Rattle.ps_disks.specs.declared.disk.DiskCall.{DiskCall}
 use Rattle.host_journal.specs.Told.{TellsAll, TellsFirst}
-use Rattle.machine_keep.specs.Calls.{PairCalls, TellsPair, TellsSome, all_on, first_calls, second_calls}
+use Rattle.host_journal.proofs.CallLemmas.{tells_on}
+use Rattle.host_journal.proofs.ToldLemmas.{tells_nothing}
+use Rattle.machine_keep.specs.Calls.{MakesPair, PairCalls, TellsPair, TellsSome, all_on, first_calls, second_calls}
 
--- a fact that holds in any case holds where the answer is `Err`
-pub on_err : {T E : Type 0} (P : Type 0) (r : Result T E) → P → OnErr r P
-on_err P (Ok x) p = tt
-on_err P (Err e) p = p
-
--- a fault that is handed on
-pub handed_on : {T A E : Type 0} (r : Result T E) (q : Result A E) (x z : E) → IsErrAnd r (λ y. y ≡ x) → q ≡ Err x → r ≡ Err z → q ≡ Err z
-handed_on (Ok t) q x z is was e = absurd is
-handed_on (Err y) q x z is was e = cc
-
-tells_on : (a b c : Option (List DiskCall)) (xs ys : List DiskCall) → TellsAll a b xs → TellsAll b c ys → TellsAll a c (xs ++ ys)
-tells_on a b None xs ys one two = tt
-tells_on a (Some mid) (Some calls) xs ys one two =
-    let same : mid ≡ two.0 = cc two.1 in
-    (one.0, one.1, two.2 ∙ ap (λ (l : List DiskCall). l ++ ys) (sym same ∙ one.2) ∙ append_assoc one.0 xs ys)
-tells_on a None (Some calls) xs ys one two = absurd (cc two.1)
-
-tells_nothing : (o : Option (List DiskCall)) → TellsAll o o []
-tells_nothing None = tt
-tells_nothing (Some calls) = (calls, refl, sym (append-nil calls))
-
-first_joined : (xs ys : PairCalls) → first_calls (xs ++ ys) ≡ first_calls xs ++ first_calls ys
+pub first_joined : (xs ys : PairCalls) → first_calls (xs ++ ys) ≡ first_calls xs ++ first_calls ys
 first_joined [] ys = refl
 first_joined ((true, x) ∷ xs) ys = first_joined xs ys
 first_joined ((false, x) ∷ xs) ys = ap (λ l. x ∷ l) (first_joined xs ys)
 
-second_joined : (xs ys : PairCalls) → second_calls (xs ++ ys) ≡ second_calls xs ++ second_calls ys
+pub second_joined : (xs ys : PairCalls) → second_calls (xs ++ ys) ≡ second_calls xs ++ second_calls ys
 second_joined [] ys = refl
 second_joined ((true, x) ∷ xs) ys = ap (λ l. x ∷ l) (second_joined xs ys)
 second_joined ((false, x) ∷ xs) ys = second_joined xs ys
 
-first_only : (calls : List DiskCall) → first_calls (all_on false calls) ≡ calls
+pub first_only : (calls : List DiskCall) → first_calls (all_on false calls) ≡ calls
 first_only [] = refl
 first_only (c ∷ cs) = ap (λ l. c ∷ l) (first_only cs)
 
-first_none : (calls : List DiskCall) → first_calls (all_on true calls) ≡ []
+pub first_none : (calls : List DiskCall) → first_calls (all_on true calls) ≡ []
 first_none [] = refl
 first_none (c ∷ cs) = first_none cs
 
-second_only : (calls : List DiskCall) → second_calls (all_on true calls) ≡ calls
+pub second_only : (calls : List DiskCall) → second_calls (all_on true calls) ≡ calls
 second_only [] = refl
 second_only (c ∷ cs) = ap (λ l. c ∷ l) (second_only cs)
 
-second_none : (calls : List DiskCall) → second_calls (all_on false calls) ≡ []
+pub second_none : (calls : List DiskCall) → second_calls (all_on false calls) ≡ []
 second_none [] = refl
 second_none (c ∷ cs) = second_none cs
+
+pub all_joined : (side : Bool) (xs ys : List DiskCall) → all_on side (xs ++ ys) ≡ all_on side xs ++ all_on side ys
+all_joined side [] ys = refl
+all_joined side (x ∷ xs) ys = ap (λ (l : PairCalls). (side, x) ∷ l) (all_joined side xs ys)
 
 module _ {D : Type 0} (told : D → Option (List DiskCall)) where
   -- no call was made
@@ -70,19 +53,6 @@ module _ {D : Type 0} (told : D → Option (List DiskCall)) where
   tells_other false counting other new calls all = (subst (TellsAll (told counting) (told counting)) (sym (first_none calls)) (tells_nothing (told counting)), subst (TellsAll (told other) (told new)) (sym (second_only calls)) all)
   tells_other true counting other new calls all = (subst (TellsAll (told other) (told new)) (sym (first_only calls)) all, subst (TellsAll (told counting) (told counting)) (sym (second_none calls)) (tells_nothing (told counting)))
 
-  some_of : (side : Bool) (first second first_now second_now : D) (calls : List DiskCall) (n : ℕ) → 1 ≤ n → n ≤ length calls
-      → TellsPair told first second first_now second_now (all_on side (take n calls)) → TellsSome told first second first_now second_now (all_on side calls)
-  some_of side first second first_now second_now calls n least most tells =
-      (n, least, omega (arith, most, length-map {B = Bool × DiskCall} calls (λ c. (side, c))), subst (TellsPair told first second first_now second_now) (sym (take-map {Y = Bool × DiskCall} (λ c. (side, c)) n calls)) tells)
-
-  pub some_counting : (side : Bool) (counting other new : D) (calls : List DiskCall) → TellsFirst (told counting) (told new) calls
-      → TellsSome told (if side then other else counting) (if side then counting else other) (if side then other else new) (if side then new else other) (all_on side calls)
-  some_counting side counting other new calls first = some_of side _ _ _ _ calls first.0 first.1 first.2 (tells_counting side counting other new (take first.0 calls) first.3)
-
-  pub some_other : (side : Bool) (counting other new : D) (calls : List DiskCall) → TellsFirst (told other) (told new) calls
-      → TellsSome told (if side then other else counting) (if side then counting else other) (if side then new else counting) (if side then counting else new) (all_on (not side) calls)
-  some_other side counting other new calls first = some_of (not side) _ _ _ _ calls first.0 first.1 first.2 (tells_other side counting other new (take first.0 calls) first.3)
-
   -- one run after another
   pub tells_both : (a b c d e f : D) (xs ys : PairCalls) → TellsPair told a b c d xs → TellsPair told c d e f ys → TellsPair told a b e f (xs ++ ys)
   tells_both a b c d e f xs ys one two = (
@@ -90,15 +60,73 @@ module _ {D : Type 0} (told : D → Option (List DiskCall)) where
     subst (TellsAll (told b) (told f)) (sym (second_joined xs ys)) (tells_on (told b) (told d) (told f) (second_calls xs) (second_calls ys) one.1 two.1),
   )
 
+module _ {D : Type 0} (told : D → Option (List DiskCall)) (faults : D → ℕ) (went : D → D → Type 0) (went_refl : (disk : D) → went disk disk) (went_trans : (a b c : D) → went a b → went b c → went a c) where
+  -- calls on one of the two disks, up to the one that failed
+  pub some_on : (side : Bool) (one still new : D) (calls : List DiskCall) → TellsFirst told faults went one new calls
+      → TellsSome told faults went (if side then still else one) (if side then one else still) (if side then still else new) (if side then new else still) (all_on side calls)
+  some_on false one still new calls first = record {
+    made = all_on false first.made;
+    last = (false, first.failed);
+    rest = all_on false first.rest;
+    split = ap (all_on false) first.split ∙ all_joined false first.made (first.failed ∷ first.rest);
+    first_mid = first.mid;
+    second_mid = still;
+    before = record { told = tells_counting told false one still first.mid first.made first.before.told; calm = (first.before.calm, refl); went = (first.before.went, went_refl still) };
+    told = tells_counting told false first.mid still new (first.failed ∷ []) first.told;
+    rose = inl first.rose;
+    went = (first.went, went_refl still);
+  }
+  some_on true one still new calls first = record {
+    made = all_on true first.made;
+    last = (true, first.failed);
+    rest = all_on true first.rest;
+    split = ap (all_on true) first.split ∙ all_joined true first.made (first.failed ∷ first.rest);
+    first_mid = still;
+    second_mid = first.mid;
+    before = record { told = tells_counting told true one still first.mid first.made first.before.told; calm = (refl, first.before.calm); went = (went_refl still, first.before.went) };
+    told = tells_counting told true first.mid still new (first.failed ∷ []) first.told;
+    rose = inr first.rose;
+    went = (went_refl still, first.went);
+  }
+
+  pub some_other : (side : Bool) (counting other new : D) (calls : List DiskCall) → TellsFirst told faults went other new calls
+      → TellsSome told faults went (if side then other else counting) (if side then counting else other) (if side then new else counting) (if side then counting else new) (all_on (not side) calls)
+  some_other false counting other new calls first = some_on true other counting new calls first
+  some_other true counting other new calls first = some_on false other counting new calls first
+
+  makes_both : (a b c d e f : D) (xs ys : PairCalls) → MakesPair told faults went a b c d xs → MakesPair told faults went c d e f ys → MakesPair told faults went a b e f (xs ++ ys)
+  makes_both a b c d e f xs ys one two = record {
+    told = tells_both told a b c d e f xs ys one.told two.told;
+    calm = (two.calm.0 ∙ one.calm.0, two.calm.1 ∙ one.calm.1);
+    went = (went_trans a c e one.went.0 two.went.0, went_trans b d f one.went.1 two.went.1);
+  }
+
   -- all of the first run, and some of the second
-  pub some_later : (a b c d e f : D) (xs ys : PairCalls) → TellsPair told a b c d xs → TellsSome told c d e f ys → TellsSome told a b e f (xs ++ ys)
-  some_later a b c d e f xs ys one two = (
-    length xs + two.0,
-    omega (arith, two.1),
-    omega (arith, two.2, length-append xs ys),
-    subst (TellsPair told a b e f) (sym (take-append-add xs ys two.0)) (tells_both a b c d e f xs (take two.0 ys) one two.3),
-  )
+  pub some_later : (a b c d e f : D) (xs ys : PairCalls) → MakesPair told faults went a b c d xs → TellsSome told faults went c d e f ys → TellsSome told faults went a b e f (xs ++ ys)
+  some_later a b c d e f xs ys one two = record {
+    made = xs ++ two.made;
+    last = two.last;
+    rest = two.rest;
+    split = ap (λ (l : PairCalls). xs ++ l) two.split ∙ sym (append_assoc xs two.made (two.last ∷ two.rest));
+    first_mid = two.first_mid;
+    second_mid = two.second_mid;
+    before = makes_both a b c d two.first_mid two.second_mid xs two.made one two.before;
+    told = two.told;
+    rose = two.rose;
+    went = two.went;
+  }
 
   -- some of the first run
-  pub some_early : (a b c d : D) (xs ys : PairCalls) → TellsSome told a b c d xs → TellsSome told a b c d (xs ++ ys)
-  some_early a b c d xs ys one = (one.0, one.1, omega (arith, one.2, length-append xs ys), subst (TellsPair told a b c d) (sym (take-append-le one.0 xs ys one.2)) one.3)
+  pub some_early : (a b c d : D) (xs ys : PairCalls) → TellsSome told faults went a b c d xs → TellsSome told faults went a b c d (xs ++ ys)
+  some_early a b c d xs ys one = record {
+    made = one.made;
+    last = one.last;
+    rest = one.rest ++ ys;
+    split = ap (λ (l : PairCalls). l ++ ys) one.split ∙ append_assoc one.made (one.last ∷ one.rest) ys;
+    first_mid = one.first_mid;
+    second_mid = one.second_mid;
+    before = one.before;
+    told = one.told;
+    rose = one.rose;
+    went = one.went;
+  }

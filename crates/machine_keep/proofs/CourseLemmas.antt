@@ -1,20 +1,19 @@
 -- The course of a call of a kept machine, from the clauses of the journal's calls.
-use Rattle.std.proofs.Common.{◌≡◌, ◌⊎◌, inl, inr, ℕ, ◌+◌, ◌-◌, Bool, true, false, not, if◌then◌else◌, List, [], ◌∷◌, length, arith, ap, refl, sym, subst, ◌∙◌}
-use Rattle.std.specs.Prelude.{IfErr, IfOk, Option, Some, None, Result, Ok, Err}
+use Rattle.std.proofs.Common.{◌≡◌, inl, inr, ℕ, ◌+◌, ◌-◌, Bool, true, false, not, if◌then◌else◌, List, [], ◌∷◌, length, ap, refl, sym, subst, ◌∙◌}
+use Rattle.std.specs.Prelude.{IfOk, Option, Some, None, Result, Ok, Err}
 use Rattle.ps_ports.specs.Causes.{raised}
 use Rattle.ps_disks.specs.declared.disk.DiskCall.{DiskCall}
 use Rattle.ps_disks.specs.declared.disk.DiskCall.TheVariants.{Sync}
 use Rattle.host_journal.specs.State.{State, IsAt, KeepsPlace, SameButRoom, first_disk, has_record, is_ready, opened_as, second_disk, snapshot_calls, stored}
 use Rattle.host_journal.specs.Told.{TellsAll, TellsFirst, TellsSyncs}
-use Rattle.host_journal.specs.declared.fault.OpenReason.{OpenReason}
 use Rattle.host_journal.specs.declared.pending.Pending.{Pending}
 use Rattle.host_journal.specs.declared.pending.Pending.TheVariants.{Nothing, Unopened, Record, Snapshot}
 use Rattle.host_journal.specs.declared.reading.Counted.{Counted}
 use Rattle.host_journal.specs.declared.reading.DiskPlace.{DiskPlace}
-use Rattle.machine_keep.specs.Calls.{PairCalls, TellsIn, TellsPair, TellsSome, TellsSomeIn, all_on, image_calls, kept_calls, record_calls, sync_calls}
+use Rattle.machine_keep.specs.Calls.{MakesPair, PairCalls, TellsIn, TellsPair, TellsSome, TellsSomeIn, all_on, image_calls, kept_calls, record_calls, sync_calls}
 use Rattle.machine_keep.specs.Course.{IsFound, IsRead, IsRewritten, IsShortened, IsTurned, Moves, Opened, Shortens, Unwritten, is_many_with}
 use Rattle.machine_keep.specs.Kept.{Kept, is_many}
-use Rattle.machine_keep.proofs.CallLemmas.{some_counting, some_early, some_later, some_other, tells_both, tells_counting, tells_none, tells_other}
+use Rattle.machine_keep.proofs.CallLemmas.{some_early, some_later, some_on, some_other, tells_both, tells_counting, tells_none, tells_other}
 
 -- ---- the calls of the journal
 swapped : {D : Type 0} (side : Bool) (a b : D) → (if not side then a else b) ≡ (if side then b else a)
@@ -35,12 +34,6 @@ module _ {D : Type 0} (told : D → Option (List DiskCall)) where
         subst (λ (d : D). TellsPair told (first_disk old) (second_disk old) d (second_disk new) (all_on old.second calls)) (sym first_so)
         (subst (λ (d : D). TellsPair told (first_disk old) (second_disk old) (if old.second then old.other else new.counting) d (all_on old.second calls)) (sym second_so)
         (tells_counting told old.second old.counting old.other new.counting calls all))
-
-    pub counting_some : (calls : List DiskCall) → TellsFirst (told old.counting) (told new.counting) calls → TellsSomeIn told old new (all_on old.second calls)
-    counting_some calls some =
-        subst (λ (d : D). TellsSome told (first_disk old) (second_disk old) d (second_disk new) (all_on old.second calls)) (sym first_so)
-        (subst (λ (d : D). TellsSome told (first_disk old) (second_disk old) (if old.second then old.other else new.counting) d (all_on old.second calls)) (sym second_so)
-        (some_counting told old.second old.counting old.other new.counting calls some))
 
   -- a snapshot, after room was made for it
   module _ (old mid new : State D) (image : List ℕ) (same : SameButRoom old mid) where
@@ -68,17 +61,6 @@ module _ {D : Type 0} (told : D → Option (List DiskCall)) where
       end = end;
     }
 
-    pub turned_some : TellsFirst (told mid.other) (told new.other) (snapshot_calls mid.shut (mid.generation + 1) image) → new.counting ≡ mid.counting → new.second ≡ mid.second → TellsSomeIn told old new (image_calls old (Some image))
-    turned_some first counting side =
-        let first_old : TellsFirst (told old.other) (told new.other) Images = subst (λ (m : State D). TellsFirst (told m.other) (told new.other) (snapshot_calls m.shut (m.generation + 1) image)) same first in
-        let was : new.counting ≡ old.counting = counting ∙ ap (λ (m : State D). m.counting) same in
-        let is : new.second ≡ old.second = side ∙ ap (λ (m : State D). m.second) same in
-        let one : first_disk new ≡ (if old.second then new.other else old.counting) = ap (λ (b : Bool). if b then new.other else new.counting) is ∙ ap (λ (d : D). if old.second then new.other else d) was in
-        let two : second_disk new ≡ (if old.second then old.counting else new.other) = ap (λ (b : Bool). if b then new.counting else new.other) is ∙ ap (λ (d : D). if old.second then d else new.other) was in
-        subst (λ (d : D). TellsSome told (first_disk old) (second_disk old) d (second_disk new) (all_on (not old.second) Images)) (sym one)
-        (subst (λ (d : D). TellsSome told (first_disk old) (second_disk old) (if old.second then new.other else old.counting) d (all_on (not old.second) Images)) (sym two)
-        (some_other told old.second old.counting old.other new.other Images first_old))
-
   -- only room was made
   pub room_told : (old new : State D) → SameButRoom old new → TellsIn told old new []
   room_told old new same = subst (λ (s : State D). TellsPair told (first_disk old) (second_disk old) (first_disk s) (second_disk s) []) (sym same) (tells_none told (first_disk old) (second_disk old))
@@ -86,10 +68,45 @@ module _ {D : Type 0} (told : D → Option (List DiskCall)) where
   pub synced_and_room : (old mid new : State D) (calls : PairCalls) → SameButRoom mid new → TellsIn told old mid calls → TellsIn told old new calls
   synced_and_room old mid new calls same all = subst (λ (s : State D). TellsPair told (first_disk old) (second_disk old) (first_disk s) (second_disk s) calls) (sym same) all
 
-  -- both disks were synced, or a fault was met there or behind it
-  pub syncs_some : (first second first_now second_now : D) → TellsSyncs told first second first_now second_now → TellsSome told first second first_now second_now (sync_calls false)
-  syncs_some first second first_now second_now (one, inl same) = (1, omega arith, omega arith, (one, subst (λ (o : Option (List DiskCall)). TellsAll (told second) o []) (sym same) (tells_none told first second).1))
-  syncs_some first second first_now second_now (one, inr two) = (2, omega arith, omega arith, (one, two))
+-- up to a fault
+module _ {D : Type 0} (told : D → Option (List DiskCall)) (faults : D → ℕ) (went : D → D → Type 0) (went_refl : (disk : D) → went disk disk) (went_trans : (a b c : D) → went a b → went b c → went a c) where
+  pub counting_some : (old new : State D) → KeepsPlace old new → new.other ≡ old.other → (calls : List DiskCall) → TellsFirst told faults went old.counting new.counting calls → TellsSomeIn told faults went old new (all_on old.second calls)
+  counting_some old new kept same calls some =
+      subst (λ (d : D). TellsSome told faults went (first_disk old) (second_disk old) d (second_disk new) (all_on old.second calls)) (sym (first_so told old new kept same))
+      (subst (λ (d : D). TellsSome told faults went (first_disk old) (second_disk old) (if old.second then old.other else new.counting) d (all_on old.second calls)) (sym (second_so told old new kept same))
+      (some_on told faults went went_refl went_trans old.second old.counting old.other new.counting calls some))
+
+  -- in a snapshot, after room was made for it
+  pub turned_some : (old mid new : State D) (image : List ℕ) → SameButRoom old mid → TellsFirst told faults went mid.other new.other (snapshot_calls mid.shut (mid.generation + 1) image) → new.counting ≡ mid.counting → new.second ≡ mid.second
+      → TellsSomeIn told faults went old new (image_calls old (Some image))
+  turned_some old mid new image same first counting side =
+      let calls = snapshot_calls old.shut (old.generation + 1) image in
+      let first_old : TellsFirst told faults went old.other new.other calls = subst (λ (m : State D). TellsFirst told faults went m.other new.other (snapshot_calls m.shut (m.generation + 1) image)) same first in
+      let was : new.counting ≡ old.counting = counting ∙ ap (λ (m : State D). m.counting) same in
+      let is : new.second ≡ old.second = side ∙ ap (λ (m : State D). m.second) same in
+      let one : first_disk new ≡ (if old.second then new.other else old.counting) = ap (λ (b : Bool). if b then new.other else new.counting) is ∙ ap (λ (d : D). if old.second then new.other else d) was in
+      let two : second_disk new ≡ (if old.second then old.counting else new.other) = ap (λ (b : Bool). if b then new.counting else new.other) is ∙ ap (λ (d : D). if old.second then d else new.other) was in
+      subst (λ (d : D). TellsSome told faults went (first_disk old) (second_disk old) d (second_disk new) (all_on (not old.second) calls)) (sym one)
+      (subst (λ (d : D). TellsSome told faults went (first_disk old) (second_disk old) (if old.second then new.other else old.counting) d (all_on (not old.second) calls)) (sym two)
+      (some_other told faults went went_refl went_trans old.second old.counting old.other new.other calls first_old))
+
+  -- in the syncs of both disks, or a read behind one
+  pub syncs_some : (first second first_now second_now : D) → TellsSyncs told faults went first second first_now second_now → TellsSome told faults went first second first_now second_now (sync_calls false)
+  syncs_some first second first_now second_now (inl one) =
+      subst (λ (d : D). TellsSome told faults went first second first_now d (sync_calls false)) (sym one.1)
+      (some_early told faults went went_refl went_trans first second first_now second ((false, Sync) ∷ []) ((true, Sync) ∷ []) (some_on told faults went went_refl went_trans false first second first_now (Sync ∷ []) one.0))
+  syncs_some first second first_now second_now (inr two) = record {
+    made = (false, Sync) ∷ [];
+    last = (true, Sync);
+    rest = [];
+    split = refl;
+    first_mid = two.mid;
+    second_mid = second;
+    before = record { told = (two.before.told, (tells_none told first second).1); calm = (two.before.calm, refl); went = (two.before.went, went_refl second) };
+    told = (subst (λ (o : Option (List DiskCall)). TellsAll (told two.mid) o []) (sym two.still) (tells_none told two.mid second).0, two.told);
+    rose = two.rose;
+    went = (two.went_one, two.went_other);
+  }
 
 -- ---- what is found
 not_itself : (b : Bool) → b ≡ not b → ⊥
@@ -127,28 +144,30 @@ image_same : {D : Type 0} (a b : State D) (image : Option (List ℕ)) → a.seco
 image_same a b None second shut generation = refl
 image_same a b (Some image) second shut generation = rw (second, shut, generation) refl
 
-module _ {D : Type 0} (told : D → Option (List DiskCall)) (old mid : State D) (same : SameButRoom old mid) (payload : List ℕ) where
-  pub kept_early : (new : State D) → TellsSomeIn told mid new (record_calls mid (Some payload)) → TellsSomeIn told old new (kept_calls old (Some payload) None)
+images_same : {D : Type 0} (old mid turned : State D) → SameButRoom old mid → KeepsPlace mid turned → (image : Option (List ℕ)) → image_calls turned image ≡ image_calls old image
+images_same {D} old mid turned same kept image = image_same turned old image (kept.second ∙ ap (λ (m : State D). m.second) same) (kept.shut ∙ ap (λ (m : State D). m.shut) same) (kept.generation ∙ ap (λ (m : State D). m.generation) same)
+
+pub kept_told : {D : Type 0} (told : D → Option (List DiskCall)) (old mid : State D) → SameButRoom old mid → (payload : List ℕ) (turned new : State D) → KeepsPlace mid turned → TellsIn told mid turned (record_calls mid (Some payload))
+    → (image : Option (List ℕ)) → TellsIn told turned new (image_calls turned image) → TellsIn told old new (kept_calls old (Some payload) image)
+kept_told {D} told old mid same payload turned new kept all image more =
+    tells_both told (first_disk old) (second_disk old) (first_disk turned) (second_disk turned) (first_disk new) (second_disk new) (record_calls old (Some payload)) (image_calls old image)
+    (subst (λ (m : State D). TellsPair told (first_disk m) (second_disk m) (first_disk turned) (second_disk turned) (record_calls m (Some payload))) same all)
+    (subst (TellsPair told (first_disk turned) (second_disk turned) (first_disk new) (second_disk new)) (images_same old mid turned same kept image) more)
+
+-- a fault was met in the record, or in the snapshot behind it
+module _ {D : Type 0} (told : D → Option (List DiskCall)) (faults : D → ℕ) (went : D → D → Type 0) (went_refl : (disk : D) → went disk disk) (went_trans : (a b c : D) → went a b → went b c → went a c)
+    (old mid : State D) (same : SameButRoom old mid) (payload : List ℕ) where
+  pub kept_early : (new : State D) → TellsSomeIn told faults went mid new (record_calls mid (Some payload)) → TellsSomeIn told faults went old new (kept_calls old (Some payload) None)
   kept_early new some =
-      some_early told (first_disk old) (second_disk old) (first_disk new) (second_disk new) (record_calls old (Some payload)) []
-      (subst (λ (m : State D). TellsSome told (first_disk m) (second_disk m) (first_disk new) (second_disk new) (record_calls m (Some payload))) same some)
+      some_early told faults went went_refl went_trans (first_disk old) (second_disk old) (first_disk new) (second_disk new) (record_calls old (Some payload)) []
+      (subst (λ (m : State D). TellsSome told faults went (first_disk m) (second_disk m) (first_disk new) (second_disk new) (record_calls m (Some payload))) same some)
 
-  module _ (turned new : State D) (kept : KeepsPlace mid turned) (all : TellsIn told mid turned (record_calls mid (Some payload))) where
-    recorded : TellsIn told old turned (record_calls old (Some payload))
-    recorded = subst (λ (m : State D). TellsPair told (first_disk m) (second_disk m) (first_disk turned) (second_disk turned) (record_calls m (Some payload))) same all
-
-    images : (image : Option (List ℕ)) → image_calls turned image ≡ image_calls old image
-    images image = image_same turned old image (kept.second ∙ ap (λ (m : State D). m.second) same) (kept.shut ∙ ap (λ (m : State D). m.shut) same) (kept.generation ∙ ap (λ (m : State D). m.generation) same)
-
-    pub kept_told : (image : Option (List ℕ)) → TellsIn told turned new (image_calls turned image) → TellsIn told old new (kept_calls old (Some payload) image)
-    kept_told image more =
-        tells_both told (first_disk old) (second_disk old) (first_disk turned) (second_disk turned) (first_disk new) (second_disk new) (record_calls old (Some payload)) (image_calls old image) recorded
-        (subst (TellsPair told (first_disk turned) (second_disk turned) (first_disk new) (second_disk new)) (images image) more)
-
-    pub kept_late : (image : List ℕ) → TellsSomeIn told turned new (image_calls turned (Some image)) → TellsSomeIn told old new (kept_calls old (Some payload) (Some image))
-    kept_late image more =
-        some_later told (first_disk old) (second_disk old) (first_disk turned) (second_disk turned) (first_disk new) (second_disk new) (record_calls old (Some payload)) (image_calls old (Some image)) recorded
-        (subst (TellsSome told (first_disk turned) (second_disk turned) (first_disk new) (second_disk new)) (images (Some image)) more)
+  pub kept_late : (turned new : State D) → KeepsPlace mid turned → MakesPair told faults went (first_disk mid) (second_disk mid) (first_disk turned) (second_disk turned) (record_calls mid (Some payload))
+      → (image : List ℕ) → TellsSomeIn told faults went turned new (image_calls turned (Some image)) → TellsSomeIn told faults went old new (kept_calls old (Some payload) (Some image))
+  kept_late turned new kept all image more =
+      some_later told faults went went_refl went_trans (first_disk old) (second_disk old) (first_disk turned) (second_disk turned) (first_disk new) (second_disk new) (record_calls old (Some payload)) (image_calls old (Some image))
+      (subst (λ (m : State D). MakesPair told faults went (first_disk m) (second_disk m) (first_disk turned) (second_disk turned) (record_calls m (Some payload))) same all)
+      (subst (TellsSome told faults went (first_disk turned) (second_disk turned) (first_disk new) (second_disk new)) (images_same old mid turned same kept (Some image)) more)
 
 module _ {D : Type 0} (old mid turned : State D) (same : SameButRoom old mid) (payload : List ℕ) (kept : KeepsPlace mid turned) (longer : turned.end ≡ mid.end + 5 + length payload) where
   start_same : turned.start ≡ old.start
@@ -188,10 +207,6 @@ pub ok_more : {A E : Type 0} (P R : A → Type 0) → ((a : A) → P a → R a) 
 ok_more P R f (Ok a) p = f a p
 ok_more P R f (Err e) p = tt
 
-pub err_both : {A E : Type 0} (P Q R : E → Type 0) → ((e : E) → P e → Q e → R e) → (r : Result A E) → IfErr r P → IfErr r Q → IfErr r R
-err_both P Q R f (Ok a) p q = tt
-err_both P Q R f (Err e) p q = f e p q
-
 pub read_at : {D : Type 0} (s : State D) (list : List (List ℕ)) (pair : Result Counted DiskPlace) → pair ≡ opened_as s list → IsAt s pair
 read_at s list pair is = subst (IsAt s) (sym is) (refl, refl, refl, refl)
 
@@ -206,35 +221,23 @@ module _ {D S : Type 0} (premise : Type 0) (seen : D → List ℕ) (told : D →
     told = tells_both told first second (first_disk journal) (second_disk journal) (first_disk now) (second_disk now) (sync_calls false) (image_calls journal made.0) (one, two) made.2;
   }
 
-  abbrev Refused : OpenReason → D → D → Type 0
-  Refused reason first_now second_now = TellsSome told first second first_now second_now (sync_calls false) ⊎ ((reason ≡ OpenReason.DiskFault) × Unwritten premise seen told stands first second first_now second_now)
+-- a fault was met in the snapshot that an opening makes
+pub unwritten_so : {D S : Type 0} (premise : Type 0) (seen : D → List ℕ) (told : D → Option (List DiskCall)) (faults : D → ℕ) (went : D → D → Type 0) (went_refl : (disk : D) → went disk disk) (went_trans : (a b c : D) → went a b → went b c → went a c) (stands : List (List ℕ) → S → Type 0) (first second : D) (journal : State D)
+    → IsRead premise seen first second journal → MakesPair told faults went first second (first_disk journal) (second_disk journal) (sync_calls false) → (first_now second_now : D)
+    → (s : S) × (image : List ℕ) × stands (image ∷ []) s × TellsSome told faults went (first_disk journal) (second_disk journal) first_now second_now (image_calls journal (Some image)) → Unwritten premise seen told faults went stands first second first_now second_now
+unwritten_so premise seen told faults went went_refl went_trans stands first second journal read synced first_now second_now met = record {
+  place = journal;
+  read = read;
+  state = met.0;
+  image = met.1;
+  alone = met.2;
+  told = some_later told faults went went_refl went_trans first second (first_disk journal) (second_disk journal) first_now second_now (sync_calls false) (image_calls journal (Some met.1)) synced met.3;
+}
 
-  synced : (first_now second_now : D) → (first_now ≡ first_disk journal) × (second_now ≡ second_disk journal) → TellsSome told first second first_now second_now (sync_calls false)
-  synced first_now second_now same = (
-    2,
-    omega arith,
-    omega arith,
-    (
-      subst (λ (d : D). TellsAll (told first) (told d) (Sync ∷ [])) (sym same.0) one,
-      subst (λ (d : D). TellsAll (told second) (told d) (Sync ∷ [])) (sym same.1) two,
-    ),
-  )
-
-  pub refused_so : (reason : OpenReason) (first_now second_now : D) → ((reason ≡ OpenReason.DiskFault → ⊥) → (first_now ≡ first_disk journal) × (second_now ≡ second_disk journal))
-      → (reason ≡ OpenReason.DiskFault → (s : S) × (image : List ℕ) × stands (image ∷ []) s × TellsSome told (first_disk journal) (second_disk journal) first_now second_now (image_calls journal (Some image)))
-      → Refused reason first_now second_now
-  refused_so (OpenReason.NotAJournal place) first_now second_now refused some = inl (synced first_now second_now (refused (λ is. cc)))
-  refused_so OpenReason.Memory first_now second_now refused some = inl (synced first_now second_now (refused (λ is. cc)))
-  refused_so OpenReason.DiskFault first_now second_now refused some =
-      let met = some refl in
-      inr (
-        refl,
-        record {
-          place = journal;
-          read = read;
-          state = met.0;
-          image = met.1;
-          alone = met.2;
-          told = some_later told first second (first_disk journal) (second_disk journal) first_now second_now (sync_calls false) (image_calls journal (Some met.1)) (one, two) met.3;
-        },
-      )
+-- or it was refused, and nothing was written
+pub refused_so : {D : Type 0} (told : D → Option (List DiskCall)) (first second first_mid second_mid first_now second_now : D) → TellsPair told first second first_mid second_mid (sync_calls false) → (first_now ≡ first_mid) × (second_now ≡ second_mid)
+    → TellsPair told first second first_now second_now (sync_calls false)
+refused_so {D} told first second first_mid second_mid first_now second_now synced same = (
+  subst (λ (d : D). TellsAll (told first) (told d) (Sync ∷ [])) (sym same.0) synced.0,
+  subst (λ (d : D). TellsAll (told second) (told d) (Sync ∷ [])) (sym same.1) synced.1,
+)

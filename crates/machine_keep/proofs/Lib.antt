@@ -1,4 +1,5 @@
 pub mod ArmedLemmas
-mod CallLemmas
+pub mod CallLemmas
 mod CourseLemmas
 mod KeepLemmas
+pub mod StoppedLemmas

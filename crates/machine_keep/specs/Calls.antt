@@ -1,5 +1,6 @@
 -- The calls of two disks that a kept machine makes, and that they tell.
-use Rattle.std.specs.Prelude.{◌≤◌, ℕ, ◌+◌, Bool, true, false, not, if◌then◌else◌, List, [], ◌∷◌, ◌++◌, length, map, take, Option, None, Some}
+use Rattle.std.specs.Prelude.{◌≡◌, ◌⊎◌, ℕ, ◌+◌, Bool, true, false, not, if◌then◌else◌, List, [], ◌∷◌, ◌++◌, map, Option, None, Some}
+use Rattle.ps_ports.specs.Causes.{Rose}
 use Rattle.ps_disks.specs.declared.disk.DiskCall.{DiskCall}
 use Rattle.ps_disks.specs.declared.disk.DiskCall.TheVariants.{Sync}
 use Rattle.host_journal.specs.State.{State, append_calls, first_disk, second_disk, snapshot_calls}
@@ -50,13 +51,30 @@ step_calls ready s payload image = sync_calls ready ++ kept_calls s payload imag
 abbrev pub TellsPair : {D : Type 0} → (D → Option (List DiskCall)) → D → D → D → D → PairCalls → Type 0
 TellsPair told first second first_now second_now calls = TellsAll (told first) (told first_now) (first_calls calls) × TellsAll (told second) (told second_now) (second_calls calls)
 
--- the first of these, up to the one that failed
-abbrev pub TellsSome : {D : Type 0} → (D → Option (List DiskCall)) → D → D → D → D → PairCalls → Type 0
-TellsSome told first second first_now second_now calls = (n : ℕ) × (1 ≤ n) × (n ≤ length calls) × TellsPair told first second first_now second_now (take n calls)
+module _ {D : Type 0} (tells : D → Option (List DiskCall)) (faults : D → ℕ) (goes : D → D → Type 0) where
+  -- they made these, and none of their calls failed
+  pub record MakesPair (first second first_now second_now : D) (calls : PairCalls) : Type 0 where
+    pub told : TellsPair tells first second first_now second_now calls
+    pub calm : (faults first_now ≡ faults first) × (faults second_now ≡ faults second)
+    pub went : goes first first_now × goes second second_now
 
--- the disks of a journal
+  -- The first of these, up to the one at which a fault was met: those before it were made without one. It failed, or, behind a sync, a read.
+  pub record TellsSome (first second first_now second_now : D) (calls : PairCalls) : Type 0 where
+    pub made : PairCalls
+    pub last : Bool × DiskCall
+    pub rest : PairCalls
+    pub split : calls ≡ made ++ last ∷ rest
+    -- before the last of them
+    pub first_mid : D
+    pub second_mid : D
+    pub before : MakesPair first second first_mid second_mid made
+    pub told : TellsPair tells first_mid second_mid first_now second_now (last ∷ [])
+    pub rose : Rose (faults first_mid) (faults first_now) ⊎ Rose (faults second_mid) (faults second_now)
+    pub went : goes first_mid first_now × goes second_mid second_now
+
+  -- the disks of a journal
+  abbrev pub TellsSomeIn : State D → State D → PairCalls → Type 0
+  TellsSomeIn old new calls = TellsSome (first_disk old) (second_disk old) (first_disk new) (second_disk new) calls
+
 abbrev pub TellsIn : {D : Type 0} → (D → Option (List DiskCall)) → State D → State D → PairCalls → Type 0
 TellsIn told old new calls = TellsPair told (first_disk old) (second_disk old) (first_disk new) (second_disk new) calls
-
-abbrev pub TellsSomeIn : {D : Type 0} → (D → Option (List DiskCall)) → State D → State D → PairCalls → Type 0
-TellsSomeIn told old new calls = TellsSome told (first_disk old) (second_disk old) (first_disk new) (second_disk new) calls

@@ -64,12 +64,12 @@ abbrev pub Leaves : {S T : Type 0} → (S → T → S) → S → Option T → Op
 Leaves after s step None now unsure = (now ≡ s) × (unsure ≡ step)
 Leaves after s step (Some image) now unsure = (now ≡ after_step after s step) × (unsure ≡ None)
 
-module _ {M D S T : Type 0} (tells : D → Option (List DiskCall)) (state : M → S) where
+module _ {M D S T : Type 0} (tells : D → Option (List DiskCall)) (faults : D → ℕ) (goes : D → D → Type 0) (state : M → S) where
   -- a fault was met before it was known what stands
   pub record Unfound (old new : Kept M D T) : Type 0 where
     pub became : state new.machine ≡ state old.machine
     pub unsure : new.unsure ≡ old.unsure
-    pub told : TellsSomeIn tells old.journal new.journal (sync_calls (is_ready old.journal.pending))
+    pub told : TellsSomeIn tells faults goes old.journal new.journal (sync_calls (is_ready old.journal.pending))
 
 module _ {M D S T : Type 0} (tells : D → Option (List DiskCall)) (state : M → S) (stands : List (List ℕ) → S → Type 0) (bytes : T → List ℕ) (after : S → T → S) where
   -- a step was kept, if there is one
@@ -81,12 +81,13 @@ module _ {M D S T : Type 0} (tells : D → Option (List DiskCall)) (state : M �
     pub moved : Moves old.journal (option_map bytes step) image new.journal
     pub told : TellsIn tells old.journal new.journal (kept_calls old.journal (option_map bytes step) image)
 
+module _ {M D S T : Type 0} (tells : D → Option (List DiskCall)) (faults : D → ℕ) (goes : D → D → Type 0) (state : M → S) (stands : List (List ℕ) → S → Type 0) (bytes : T → List ℕ) (after : S → T → S) where
   -- a fault was met as the step was kept
   pub record Breaks (old new : Kept M D T) (step : Option T) : Type 0 where
     pub image : Option (List ℕ)
     pub due : IsDue stands (after_step after (state old.machine) step) old.journal (option_map bytes step) image
     pub left : Leaves after (state old.machine) step image (state new.machine) new.unsure
-    pub told : TellsSomeIn tells old.journal new.journal (kept_calls old.journal (option_map bytes step) image)
+    pub told : TellsSomeIn tells faults goes old.journal new.journal (kept_calls old.journal (option_map bytes step) image)
 
 module _ {M D S C R T : Type 0} (premise : Type 0) (seen : D → List ℕ) (tells : D → Option (List DiskCall)) (state : M → S) (stands : List (List ℕ) → S → Type 0)
     (bytes : T → List ℕ) (answers : S → C → R → Option T → Type 0) (follows : S → T → Type 0) (after : S → T → S) where
@@ -116,6 +117,8 @@ module _ {M D S C R T : Type 0} (premise : Type 0) (seen : D → List ℕ) (tell
     pub put_off : new.put_off ≡ old.put_off
     pub told : TellsIn tells old.journal new.journal (sync_calls (is_ready old.journal.pending))
 
+module _ {M D S C R T : Type 0} (premise : Type 0) (seen : D → List ℕ) (tells : D → Option (List DiskCall)) (faults : D → ℕ) (goes : D → D → Type 0) (state : M → S) (stands : List (List ℕ) → S → Type 0)
+    (bytes : T → List ℕ) (answers : S → C → R → Option T → Type 0) (follows : S → T → Type 0) (after : S → T → S) where
   -- one that met a fault as its step was kept
   pub record Unkept (old new : Kept M D T) (call : C) : Type 0 where
     pub stood : Bool
@@ -128,7 +131,7 @@ module _ {M D S C R T : Type 0} (premise : Type 0) (seen : D → List ℕ) (tell
     pub image : Option (List ℕ)
     pub due : IsDue stands (after_step after (caught after (state old.machine) old.unsure stood) step) place (option_map bytes step) image
     pub left : Leaves after (caught after (state old.machine) old.unsure stood) step image (state new.machine) new.unsure
-    pub told : TellsSomeIn tells old.journal new.journal (step_calls (is_ready old.journal.pending) place (option_map bytes step) image)
+    pub told : TellsSomeIn tells faults goes old.journal new.journal (step_calls (is_ready old.journal.pending) place (option_map bytes step) image)
 
 -- the journal of two disks, as an opening reads it
 pub record IsRead {D : Type 0} (premise : Type 0) (seen : D → List ℕ) (first second : D) (place : State D) : Type 0 where
@@ -150,6 +153,7 @@ module _ {D S : Type 0} (premise : Type 0) (seen : D → List ℕ) (tells : D �
     pub rewritten : IsRewritten stands s place image now
     pub told : TellsPair tells first second (first_disk now) (second_disk now) (sync_calls false ++ image_calls place image)
 
+module _ {D S : Type 0} (premise : Type 0) (seen : D → List ℕ) (tells : D → Option (List DiskCall)) (faults : D → ℕ) (goes : D → D → Type 0) (stands : List (List ℕ) → S → Type 0) (first second : D) where
   -- one that met a fault in such a snapshot
   pub record Unwritten (first_now second_now : D) : Type 0 where
     pub place : State D
@@ -157,4 +161,4 @@ module _ {D S : Type 0} (premise : Type 0) (seen : D → List ℕ) (tells : D �
     pub state : S
     pub image : List ℕ
     pub alone : stands (image ∷ []) state
-    pub told : TellsSome tells first second first_now second_now (sync_calls false ++ image_calls place (Some image))
+    pub told : TellsSome tells faults goes first second first_now second_now (sync_calls false ++ image_calls place (Some image))

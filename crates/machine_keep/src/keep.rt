@@ -5,7 +5,7 @@ ghost use Rattle.ps_ports.specs.Causes.{Rose};
 ghost use Rattle.host_journal.specs.Calls.{IsRead};
 ghost use Rattle.host_journal.specs.Moments.{Adds, LeftIn, Shows};
 ghost use Rattle.host_journal.specs.Pair.{pair_of};
-ghost use Rattle.host_journal.specs.State.{append_calls, is_ready, stored, has_record, which, with_record, EachImage, EachSince, IsAt, KeepsPlace, SameButRoom, WentOn, first_disk, second_disk};
+ghost use Rattle.host_journal.specs.State.{append_calls, is_ready, stored, has_record, which, with_record, EachImage, EachSince, IsAt, IsSound, KeepsPlace, SameButRoom, WentOn, first_disk, second_disk};
 ghost use Rattle.machine_keep.specs.Calls.{TellsIn, TellsSomeIn, all_on, image_calls, record_calls, sync_calls};
 ghost use Rattle.machine_keep.specs.Course.{Answered, Breaks, IsFound, IsShortened, Keeps, Unfound, Unkept, Wanting};
 ghost use Rattle.machine_keep.specs.Kept.{HasFew, IsMade, Snapped, StandsAround, StandsBut, StandsFor, after_step, caught, is_many};
@@ -124,6 +124,7 @@ impl<M: Machine, D: Disk> Keep<M, D> {
         ensures durable { D.premise → IsTrue (is_ready self.now.journal.pending) → EachImage D.may_leave self.now.journal (StandsFor M.stands_for (M.state self.now.machine)) }
         ensures place { D.premise → IsTrue (is_ready self.now.journal.pending) → IsAt self.now.journal (stored D.seen self.now.journal) }
         ensures each { D.premise → IsTrue (is_ready self.now.journal.pending) → EachImage D.may_leave self.now.journal (λ pair. pair ≡ stored D.seen self.now.journal) }
+        ensures sound { D.premise → IsSound D.seen D.may_leave self.now.journal }
     {
         self.journal.known();
     }
@@ -155,8 +156,8 @@ impl<M: Machine, D: Disk> Keep<M, D> {
         // at a fault those up to the one that failed. On no premise.
         ensures answered { IfOk result (λ reply. Answered D.premise D.seen D.told M.state M.stands_for M.record_of M.answers M.follows M.after self.old self.new call reply) }
         ensures wanting { result ≡ Err no_memory → Wanting D.premise D.seen D.told M.state M.stands_for M.record_of M.answers M.follows M.after self.old self.new }
-        ensures failed { result ≡ Err disk_fault → Unfound D.told M.state self.old self.new
-            ⊎ Unkept D.premise D.seen D.told M.state M.stands_for M.record_of M.answers M.follows M.after self.old self.new call }
+        ensures failed { result ≡ Err disk_fault → Unfound D.told D.disk_faults D.went M.state self.old self.new
+            ⊎ Unkept D.premise D.seen D.told D.disk_faults D.went M.state M.stands_for M.record_of M.answers M.follows M.after self.old self.new call }
         ensures ready { (result ≡ Err disk_fault → ⊥) → IsTrue (is_ready self.new.journal.pending) }
         // Whatever it comes to.
         ensures fixed { M.fixed (M.state self.new.machine) ≡ M.fixed (M.state self.old.machine) }
@@ -184,7 +185,7 @@ impl<M: Machine, D: Disk> Keep<M, D> {
         ensures put_off { self.new.put_off ≡ self.old.put_off }
         ensures found { OnOk result ((stood : Bool) × IsFound D.premise D.seen self.old.journal stood self.new.journal × (M.state self.new.machine ≡ caught M.after (M.state self.old.machine) self.old.unsure stood)) }
         ensures told { OnOk result (TellsIn D.told self.old.journal self.new.journal (sync_calls (is_ready self.old.journal.pending))) }
-        ensures unfound { OnErr result (Unfound D.told M.state self.old self.new) }
+        ensures unfound { OnErr result (Unfound D.told D.disk_faults D.went M.state self.old self.new) }
         ensures first { D.premise → is_ready self.old.journal.pending ≡ false → IsRead D.seen D.may_leave D.moment D.left_since (first_disk self.old.journal) (first_disk self.new.journal) }
         ensures second { D.premise → is_ready self.old.journal.pending ≡ false → IsRead D.seen D.may_leave D.moment D.left_since (second_disk self.old.journal) (second_disk self.new.journal) }
         ensures later { (D.disk_faults (first_disk self.old.journal) ≤ D.disk_faults (first_disk self.new.journal)) × (D.disk_faults (second_disk self.old.journal) ≤ D.disk_faults (second_disk self.new.journal)) }
@@ -223,7 +224,7 @@ impl<M: Machine, D: Disk> Keep<M, D> {
             (LeftIn (stored D.seen self.old.journal) (λ pair. (step : M.Step) × ((decided.step ≡ Some step) × IsMade M.stands_for (stored D.seen self.old.journal) (M.after (M.state self.old.machine) step) pair))) }
         ensures few { OnOk result (IsSome decided.step → HasFew self.new.journal ⊎ Rose self.old.put_off self.new.put_off) }
         ensures keeps { OnOk result (Keeps D.told M.state M.stands_for M.record_of M.after self.old self.new decided.step) }
-        ensures breaks { result ≡ Err disk_fault → Breaks D.told M.state M.stands_for M.record_of M.after self.old self.new decided.step }
+        ensures breaks { result ≡ Err disk_fault → Breaks D.told D.disk_faults D.went M.state M.stands_for M.record_of M.after self.old self.new decided.step }
         ensures unmoved { result ≡ Err no_memory → SameButRoom self.old.journal self.new.journal × (M.state self.new.machine ≡ M.state self.old.machine) × (self.new.put_off ≡ self.old.put_off) }
         ensures fixed { M.fixed (M.state self.new.machine) ≡ M.fixed (M.state self.old.machine) }
         ensures later { (D.disk_faults (first_disk self.old.journal) ≤ D.disk_faults (first_disk self.new.journal)) × (D.disk_faults (second_disk self.old.journal) ≤ D.disk_faults (second_disk self.new.journal)) }
@@ -259,7 +260,7 @@ impl<M: Machine, D: Disk> Keep<M, D> {
             (LeftIn (stored D.seen self.old.journal) (IsMade M.stands_for (stored D.seen self.old.journal) (M.after (M.state self.old.machine) step))) }
         ensures few { OnOk result (HasFew self.new.journal ⊎ Rose self.old.put_off self.new.put_off) }
         ensures keeps { OnOk result (Keeps D.told M.state M.stands_for M.record_of M.after self.old self.new (Some step)) }
-        ensures breaks { result ≡ Err disk_fault → Breaks D.told M.state M.stands_for M.record_of M.after self.old self.new (Some step) }
+        ensures breaks { result ≡ Err disk_fault → Breaks D.told D.disk_faults D.went M.state M.stands_for M.record_of M.after self.old self.new (Some step) }
         ensures unmoved { result ≡ Err no_memory → SameButRoom self.old.journal self.new.journal × (M.state self.new.machine ≡ M.state self.old.machine) × (self.new.put_off ≡ self.old.put_off) }
         ensures fixed { M.fixed (M.state self.new.machine) ≡ M.fixed (M.state self.old.machine) }
         ensures later { (D.disk_faults (first_disk self.old.journal) ≤ D.disk_faults (first_disk self.new.journal)) × (D.disk_faults (second_disk self.old.journal) ≤ D.disk_faults (second_disk self.new.journal)) }
@@ -290,7 +291,7 @@ impl<M: Machine, D: Disk> Keep<M, D> {
         ensures kept { KeepsPlace self.old.journal self.new.journal }
         ensures end { OnOk result (self.new.journal.end ≡ self.old.journal.end + 5 + length (M.record_of step)) }
         ensures told { OnOk result (TellsIn D.told self.old.journal self.new.journal (record_calls self.old.journal (Some (M.record_of step)))) }
-        ensures told_first { OnErr result (TellsSomeIn D.told self.old.journal self.new.journal (record_calls self.old.journal (Some (M.record_of step)))) }
+        ensures told_first { OnErr result (TellsSomeIn D.told D.disk_faults D.went self.old.journal self.new.journal (record_calls self.old.journal (Some (M.record_of step)))) }
         ensures unsure { OnErr result ((M.state self.new.machine ≡ M.state self.old.machine) × (self.new.unsure ≡ Some step)) }
         ensures sure { OnOk result (self.new.unsure ≡ None) }
         ensures fixed { M.fixed (M.state self.new.machine) ≡ M.fixed (M.state self.old.machine) }
@@ -315,7 +316,7 @@ impl<M: Machine, D: Disk> Keep<M, D> {
         ensures shortened { OnOk result ((image : Option (List ℕ)) × IsShortened M.stands_for (M.state self.old.machine) self.old.put_off self.new.put_off self.old.journal image self.new.journal
             × TellsIn D.told self.old.journal self.new.journal (image_calls self.old.journal image)) }
         ensures told_first { OnErr result ((image : List ℕ) × (is_many (self.old.journal.end - self.old.journal.start) (self.old.journal.start - 21) ≡ true) × M.stands_for (image ∷ []) (M.state self.old.machine)
-            × TellsSomeIn D.told self.old.journal self.new.journal (image_calls self.old.journal (Some image))) }
+            × TellsSomeIn D.told D.disk_faults D.went self.old.journal self.new.journal (image_calls self.old.journal (Some image))) }
         ensures few { OnOk result (HasFew self.new.journal ⊎ Rose self.old.put_off self.new.put_off) }
         ensures ready { OnOk result (IsTrue (is_ready self.new.journal.pending)) }
         ensures adds { D.premise → Adds D.moment D.left_since self.old.journal self.new.journal
@@ -415,7 +416,7 @@ fn append<S: Drop, D: Disk>(
     ensures kept { KeepsPlace journal.old journal.new }
     ensures end { OnOk result (journal.new.end ≡ journal.old.end + 5 + length bytes.now) }
     ensures told { OnOk result (TellsIn D.told journal.old journal.new (all_on journal.old.second (append_calls journal.old.end bytes.now))) }
-    ensures told_first { OnErr result (TellsSomeIn D.told journal.old journal.new (all_on journal.old.second (append_calls journal.old.end bytes.now))) }
+    ensures told_first { OnErr result (TellsSomeIn D.told D.disk_faults D.went journal.old journal.new (all_on journal.old.second (append_calls journal.old.end bytes.now))) }
     ensures ready { OnOk result (IsTrue (is_ready journal.new.pending)) }
     ensures failed { OnErr result (is_ready journal.new.pending ≡ false) }
     ensures later { (D.disk_faults (first_disk journal.old) ≤ D.disk_faults (first_disk journal.new)) × (D.disk_faults (second_disk journal.old) ≤ D.disk_faults (second_disk journal.new)) }

@@ -6,6 +6,8 @@ ghost use Rattle.ps_disks.specs.declared.disk.DiskCall.{DiskCall};
 ghost use Rattle.host_journal.specs.State.{State, first_disk, second_disk};
 ghost use Rattle.host_journal.specs.Told.{TellsAll};
 ghost use Rattle.machine_keep.specs.Armed.{IsStep, Lacks};
+ghost use Rattle.machine_keep.specs.Calls.{PairCalls, TellsIn};
+ghost use Rattle.machine_keep.specs.Stopped.{IsStopped, RunsThrough, StopsAt, are_too_far};
 ghost use Rattle.machine_keep.specs.declared.fault.StepFault.{StepFault};
 ghost use Rattle.machine_keep.specs.declared.fault.StepFault.TheVariants.{Disk as disk_fault};
 
@@ -26,6 +28,20 @@ pub fn law_armed<M: Machine>()
         → result ≡ Err disk_fault → MeetsFault (first_disk old) (first_disk new) ⊎ MeetsFault (second_disk old) (second_disk new) }
     ensures calm { (old new : State DiskState) (result : Result M.Reply StepFault) (first second : ℕ) → IsStep old new result → IsArmed (first_disk old) first → IsArmed (second_disk old) second
         → (result ≡ Err disk_fault → ⊥) → IsSpared (first_disk old) (first_disk new) × IsSpared (second_disk old) (second_disk new) }
+{}
+
+/// A law: a step of a kept machine that met a fault of a disk, over disks in memory of each of which one call is to fail, made
+/// exactly the first of its calls up to the first one that is to fail, unless there was no memory for a call of theirs, or a
+/// write of it would end past 2^64 - 1. What the disks noted of it is those calls, the last as failed and the others as done.
+pub fn law_stopped()
+    ensures { (old new : State DiskState) (calls : PairCalls) (first second : ℕ) → IsStopped old new calls → IsArmed (first_disk old) first → IsArmed (second_disk old) second
+        → (first_disk new).starved ≡ false → (second_disk new).starved ≡ false → are_too_far calls ≡ false → (n : ℕ) × StopsAt first second old new calls n }
+{}
+
+/// A law: one that met none made all of its calls, of which none is to fail, and the disks noted them as done.
+pub fn law_through<M: Machine>()
+    ensures { (old new : State DiskState) (result : Result M.Reply StepFault) (calls : PairCalls) (first second : ℕ) → IsStep old new result → (result ≡ Err disk_fault → ⊥) → TellsIn told_calls old new calls
+        → IsArmed (first_disk old) first → IsArmed (second_disk old) second → RunsThrough first second old new calls }
 {}
 
 /// A law: where there was memory, the calls that a disk in memory noted are those that it tells.

@@ -7,7 +7,7 @@ ghost use Rattle.host_journal.specs.Moments.{Adds, LeftIn};
 ghost use Rattle.host_journal.specs.Pair.{pair_of};
 ghost use Rattle.host_journal.specs.State.{is_ready, stored, opened_as, EachImage, WentOn, first_disk, second_disk};
 ghost use Rattle.machine_keep.specs.declared.fault.StepFault.TheVariants.{Disk as disk_fault, Memory as no_memory};
-ghost use Rattle.machine_keep.specs.Calls.{TellsIn, TellsSome, image_calls, sync_calls};
+ghost use Rattle.machine_keep.specs.Calls.{TellsIn, TellsPair, TellsSome, image_calls, sync_calls};
 ghost use Rattle.machine_keep.specs.Course.{IsRewritten, Opened, Unwritten};
 ghost use Rattle.machine_keep.specs.Kept.{EachFrom, IsMade, IsMigrating, StandsEither, StandsFor};
 
@@ -54,8 +54,9 @@ impl<M: Machine + Drop, D: Disk> Keep<M, D> {
         ensures calm_err { IfErr result (λ f. (f.reason ≡ OpenReason.DiskFault → ⊥) → (D.disk_faults f.first ≡ D.disk_faults first) × (D.disk_faults f.second ≡ D.disk_faults second)) }
         // The calls that the disks tell: the syncs, and a snapshot where the list was in the earlier form. On no premise.
         ensures opened { IfOk result (λ keep. Opened D.premise D.seen D.told M.stands_for first second (M.state keep.machine) keep.journal) }
-        ensures told_err { IfErr result (λ f. TellsSome D.told first second f.first f.second (sync_calls false)
-            ⊎ ((f.reason ≡ OpenReason.DiskFault) × Unwritten D.premise D.seen D.told M.stands_for first second f.first f.second)) }
+        ensures told_err { IfErr result (λ f. f.reason ≡ OpenReason.DiskFault → TellsSome D.told D.disk_faults D.went first second f.first f.second (sync_calls false)
+            ⊎ Unwritten D.premise D.seen D.told D.disk_faults D.went M.stands_for first second f.first f.second) }
+        ensures told_refused { IfErr result (λ f. (f.reason ≡ OpenReason.DiskFault → ⊥) → TellsPair D.told first second f.first f.second (sync_calls false)) }
         ensures went { IfOk result (λ keep. D.went first (first_disk keep.journal) × D.went second (second_disk keep.journal)) }
         ensures went_err { IfErr result (λ f. D.went first f.first × D.went second f.second) }
     {
@@ -91,7 +92,7 @@ impl<M: Machine + Drop, D: Disk> Keep<M, D> {
         ensures calm { IfOk result (λ keep. (D.disk_faults (first_disk keep.journal) ≡ D.disk_faults (first_disk journal)) × (D.disk_faults (second_disk keep.journal) ≡ D.disk_faults (second_disk journal))) }
         ensures told { IfOk result (λ keep. (image : Option (List ℕ)) × IsRewritten M.stands_for (M.state keep.machine) journal image keep.journal × TellsIn D.told journal keep.journal (image_calls journal image)) }
         ensures told_first { IfErr result (λ f. f.reason ≡ OpenReason.DiskFault → (s : M.State) × (image : List ℕ) × M.stands_for (image ∷ []) s
-            × TellsSome D.told (first_disk journal) (second_disk journal) f.first f.second (image_calls journal (Some image))) }
+            × TellsSome D.told D.disk_faults D.went (first_disk journal) (second_disk journal) f.first f.second (image_calls journal (Some image))) }
         ensures went { IfOk result (λ keep. WentOn D.went journal keep.journal) }
         ensures went_err { IfErr result (λ f. D.went (first_disk journal) f.first × D.went (second_disk journal) f.second) }
     {
@@ -129,7 +130,7 @@ impl<M: Machine + Drop, D: Disk> Keep<M, D> {
         ensures calm { IfOk result (λ keep. (D.disk_faults (first_disk keep.journal) ≡ D.disk_faults (first_disk journal)) × (D.disk_faults (second_disk keep.journal) ≡ D.disk_faults (second_disk journal))) }
         ensures told { IfOk result (λ keep. (image : Option (List ℕ)) × IsRewritten M.stands_for (M.state keep.machine) journal image keep.journal × TellsIn D.told journal keep.journal (image_calls journal image)) }
         ensures told_first { IfErr result (λ f. f.reason ≡ OpenReason.DiskFault → (s : M.State) × (image : List ℕ) × M.stands_for (image ∷ []) s
-            × TellsSome D.told (first_disk journal) (second_disk journal) f.first f.second (image_calls journal (Some image))) }
+            × TellsSome D.told D.disk_faults D.went (first_disk journal) (second_disk journal) f.first f.second (image_calls journal (Some image))) }
         ensures went { IfOk result (λ keep. WentOn D.went journal keep.journal) }
         ensures went_err { IfErr result (λ f. D.went (first_disk journal) f.first × D.went (second_disk journal) f.second) }
     {

@@ -36,7 +36,7 @@ pub fn put_snapshot<M: Machine, D: Disk>(
     ensures put_off { result ≡ Err no_memory → SameButRoom journal.old journal.new }
     ensures turned { OnOk result ((image : List ℕ) × M.stands_for (image ∷ []) (M.state machine.now) × IsTurned image journal.old journal.new
         × TellsIn D.told journal.old journal.new (image_calls journal.old (Some image))) }
-    ensures told_first { result ≡ Err disk_fault → (image : List ℕ) × M.stands_for (image ∷ []) (M.state machine.now) × TellsSomeIn D.told journal.old journal.new (image_calls journal.old (Some image)) }
+    ensures told_first { result ≡ Err disk_fault → (image : List ℕ) × M.stands_for (image ∷ []) (M.state machine.now) × TellsSomeIn D.told D.disk_faults D.went journal.old journal.new (image_calls journal.old (Some image)) }
     ensures later { (D.disk_faults (first_disk journal.old) ≤ D.disk_faults (first_disk journal.new)) × (D.disk_faults (second_disk journal.old) ≤ D.disk_faults (second_disk journal.new)) }
     ensures calm { (result ≡ Err disk_fault → ⊥) → (D.disk_faults (first_disk journal.new) ≡ D.disk_faults (first_disk journal.old)) × (D.disk_faults (second_disk journal.new) ≡ D.disk_faults (second_disk journal.old)) }
     ensures cause { result ≡ Err disk_fault → Rose (D.disk_faults (first_disk journal.old)) (D.disk_faults (first_disk journal.new)) ⊎ Rose (D.disk_faults (second_disk journal.old)) (D.disk_faults (second_disk journal.new)) }

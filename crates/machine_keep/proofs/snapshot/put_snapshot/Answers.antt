@@ -17,7 +17,7 @@ returns-in_err-snapshot-clause-told_first g c _ =
     let image = c.in_ok-image.image.bytes in (
       image,
       c.in_ok-image.ensures.stands,
-      turned_some g.D.Disk.told c.args.journal.now c.image_in.new.journal c.snapshot.new.self image c.image_in.ensures.same c.in_err-snapshot.ensures.told_first c.in_err-snapshot.ensures.kept.0 c.in_err-snapshot.ensures.kept.1,
+      turned_some g.D.Disk.told g.D.Disk.disk_faults g.D.Disk.went g.met.D.Disk.went_refl g.met.D.Disk.went_trans c.args.journal.now c.image_in.new.journal c.snapshot.new.self image c.image_in.ensures.same c.in_err-snapshot.ensures.told_first c.in_err-snapshot.ensures.kept.0 c.in_err-snapshot.ensures.kept.1,
     )
 
 pub returns-clause-turned : goal.returns-clause-turned

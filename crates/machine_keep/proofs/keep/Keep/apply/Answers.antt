@@ -2,11 +2,12 @@ use Rattle.std.proofs.Common.{◌≡◌, ◌∙◌, Err, IfSome, Some, ap, inl, 
 use Rattle.host_journal.specs.Calls.{IsRead}
 use Rattle.host_journal.specs.Pair.{pair_of}
 use Rattle.host_journal.specs.State.{first_disk, is_ready, second_disk, stored}
-use Rattle.machine_keep.specs.Calls.{TellsIn, kept_calls, sync_calls}
+use Rattle.machine_keep.specs.Calls.{MakesPair, TellsIn, kept_calls, sync_calls}
 use Rattle.machine_keep.specs.Course.{IsDue, IsFound, Leaves, Shortens}
 use Rattle.machine_keep.specs.Kept.{IsMade, StandsAround, StandsFor, after_step, caught}
 use Rattle.machine_keep.specs.declared.fault.StepFault.TheVariants.{Disk as disk_fault, Memory as no_memory}
-use Rattle.machine_keep.proofs.CallLemmas.{handed_on, some_later, tells_both}
+use Rattle.host_journal.proofs.ToldLemmas.{handed_on}
+use Rattle.machine_keep.proofs.CallLemmas.{some_later, tells_both}
 use Rattle.machine_keep.proofs.CourseLemmas.{synced_and_room}
 use Rattle.machine_keep.proofs.KeepLemmas.{around, recovered, since_same}
 use Rattle.machine_keep.proofs.keep.Keep.apply.Goals as goal
@@ -111,9 +112,10 @@ returns-in_err-reply-clause-failed g c e =
       image = broke.image;
       due = subst (λ s. IsDue g.M.Machine.stands_for (after_step g.M.Machine.after s step) c.self.inside.journal (option_map g.M.Machine.record_of step) broke.image) same broke.due;
       left = subst (λ s. Leaves g.M.Machine.after s step broke.image (g.M.Machine.state c.keep_decided.new.self.machine) c.keep_decided.new.self.unsure) same broke.left;
-      told = some_later g.D.Disk.told (first_disk old.journal) (second_disk old.journal) (first_disk c.self.inside.journal) (second_disk c.self.inside.journal) (first_disk c.keep_decided.new.self.journal) (second_disk c.keep_decided.new.self.journal)
+      told = some_later g.D.Disk.told g.D.Disk.disk_faults g.D.Disk.went g.met.D.Disk.went_refl g.met.D.Disk.went_trans (first_disk old.journal) (second_disk old.journal) (first_disk c.self.inside.journal) (second_disk c.self.inside.journal) (first_disk c.keep_decided.new.self.journal) (second_disk c.keep_decided.new.self.journal)
           (sync_calls (is_ready old.journal.pending)) (kept_calls c.self.inside.journal (option_map g.M.Machine.record_of step) broke.image)
-          (subst (λ k. TellsIn g.D.Disk.told old.journal k.journal (sync_calls (is_ready old.journal.pending))) (sym c.self.view_is) c.in_ok-catch_up.ensures.told) broke.told;
+          (subst (λ k. MakesPair g.D.Disk.told g.D.Disk.disk_faults g.D.Disk.went (first_disk old.journal) (second_disk old.journal) (first_disk k.journal) (second_disk k.journal) (sync_calls (is_ready old.journal.pending))) (sym c.self.view_is)
+          (record { told = c.in_ok-catch_up.ensures.told; calm = c.in_ok-catch_up.ensures.calm; went = c.catch_up.ensures.went })) broke.told;
     })
 
 pub returns-clause-answered : goal.returns-clause-answered

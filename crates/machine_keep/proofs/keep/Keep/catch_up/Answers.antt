@@ -2,7 +2,7 @@ use Rattle.std.proofs.Common.{◌≡◌, ◌∙◌, ap, false, subst, sym, true}
 use Rattle.host_journal.specs.State.{first_disk, is_ready, second_disk}
 use Rattle.machine_keep.specs.Calls.{TellsSome, TellsSomeIn, sync_calls}
 use Rattle.machine_keep.specs.Kept.{caught}
-use Rattle.machine_keep.proofs.CallLemmas.{on_err}
+use Rattle.host_journal.proofs.CallLemmas.{on_err}
 use Rattle.machine_keep.proofs.CourseLemmas.{found_ready, syncs_some}
 use Rattle.machine_keep.proofs.keep.Keep.catch_up.Goals as goal
 
@@ -22,7 +22,7 @@ returns-in_err-stood-clause-unfound g c =
     on_err _ c.from_residual.result (record {
       became = ap (λ k. g.M.Machine.state k.machine) c.self.view_is;
       unsure = ap (λ k. k.unsure) c.self.view_is;
-      told = subst (λ k. TellsSomeIn g.D.Disk.told k.journal c.reload.new.self (sync_calls (is_ready k.journal.pending))) c.self.view_is
-          (subst (λ b. TellsSome g.D.Disk.told (first_disk at) (second_disk at) (first_disk c.reload.new.self) (second_disk c.reload.new.self) (sync_calls b)) (sym failed)
-          (syncs_some g.D.Disk.told (first_disk at) (second_disk at) (first_disk c.reload.new.self) (second_disk c.reload.new.self) c.in_err-stood.ensures.told_err));
+      told = subst (λ k. TellsSomeIn g.D.Disk.told g.D.Disk.disk_faults g.D.Disk.went k.journal c.reload.new.self (sync_calls (is_ready k.journal.pending))) c.self.view_is
+          (subst (λ b. TellsSome g.D.Disk.told g.D.Disk.disk_faults g.D.Disk.went (first_disk at) (second_disk at) (first_disk c.reload.new.self) (second_disk c.reload.new.self) (sync_calls b)) (sym failed)
+          (syncs_some g.D.Disk.told g.D.Disk.disk_faults g.D.Disk.went g.met.D.Disk.went_refl g.met.D.Disk.went_trans (first_disk at) (second_disk at) (first_disk c.reload.new.self) (second_disk c.reload.new.self) c.in_err-stood.ensures.told_err));
     })

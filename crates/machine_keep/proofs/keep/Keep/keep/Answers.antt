@@ -78,7 +78,8 @@ returns-in_err-shorten-clause-breaks g c _ =
       image = Some met.0;
       due = (sym (many_same old mid turned same payload c.put.ensures.kept c.in_ok-put.ensures.end) ∙ met.1, subst (λ s. g.M.Machine.stands_for (met.0 ∷ []) s) became met.2);
       left = (ap (λ m. g.M.Machine.state m) c.shorten.ensures.machine ∙ became, c.shorten.ensures.unsure ∙ c.in_ok-put.ensures.sure);
-      told = kept_late g.D.Disk.told old mid same payload turned c.shorten.new.self.journal c.put.ensures.kept c.in_ok-put.ensures.told met.0 met.3;
+      told = kept_late g.D.Disk.told g.D.Disk.disk_faults g.D.Disk.went g.met.D.Disk.went_refl g.met.D.Disk.went_trans old mid same payload turned c.shorten.new.self.journal c.put.ensures.kept
+          (record { told = c.in_ok-put.ensures.told; calm = c.in_ok-put.ensures.calm; went = c.put.ensures.went }) met.0 met.3;
     }
 
 pub returns-clause-keeps : goal.returns-clause-keeps

@@ -1,13 +1,13 @@
-use Rattle.std.proofs.Common.{◌≡◌, ◌⊎◌, ◌∷◌, IfErr, List, Option, Some, [], false, inl, subst, ℕ}
+use Rattle.std.proofs.Common.{◌≡◌, IfErr, List, Option, inl, inr, subst, ℕ}
 use Rattle.std.proofs.lemmas.Result.{IfErr-weaker}
 use Rattle.host_journal.specs.Moments.{Adds, LeftIn}
 use Rattle.host_journal.specs.State.{first_disk, second_disk, stored}
 use Rattle.host_journal.specs.declared.fault.OpenReason.{OpenReason}
 use Rattle.host_journal.specs.declared.reading.DiskPlace.{DiskPlace}
-use Rattle.machine_keep.specs.Calls.{TellsIn, TellsSome, image_calls, sync_calls}
-use Rattle.machine_keep.specs.Course.{IsRewritten, Opened, Unwritten}
+use Rattle.machine_keep.specs.Calls.{TellsIn, image_calls}
+use Rattle.machine_keep.specs.Course.{IsRewritten, Opened}
 use Rattle.machine_keep.specs.Kept.{EachFrom, IsMade, StandsEither}
-use Rattle.machine_keep.proofs.CourseLemmas.{err_both, ok_more, opened_so, read_at, refused_so, syncs_some}
+use Rattle.machine_keep.proofs.CourseLemmas.{ok_more, opened_so, read_at, refused_so, syncs_some, unwritten_so}
 use Rattle.machine_keep.proofs.KeepLemmas.{left_so, not_opened, ok_both, opened}
 use Rattle.machine_keep.proofs.keep.Keep.open.Goals as goal
 
@@ -53,13 +53,18 @@ returns-in-Ok-clause-opened g c =
 pub returns-in-Ok-clause-told_err : goal.returns-in-Ok-clause-told_err
 returns-in-Ok-clause-told_err g c =
     let journal = c.in-Ok.journal in
-    err_both (λ f. (f.reason ≡ OpenReason.DiskFault → ⊥) → (f.first ≡ first_disk journal) × (f.second ≡ second_disk journal))
-    (λ f. f.reason ≡ OpenReason.DiskFault → (s : g.M.Machine.State) × (image : List ℕ) × g.M.Machine.stands_for (image ∷ []) s × TellsSome g.D.Disk.told (first_disk journal) (second_disk journal) f.first f.second (image_calls journal (Some image)))
-    (λ f. TellsSome g.D.Disk.told c.args.first c.args.second f.first f.second (sync_calls false)
-    ⊎ ((f.reason ≡ OpenReason.DiskFault) × Unwritten g.D.Disk.premise g.D.Disk.seen g.D.Disk.told g.M.Machine.stands_for c.args.first c.args.second f.first f.second))
-    (λ f refused some. refused_so g.D.Disk.premise g.D.Disk.seen g.D.Disk.told g.M.Machine.stands_for c.args.first c.args.second journal
-    (record { ready = c.in-Ok.ensures.ready; at = λ p. read_at journal c.in-Ok.list _ (c.in-Ok.ensures.list p); shut = λ p. c.in-Ok.ensures.shut p }) c.in-Ok.ensures.told_first c.in-Ok.ensures.told_second f.reason f.first f.second refused some)
-    c.of_list.result c.of_list.ensures.refused c.of_list.ensures.told_first
+    IfErr-weaker c.of_list.result _ _
+    (λ f some is. inr (unwritten_so g.D.Disk.premise g.D.Disk.seen g.D.Disk.told g.D.Disk.disk_faults g.D.Disk.went g.met.D.Disk.went_refl g.met.D.Disk.went_trans g.M.Machine.stands_for c.args.first c.args.second journal
+    (record { ready = c.in-Ok.ensures.ready; at = λ p. read_at journal c.in-Ok.list _ (c.in-Ok.ensures.list p); shut = λ p. c.in-Ok.ensures.shut p })
+    (record { told = (c.in-Ok.ensures.told_first, c.in-Ok.ensures.told_second); calm = c.in-Ok.ensures.calm; went = c.in-Ok.ensures.went }) f.first f.second (some is)))
+    c.of_list.ensures.told_first
+
+pub returns-in-Ok-clause-told_refused : goal.returns-in-Ok-clause-told_refused
+returns-in-Ok-clause-told_refused g c =
+    let journal = c.in-Ok.journal in
+    IfErr-weaker c.of_list.result _ _
+    (λ f refused calm. refused_so g.D.Disk.told c.args.first c.args.second (first_disk journal) (second_disk journal) f.first f.second (c.in-Ok.ensures.told_first, c.in-Ok.ensures.told_second) (refused calm))
+    c.of_list.ensures.refused
 
 pub returns-in-Err-clause-told_err : goal.returns-in-Err-clause-told_err
-returns-in-Err-clause-told_err g c = inl (syncs_some g.D.Disk.told c.args.first c.args.second c.in-Err.fault.first c.in-Err.fault.second c.in-Err.ensures.told_err)
+returns-in-Err-clause-told_err g c is = inl (syncs_some g.D.Disk.told g.D.Disk.disk_faults g.D.Disk.went g.met.D.Disk.went_refl g.met.D.Disk.went_trans c.args.first c.args.second c.in-Err.fault.first c.in-Err.fault.second (c.in-Err.ensures.told_err is))

@@ -2,7 +2,7 @@ use Rattle.std.proofs.Common.{◌≡◌, IfSome, None, Some, subst, sym}
 use Rattle.host_journal.specs.State.{stored}
 use Rattle.machine_keep.specs.Calls.{TellsIn, TellsSomeIn, record_calls}
 use Rattle.machine_keep.specs.Kept.{StandsBut, StandsFor}
-use Rattle.machine_keep.proofs.CallLemmas.{on_err}
+use Rattle.host_journal.proofs.CallLemmas.{on_err}
 use Rattle.machine_keep.proofs.KeepLemmas.{taken_in}
 use Rattle.machine_keep.proofs.keep.Keep.put.Goals as goal
 
@@ -23,8 +23,8 @@ invariant_of-self-2 g c =
 pub returns-in_err-step-clause-told_first : goal.returns-in_err-step-clause-told_first
 returns-in_err-step-clause-told_first g c =
     let at = c.self.inside.journal in
-    on_err _ c.from_residual.result (subst (λ k. TellsSomeIn g.D.Disk.told k.journal c.append.new.journal (record_calls k.journal (Some (g.M.Machine.record_of c.args.step)))) c.self.view_is
-    (subst (λ b. TellsSomeIn g.D.Disk.told at c.append.new.journal (record_calls at (Some b))) c.requires.bytes c.in_err-step.ensures.told_first))
+    on_err _ c.from_residual.result (subst (λ k. TellsSomeIn g.D.Disk.told g.D.Disk.disk_faults g.D.Disk.went k.journal c.append.new.journal (record_calls k.journal (Some (g.M.Machine.record_of c.args.step)))) c.self.view_is
+    (subst (λ b. TellsSomeIn g.D.Disk.told g.D.Disk.disk_faults g.D.Disk.went at c.append.new.journal (record_calls at (Some b))) c.requires.bytes c.in_err-step.ensures.told_first))
 
 pub returns-clause-told : goal.returns-clause-told
 returns-clause-told g c =
