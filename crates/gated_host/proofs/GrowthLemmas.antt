@@ -74,7 +74,7 @@ left_stands t made None now unsure left stands =
 left_stands t made (Some image) now unsure left stands = none_stands now unsure left.1
 
 -- ---- a call of a keep
-module _ {D : Type 0} (premise : Type 0) (seen : D → List ℕ) (told : D → Option (List DiskCall)) (may_leave : D → List ℕ → Type 0) (moment : D → ℕ) (left_since : D → ℕ → List ℕ → Type 0) (faults : D → ℕ)
+module _ {D : Type 0} (premise : Type 0) (seen : D → List ℕ) (told : D → Option (List DiskCall)) (may_leave : D → List ℕ → Type 0) (moment : D → ℕ) (left_since : D → ℕ → List ℕ → Type 0) (faults : D → ℕ) (goes : D → D → Type 0)
     (grow : StepsGrow) (keep : StepsKeep) (k l : Kept Seen D HostStep) (call : HostCall)
     (asked : IsAsked k.machine.standing.config call) (lawful : Lawful k.machine.standing.config.number k.machine.standing.book) (unsure : IfSome k.unsure (MayStand k.machine.standing)) where
   abbrev found_by : Bool → Standing
@@ -98,22 +98,22 @@ module _ {D : Type 0} (premise : Type 0) (seen : D → List ℕ) (told : D → O
   wanting_grown : WantingKeep premise seen told k l → Grown k.machine.standing.book l.machine.standing.book
   wanting_grown w = subst (λ (s : Standing). Grown k.machine.standing.book s.book) (sym w.became) (to_found w.stood)
 
-  unkept_grown : UnkeptKeep premise seen told k l call → Grown k.machine.standing.book l.machine.standing.book
+  unkept_grown : UnkeptKeep premise seen told faults goes k l call → Grown k.machine.standing.book l.machine.standing.book
   unkept_grown u = through u.stood (left_grown (found_by u.stood) u.step u.image l.machine.standing l.unsure u.left (from_found u.stood u.reply u.step u.answered))
 
-  failed_grown : Unfound told (λ (h : Seen). h.standing) k l ⊎ UnkeptKeep premise seen told k l call → Grown k.machine.standing.book l.machine.standing.book
+  failed_grown : Unfound told faults goes (λ (h : Seen). h.standing) k l ⊎ UnkeptKeep premise seen told faults goes k l call → Grown k.machine.standing.book l.machine.standing.book
   failed_grown (inl u) = subst (λ (s : Standing). Grown k.machine.standing.book s.book) (sym u.became) (Grown-refl k.machine.standing.book)
   failed_grown (inr u) = unkept_grown u
 
-  book_grown : (r : Result Reply StepFault) → Applied premise seen told may_leave moment left_since faults k l call r → Grown k.machine.standing.book l.machine.standing.book
+  book_grown : (r : Result Reply StepFault) → Applied premise seen told may_leave moment left_since faults goes k l call r → Grown k.machine.standing.book l.machine.standing.book
   book_grown (Ok said) a = answered_grown said a.answered
   book_grown (Err Disk) a = failed_grown (a.failed refl)
   book_grown (Err Memory) a = wanting_grown (a.wanting refl)
 
-  pub later : (r : Result Reply StepFault) → Applied premise seen told may_leave moment left_since faults k l call r → IsLater faults (seen_of k) (seen_of l)
+  pub later : (r : Result Reply StepFault) → Applied premise seen told may_leave moment left_since faults goes k l call r → IsLater faults (seen_of k) (seen_of l)
   later r a = record { config = a.fixed; book = book_grown r a; first = a.later.0; second = a.later.1 }
 
-  failed_stands : Unfound told (λ (h : Seen). h.standing) k l ⊎ UnkeptKeep premise seen told k l call → IfSome l.unsure (MayStand l.machine.standing)
+  failed_stands : Unfound told faults goes (λ (h : Seen). h.standing) k l ⊎ UnkeptKeep premise seen told faults goes k l call → IfSome l.unsure (MayStand l.machine.standing)
   failed_stands (inl u) =
       subst (λ (o : Option HostStep). IfSome o (MayStand l.machine.standing)) (sym u.unsure) (subst (λ (s : Standing). IfSome k.unsure (MayStand s)) (sym u.became) unsure)
   failed_stands (inr u) =
@@ -121,7 +121,7 @@ module _ {D : Type 0} (premise : Type 0) (seen : D → List ℕ) (told : D → O
       (unsure_stands grow keep (found_by u.stood) call (found_asked u.stood) (found_lawful k.machine.standing k.unsure u.stood lawful unsure) u.reply u.step u.answered)
 
   -- what is unsure then is a step by which the book grows
-  pub stands : (r : Result Reply StepFault) → Applied premise seen told may_leave moment left_since faults k l call r → IfSome l.unsure (MayStand l.machine.standing)
+  pub stands : (r : Result Reply StepFault) → Applied premise seen told may_leave moment left_since faults goes k l call r → IfSome l.unsure (MayStand l.machine.standing)
   stands (Ok said) a = none_stands l.machine.standing l.unsure (a.sure_after (a.ready (λ e. cc)))
   stands (Err Disk) a = failed_stands (a.failed refl)
   stands (Err Memory) a = none_stands l.machine.standing l.unsure (a.sure_after (a.ready (λ e. cc)))

@@ -84,10 +84,11 @@ module _ {D : Type 0} (premise : Type 0) (seen : D → List ℕ) (told : D → O
     told = w.told;
   }
 
-  pub unfound_seen : Unfound told (λ (h : Seen). h.standing) k l → Unfound told (λ (s : Standing). s) (seen_of k) (seen_of l)
+module _ {D : Type 0} (premise : Type 0) (seen : D → List ℕ) (told : D → Option (List DiskCall)) (faults : D → ℕ) (goes : D → D → Type 0) (k l : Kept Seen D HostStep) where
+  pub unfound_seen : Unfound told faults goes (λ (h : Seen). h.standing) k l → Unfound told faults goes (λ (s : Standing). s) (seen_of k) (seen_of l)
   unfound_seen u = record { became = u.became; unsure = u.unsure; told = u.told }
 
-  pub unkept_seen : (call : HostCall) → UnkeptKeep premise seen told k l call → Unkept premise seen told (λ (s : Standing). s) StandsNow bytes_of Answers Follows after (seen_of k) (seen_of l) call
+  pub unkept_seen : (call : HostCall) → UnkeptKeep premise seen told faults goes k l call → Unkept premise seen told faults goes (λ (s : Standing). s) StandsNow bytes_of Answers Follows after (seen_of k) (seen_of l) call
   unkept_seen call u = record {
     stood = u.stood;
     place = with_room u.place 0;
@@ -99,5 +100,5 @@ module _ {D : Type 0} (premise : Type 0) (seen : D → List ℕ) (told : D → O
     image = u.image;
     due = due_bare StandsNow (after_step after (caught after k.machine.standing k.unsure u.stood) u.step) u.place (option_map bytes_of u.step) u.image u.due;
     left = u.left;
-    told = subst (λ (cs : PairCalls). TellsSomeIn told k.journal l.journal cs) (calls_bare (is_ready k.journal.pending) u.place (option_map bytes_of u.step) u.image) u.told;
+    told = subst (λ (cs : PairCalls). TellsSomeIn told faults goes k.journal l.journal cs) (calls_bare (is_ready k.journal.pending) u.place (option_map bytes_of u.step) u.image) u.told;
   }

@@ -34,7 +34,7 @@ counted_is k l r failed ready has_moved changed generation bytes failed_is ready
 same_seen : {D : Type 0} (k l : Kept Seen D HostStep) → l.machine.standing ≡ k.machine.standing → with_room l.journal 0 ≡ with_room k.journal 0 → l.unsure ≡ k.unsure → l.put_off ≡ k.put_off → seen_of l ≡ seen_of k
 same_seen k l standing journal unsure put_off = cc
 
-module _ {D : Type 0} (premise : Type 0) (seen : D → List ℕ) (told : D → Option (List DiskCall)) (may_leave : D → List ℕ → Type 0) (moment : D → ℕ) (left_since : D → ℕ → List ℕ → Type 0) (faults : D → ℕ)
+module _ {D : Type 0} (premise : Type 0) (seen : D → List ℕ) (told : D → Option (List DiskCall)) (may_leave : D → List ℕ → Type 0) (moment : D → ℕ) (left_since : D → ℕ → List ℕ → Type 0) (faults : D → ℕ) (goes : D → D → Type 0)
     (k l : Kept Seen D HostStep) (call : HostCall) where
   abbrev found_by : Bool → Standing
   found_by stood = caught after k.machine.standing k.unsure stood
@@ -61,7 +61,7 @@ module _ {D : Type 0} (premise : Type 0) (seen : D → List ℕ) (told : D → O
   answered_says : (said : Reply) (a : AnsweredKeep premise seen told k l call said) → said ≡ step_reply k.machine.standing.config (found_by a.stood).book call.clock call.input
   answered_says said a = a.answered.reply ∙ ap (λ (c : Config). step_reply c (found_by a.stood).book call.clock call.input) (found_config k.machine.standing k.unsure a.stood)
 
-  pub comes : (r : Result Reply StepFault) → Applied premise seen told may_leave moment left_since faults k l call r → (changed : Bool) → changed ≡ counted k l r → Comes premise seen told may_leave faults (seen_of k) call r changed (seen_of l)
+  pub comes : (r : Result Reply StepFault) → Applied premise seen told may_leave moment left_since faults goes k l call r → (changed : Bool) → changed ≡ counted k l r → Comes premise seen told may_leave faults goes (seen_of k) call r changed (seen_of l)
   comes (Ok said) a changed is = record {
     course = answered_seen premise seen told k l call said a.answered;
     says = answered_says said a.answered;
@@ -73,7 +73,7 @@ module _ {D : Type 0} (premise : Type 0) (seen : D → List ℕ) (told : D → O
     counts = is ∙ answered_counts said a.answered a.order;
   }
   comes (Err Disk) a changed is = record {
-    course = ⊎_elim (λ u. inl (unfound_seen premise seen told k l u)) (λ u. inr (unkept_seen premise seen told k l call u)) (a.failed refl);
+    course = ⊎_elim (λ u. inl (unfound_seen premise seen told faults goes k l u)) (λ u. inr (unkept_seen premise seen told faults goes k l call u)) (a.failed refl);
     cause = a.cause refl;
     counts = is;
   }
@@ -85,7 +85,7 @@ module _ {D : Type 0} (premise : Type 0) (seen : D → List ℕ) (told : D → O
     counts = is ∙ wanting_counts (a.wanting refl) a.order;
   }
 
-  pub moments : (r : Result Reply StepFault) → Applied premise seen told may_leave moment left_since faults k l call r → AtEachMoment premise seen may_leave moment left_since (seen_of k) (seen_of l) call
+  pub moments : (r : Result Reply StepFault) → Applied premise seen told may_leave moment left_since faults goes k l call r → AtEachMoment premise seen may_leave moment left_since (seen_of k) (seen_of l) call
   moments r a = record { around = a.around; recovers = a.recovers }
 
   -- ---- one that doesn't count changes nothing
@@ -111,7 +111,7 @@ module _ {D : Type 0} (premise : Type 0) (seen : D → List ℕ) (told : D → O
       (sure_after ∙ sym sure)
       w.put_off
 
-  pub same : (r : Result Reply StepFault) → Applied premise seen told may_leave moment left_since faults k l call r → (changed : Bool) → changed ≡ counted k l r → changed ≡ false → seen_of l ≡ seen_of k
+  pub same : (r : Result Reply StepFault) → Applied premise seen told may_leave moment left_since faults goes k l call r → (changed : Bool) → changed ≡ counted k l r → changed ≡ false → seen_of l ≡ seen_of k
   same (Ok said) a changed is still =
       let none = no_step (is_ready k.journal.pending) a.answered.step (sym (answered_counts said a.answered a.order) ∙ (sym is ∙ still)) in
       answered_same said a.answered (a.sure none.0) (a.sure_after (a.ready (λ e. cc))) none.0 none.1

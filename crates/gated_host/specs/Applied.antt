@@ -31,14 +31,14 @@ module _ {D : Type 0} (premise : Type 0) (seen : D → List ℕ) (told : D → O
   abbrev pub WantingKeep : Kept Seen D HostStep → Kept Seen D HostStep → Type 0
   WantingKeep k l = Wanting premise seen told (λ (h : Seen). h.standing) StandsNow bytes_of Answers Follows after k l
 
-  abbrev pub UnkeptKeep : Kept Seen D HostStep → Kept Seen D HostStep → HostCall → Type 0
-  UnkeptKeep k l call = Unkept premise seen told (λ (h : Seen). h.standing) StandsNow bytes_of Answers Follows after k l call
+  abbrev pub UnkeptKeep : (D → ℕ) → (D → D → Type 0) → Kept Seen D HostStep → Kept Seen D HostStep → HostCall → Type 0
+  UnkeptKeep faults goes k l call = Unkept premise seen told faults goes (λ (h : Seen). h.standing) StandsNow bytes_of Answers Follows after k l call
 
-  module _ (may_leave : D → List ℕ → Type 0) (moment : D → ℕ) (left_since : D → ℕ → List ℕ → Type 0) (faults : D → ℕ) where
+  module _ (may_leave : D → List ℕ → Type 0) (moment : D → ℕ) (left_since : D → ℕ → List ℕ → Type 0) (faults : D → ℕ) (goes : D → D → Type 0) where
     pub record Applied (k l : Kept Seen D HostStep) (call : HostCall) (r : Result Reply StepFault) : Type 0 where
       pub answered : IfOk r (AnsweredKeep k l call)
       pub wanting : r ≡ Err Memory → WantingKeep k l
-      pub failed : r ≡ Err Disk → Unfound told (λ (h : Seen). h.standing) k l ⊎ UnkeptKeep k l call
+      pub failed : r ≡ Err Disk → Unfound told faults goes (λ (h : Seen). h.standing) k l ⊎ UnkeptKeep faults goes k l call
       pub durable : premise → OnOk r (EachImage may_leave l.journal (StandsFor StandsNow l.machine.standing))
       pub same : premise → r ≡ Err Memory → stored seen l.journal ≡ stored seen k.journal
       pub around : premise → IsTrue (is_ready k.journal.pending) → EachSince moment left_since k.journal l.journal (StandsAround StandsNow Answers after k.machine.standing call)

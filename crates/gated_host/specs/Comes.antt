@@ -29,7 +29,7 @@ bytes_of step = step.record.items
 abbrev pub IsCalm : {D : Type 0} → (D → ℕ) → Gated D → Gated D → Type 0
 IsCalm faults x y = (faults (first_disk y.journal) ≡ faults (first_disk x.journal)) × (faults (second_disk y.journal) ≡ faults (second_disk x.journal))
 
-module _ {D : Type 0} (premise : Type 0) (seen : D → List ℕ) (told : D → Option (List DiskCall)) (may_leave : D → List ℕ → Type 0) (faults : D → ℕ) where
+module _ {D : Type 0} (premise : Type 0) (seen : D → List ℕ) (told : D → Option (List DiskCall)) (may_leave : D → List ℕ → Type 0) (faults : D → ℕ) (goes : D → D → Type 0) where
   -- a step that was answered
   pub record IsAnswered (x y : Gated D) (call : HostCall) (said : Reply) (changed : Bool) : Type 0 where
     -- of any kept machine: what was found, the step, the snapshot if one was made, and what the disks tell
@@ -55,7 +55,7 @@ module _ {D : Type 0} (premise : Type 0) (seen : D → List ℕ) (told : D → O
 
   -- one at which a disk failed: the step that it makes is unsure, or stands already
   pub record IsFailed (x y : Gated D) (call : HostCall) (changed : Bool) : Type 0 where
-    pub course : Unfound told (λ (s : Standing). s) x y ⊎ Unkept premise seen told (λ (s : Standing). s) StandsNow bytes_of Answers Follows after x y call
+    pub course : Unfound told faults goes (λ (s : Standing). s) x y ⊎ Unkept premise seen told faults goes (λ (s : Standing). s) StandsNow bytes_of Answers Follows after x y call
     pub cause : Rose (faults (first_disk x.journal)) (faults (first_disk y.journal)) ⊎ Rose (faults (second_disk x.journal)) (faults (second_disk y.journal))
     pub counts : changed ≡ true
 
@@ -78,10 +78,10 @@ module _ {D : Type 0} (premise : Type 0) (seen : D → List ℕ) (may_leave : D 
 abbrev pub Reads : {D : Type 0} → Gated D → Bool → Gated D → Type 0
 Reads x changed y = (y ≡ x) × (changed ≡ false)
 
-module _ {D : Type 0} (premise : Type 0) (seen : D → List ℕ) (told : D → Option (List DiskCall)) (may_leave : D → List ℕ → Type 0) (moment : D → ℕ) (left_since : D → ℕ → List ℕ → Type 0) (faults : D → ℕ) where
+module _ {D : Type 0} (premise : Type 0) (seen : D → List ℕ) (told : D → Option (List DiskCall)) (may_leave : D → List ℕ → Type 0) (moment : D → ℕ) (left_since : D → ℕ → List ℕ → Type 0) (faults : D → ℕ) (goes : D → D → Type 0) where
   -- a call may go from the first state to the second, with this reply, and whether it counts as a change
   abbrev pub Steps : Gated D → KeepCall → KeepReply → Bool → Gated D → Type 0
-  Steps x (Apply call) (reply.Answer r) changed y = Comes premise seen told may_leave faults x call r changed y × AtEachMoment premise seen may_leave moment left_since x y call
+  Steps x (Apply call) (reply.Answer r) changed y = Comes premise seen told may_leave faults goes x call r changed y × AtEachMoment premise seen may_leave moment left_since x y call
   Steps x (Orders clock) (reply.Orders r) changed y = IfOk r (λ list. list ≡ orders x.machine.book clock) × Reads x changed y
   Steps x (Due clock) (reply.Due r) changed y = IfOk r (λ list. list ≡ due x.machine.book clock) × Reads x changed y
   Steps x (Attempt key index) (reply.Attempt r) changed y = IfOk r (λ made. made ≡ attempt_of x.machine.book key index) × Reads x changed y
