@@ -1,5 +1,6 @@
 pub mod ArmedLemmas
 pub mod CallLemmas
 mod CourseLemmas
+mod CrashLemmas
 mod KeepLemmas
 pub mod StoppedLemmas

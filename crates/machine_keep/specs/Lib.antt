@@ -1,5 +1,6 @@
 pub mod Armed
 pub mod Calls
 pub mod Course
+pub mod Crash
 pub mod Kept
 pub mod Stopped

@@ -27,8 +27,8 @@ const FEW_RECORD_BYTES: u128 = 1_048_576;
 /// A machine whose steps are kept on two disks.
 #[derive(Drop)]
 pub struct Keep<M: Machine, D: Disk> {
-    machine: M,
-    journal: Journal<D>,
+    pub(crate) machine: M,
+    pub(crate) journal: Journal<D>,
     // of an append that failed
     unsure: Option<M::Step>,
     put_off: u64,
@@ -277,7 +277,7 @@ impl<M: Machine, D: Disk> Keep<M, D> {
     }
 
     // Writes the record of a step, and takes the step in.
-    fn put(&mut self, step: M::Step, bytes: &[u8]) -> Result<(), DiskFault>
+    pub(crate) fn put(&mut self, step: M::Step, bytes: &[u8]) -> Result<(), DiskFault>
         requires ready { IsTrue (is_ready self.old.journal.pending) }
         requires follows { M.follows (M.state self.old.machine) step }
         requires has_room { M.has_room self.old.machine step }
@@ -309,7 +309,7 @@ impl<M: Machine, D: Disk> Keep<M, D> {
     }
 
     // Puts a snapshot in place of the records where these are many, or puts it off.
-    fn shorten(&mut self, alloc: Global) -> Result<(), DiskFault>
+    pub(crate) fn shorten(&mut self, alloc: Global) -> Result<(), DiskFault>
         requires ready { IsTrue (is_ready self.old.journal.pending) }
         ensures machine { self.new.machine ≡ self.old.machine }
         ensures unsure { self.new.unsure ≡ self.old.unsure }
@@ -356,13 +356,19 @@ impl<M: Machine + Drop, D: Disk> Keep<M, D> {
         ensures first { result.0 ≡ first_disk self.journal }
         ensures second { result.1 ≡ second_disk self.journal }
     {
+        self.into_journal().into_disks()
+    }
+
+    pub(crate) fn into_journal(self) -> Journal<D>
+        ensures { result ≡ self.journal }
+    {
         let Keep {
             machine: _,
             journal,
             unsure: _,
             put_off: _,
         } = self;
-        journal.into_disks()
+        journal
     }
 }
 

@@ -2,6 +2,7 @@
 //! a snapshot takes the place of all records.
 #![tactic(auto)]
 
+pub mod crash;
 pub mod fault;
 pub mod keep;
 pub mod law;

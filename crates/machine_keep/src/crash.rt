@@ -1,0 +1,147 @@
+//! A step that a crash stops, over disks in memory.
+ghost use Rattle.std.specs.Prelude.{◌≡◌, ◌+◌, ◌≤◌, IfOk, IfSome, IsTrue, Option, if◌then◌else◌, length};
+ghost use Rattle.ps_disks.specs.Disk.{AreBounded, Only};
+ghost use Rattle.ps_disks.specs.History.{LeftSince, bytes_now};
+ghost use Rattle.ps_disks.specs.Run.{IsArmed};
+ghost use Rattle.host_journal.specs.Crash.{IsCrashed};
+ghost use Rattle.host_journal.specs.Pair.{pair_of};
+ghost use Rattle.host_journal.specs.State.{is_ready};
+ghost use Rattle.machine_keep.specs.Crash.{keeps_step};
+ghost use Rattle.machine_keep.specs.Kept.{StandsFor, after_step};
+
+use crate::keep::Keep;
+use crate::machine::{Decided, Machine};
+use host_journal::crash::crash_now;
+use ps_disks::disk::Disk;
+use ps_disks::image::Image;
+use ps_disks::memory_disk::MemoryDisk;
+use ps_time::memory::Memory;
+use std::alloc::Global;
+
+impl<M: Machine + Drop> Keep<M, MemoryDisk> {
+    /// Begins to make a step, stops at one of its calls of the disks, counted from 1 over both, after the last where it makes
+    /// fewer, and before them all for 0, and hands back the disks as a crash there leaves them. A write or cut at which it stops
+    /// counts among those that no sync made sure of; a sync at which it stops is not made. `Keep::open` then finds the state for
+    /// which the disks stand. `Memory` also stands for a call of a disk that failed.
+    pub fn crash_in(
+        self,
+        alloc: Global,
+        call: M::Call,
+        stop: u64,
+        image: Image,
+    ) -> Result<(MemoryDisk, MemoryDisk), Memory>
+        requires may { M.may_ask (M.fixed (M.state self.machine)) call }
+        requires ready { IsTrue (is_ready self.journal.pending) }
+        // The step that the call would have made is kept exactly so.
+        ensures kept { IfOk result (λ disks. (reply : M.Reply) × (step : Option M.Step) × M.answers (M.state self.machine) call reply step
+            × StandsFor M.stands_for (if keeps_step stop image then after_step M.after (M.state self.machine) step else M.state self.machine) (pair_of (⟦<MemoryDisk as Disk>⟧.seen disks.0) (⟦<MemoryDisk as Disk>⟧.seen disks.1))) }
+        ensures calm { IfOk result (λ disks. IsArmed disks.0 0 × IsArmed disks.1 0) }
+        // A later crash leaves what they read.
+        ensures first { IfOk result (λ disks. Only (⟦<MemoryDisk as Disk>⟧.seen disks.0) (⟦<MemoryDisk as Disk>⟧.may_leave disks.0)) }
+        ensures second { IfOk result (λ disks. Only (⟦<MemoryDisk as Disk>⟧.seen disks.1) (⟦<MemoryDisk as Disk>⟧.may_leave disks.1)) }
+        ensures size { IfOk result (λ disks. AreBounded (⟦<MemoryDisk as Disk>⟧.may_leave disks.0) × AreBounded (⟦<MemoryDisk as Disk>⟧.may_leave disks.1)) }
+    {
+        let mut keep = self;
+        keep.known();
+        let Decided { reply: _, step } = keep.machine.decide(alloc, call)?;
+        match step {
+            Some(step) => keep.crash_in_step(alloc, step, stop, image),
+            None => keep.crash_at_rest(image),
+        }
+    }
+
+    // A step without changes makes no call.
+    fn crash_at_rest(self, image: Image) -> Result<(MemoryDisk, MemoryDisk), Memory>
+        requires ready { IsTrue (is_ready self.journal.pending) }
+        ensures stands { IfOk result (λ disks. StandsFor M.stands_for (M.state self.machine) (pair_of (bytes_now disks.0.history) (bytes_now disks.1.history))) }
+        ensures first { IfOk result (λ disks. IsCrashed disks.0) }
+        ensures second { IfOk result (λ disks. IsCrashed disks.1) }
+    {
+        self.known();
+        let (first, second) = self.into_disks();
+        let first = crash_now(first, image)?;
+        let second = crash_now(second, image)?;
+        Ok((first, second))
+    }
+
+    // The first four calls are those of the record.
+    fn crash_in_step(
+        self,
+        alloc: Global,
+        step: M::Step,
+        stop: u64,
+        image: Image,
+    ) -> Result<(MemoryDisk, MemoryDisk), Memory>
+        requires ready { IsTrue (is_ready self.journal.pending) }
+        requires follows { M.follows (M.state self.machine) step }
+        requires has_room { M.has_room self.machine step }
+        requires short { length (M.record_of step) ≤ 8388608 }
+        ensures kept { IfOk result (λ disks. StandsFor M.stands_for (if keeps_step stop image then M.after (M.state self.machine) step else M.state self.machine) (pair_of (bytes_now disks.0.history) (bytes_now disks.1.history))) }
+        ensures first { IfOk result (λ disks. IsCrashed disks.0) }
+        ensures second { IfOk result (λ disks. IsCrashed disks.1) }
+    {
+        let mut keep = self;
+        keep.known();
+        let bytes = keep.machine.write_record(alloc, &step)?;
+        keep.journal.reserve(bytes.len())?;
+        if stop > 4 {
+            let Ok(()) = keep.put(step, &bytes) else {
+                return Err(Memory);
+            };
+            return keep.crash_in_shorten(alloc, stop - 4, image);
+        }
+        drop(step);
+        keep.into_journal().crash_in_append(&bytes, stop, image)
+    }
+
+    // A snapshot, where one is due, and the state stays.
+    fn crash_in_shorten(
+        self,
+        alloc: Global,
+        stop: u64,
+        image: Image,
+    ) -> Result<(MemoryDisk, MemoryDisk), Memory>
+        requires ready { IsTrue (is_ready self.journal.pending) }
+        requires counted { 1 ≤ stop }
+        ensures stands { IfOk result (λ disks. StandsFor M.stands_for (M.state self.machine) (pair_of (bytes_now disks.0.history) (bytes_now disks.1.history))) }
+        ensures first { IfOk result (λ disks. IsCrashed disks.0) }
+        ensures second { IfOk result (λ disks. IsCrashed disks.1) }
+    {
+        let mut keep = self;
+        keep.known();
+        let before = keep.calls();
+        let Ok(()) = keep.shorten(alloc) else {
+            return Err(Memory);
+        };
+        let (first, second) = keep.into_disks();
+        let first = crash_since(first, before.0, stop, image)?;
+        let second = crash_since(second, before.1, stop, image)?;
+        Ok((first, second))
+    }
+}
+
+// What a crash leaves of a disk that stopped at this of its calls since there were so many.
+fn crash_since(disk: MemoryDisk, before: u64, stop: u64, image: Image) -> Result<MemoryDisk, Memory>
+    requires earlier { before ≤ length disk.history.log }
+    requires counted { 1 ≤ stop }
+    ensures left { IfOk result (λ left. LeftSince disk.history before (bytes_now left.history)) }
+    ensures crashed { IfOk result (λ left. IsCrashed left) }
+{
+    let calls = calls_made(&disk, before, stop);
+    disk.crashed(calls, image)
+}
+
+// A sync at which it stops is not made.
+fn calls_made(disk: &MemoryDisk, before: u64, stop: u64) -> u64
+    requires earlier { before ≤ length disk.now.history.log }
+    requires counted { 1 ≤ stop }
+    ensures from { before ≤ result }
+    ensures to { result ≤ length disk.now.history.log }
+{
+    let all = disk.calls();
+    if stop > all - before {
+        return all;
+    }
+    let call = before + stop;
+    if disk.was_sync(call) { call - 1 } else { call }
+}
