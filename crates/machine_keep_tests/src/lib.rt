@@ -4,6 +4,8 @@
 
 pub mod armed;
 #[cfg(test)]
+mod crash_tests;
+#[cfg(test)]
 mod disks;
 pub mod gatherer;
 #[cfg(test)]

@@ -153,14 +153,14 @@ fn an_earlier_list_of_the_last_generation_stays(rt: HostRuntime) -> Result<(), F
     Ok(())
 }
 
-const PIECE: usize = 65_536;
+pub const PIECE: usize = 65_536;
 
-fn piece(alloc: Global) -> Result<Option<Items<u8>>, Memory> {
+pub fn piece(alloc: Global) -> Result<Option<Items<u8>>, Memory> {
     Ok(Some(Items::from_vec([7].as_slice().repeat(alloc, PIECE)?)))
 }
 
 // So many pieces more.
-fn gathers(alloc: Global, keep: &mut Kept, pieces: usize) -> Result<bool, Memory> {
+pub fn gathers(alloc: Global, keep: &mut Kept, pieces: usize) -> Result<bool, Memory> {
     for _ in 0..pieces {
         let piece = piece(alloc)?;
         if keep.apply(alloc, piece).is_err() {
