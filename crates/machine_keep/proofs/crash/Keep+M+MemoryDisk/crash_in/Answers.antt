@@ -11,7 +11,7 @@ pub returns-in-None-clause-kept : goal.returns-in-None-clause-kept
 returns-in-None-clause-kept g c =
     let same = c.decide.ensures.same ∙ ap (λ k. g.M.Machine.state k.machine) c.keep.view_is in
     let answered = subst (λ k. g.M.Machine.answers (g.M.Machine.state k.machine) c.args.call c.in_ok-step.field-0.reply c.in_ok-step.field-0.step) c.keep.view_is c.in_ok-step.ensures.answer in
-    let none = subst (λ o. g.M.Machine.answers (g.M.Machine.state c.args.self.machine) c.args.call c.in_ok-step.field-0.reply o) (c.in_ok-step.step-is ∙ c.in-None.is) answered in
+    let none = subst (λ o. g.M.Machine.answers (g.M.Machine.state c.args.self.machine) c.args.call c.in_ok-step.field-0.reply o) c.in-None.is answered in
     IfOk-weaker c.crash_at_rest.result _ _
     (λ disks stands. (
       c.in_ok-step.field-0.reply,
