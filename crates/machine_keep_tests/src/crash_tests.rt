@@ -67,7 +67,7 @@ fn one_without_changes_leaves_the_bytes(rt: HostRuntime) -> Result<(), Fail> {
     Ok(())
 }
 
-// With fifteen pieces, one of which is more than a journal holds before a snapshot.
+// With fifteen pieces. One more, and the records are many.
 fn with_pieces(alloc: Global) -> Result<Option<Kept>, Memory> {
     let Some(mut keep) = opened(alloc, 2_000_000, pair_on(alloc, &FRESH_FIRST)?) else {
         return Ok(None);
