@@ -6,7 +6,7 @@ ghost use Rattle.host_journal.specs.Pair.{pair_of};
 ghost use Rattle.host_journal.specs.State.{is_ready, EachImage, first_disk, second_disk};
 ghost use Rattle.host_model.specs.Book.{Book};
 ghost use Rattle.host_model.specs.Conditions.{IsConfig};
-ghost use Rattle.host_model.specs.Step.{step_book};
+ghost use Rattle.host_model.specs.Step.{step_book, step_reply};
 ghost use Rattle.host_model.specs.declared.input.Input.TheVariants.{Open as OpenInput};
 ghost use Rattle.machine_keep.specs.Kept.{StandsEither, StandsFor};
 ghost use Rattle.host_keep.specs.Standing.{StandsNow, StoodOnce};
@@ -62,6 +62,8 @@ pub fn open<D: Disk>(
     ensures durable { D.premise → IfOk result (λ keep. EachImage D.may_leave keep.journal (StandsFor StandsNow keep.machine.standing)) }
     ensures ready { IfOk result (λ keep. IsTrue (is_ready keep.journal.pending)) }
     ensures nothing { D.premise → IfErr result (λ f. (place : _) → f.reason ≡ KeepReason.NotAJournal place → (b : Book) → StandsEither StandsNow StoodOnce (record { config = config; book = b }) (pair_of (D.seen first) (D.seen second)) → ⊥) }
+    ensures limits { D.premise → IfErr result (λ f. (wrong : _) → f.reason ≡ KeepReason.Limits wrong → (before : Book) × StandsEither StandsNow StoodOnce (record { config = config; book = before }) (pair_of (D.seen first) (D.seen second))
+        × (step_reply config before clock OpenInput ≡ Reply.LimitsWrong wrong)) }
     ensures fault { IfErr result (λ f. f.reason ≡ KeepReason.DiskFault → Rose (D.disk_faults first) (D.disk_faults f.first) ⊎ Rose (D.disk_faults second) (D.disk_faults f.second)) }
     ensures calm { IfOk result (λ keep. (D.disk_faults (first_disk keep.journal) ≡ D.disk_faults first) × (D.disk_faults (second_disk keep.journal) ≡ D.disk_faults second)) }
     ensures calm_err { IfErr result (λ f. (f.reason ≡ KeepReason.DiskFault → ⊥) → (D.disk_faults f.first ≡ D.disk_faults first) × (D.disk_faults f.second ≡ D.disk_faults second)) }
@@ -98,6 +100,7 @@ fn begin<D: Disk>(
     ensures durable { D.premise → IfOk result (λ k. EachImage D.may_leave k.journal (StandsFor StandsNow k.machine.standing)) }
     ensures ready { IfOk result (λ k. IsTrue (is_ready k.journal.pending)) }
     ensures no_place { IfErr result (λ f. (place : _) → f.reason ≡ KeepReason.NotAJournal place → ⊥) }
+    ensures limits { IfErr result (λ f. (wrong : _) → f.reason ≡ KeepReason.Limits wrong → step_reply keep.machine.standing.config keep.machine.standing.book clock OpenInput ≡ Reply.LimitsWrong wrong) }
     ensures fault { IfErr result (λ f. f.reason ≡ KeepReason.DiskFault → Rose (D.disk_faults (first_disk keep.journal)) (D.disk_faults f.first) ⊎ Rose (D.disk_faults (second_disk keep.journal)) (D.disk_faults f.second)) }
     ensures calm { IfOk result (λ k. (D.disk_faults (first_disk k.journal) ≡ D.disk_faults (first_disk keep.journal)) × (D.disk_faults (second_disk k.journal) ≡ D.disk_faults (second_disk keep.journal))) }
     ensures calm_err { IfErr result (λ f. (f.reason ≡ KeepReason.DiskFault → ⊥) → (D.disk_faults f.first ≡ D.disk_faults (first_disk keep.journal)) × (D.disk_faults f.second ≡ D.disk_faults (second_disk keep.journal))) }
@@ -125,6 +128,7 @@ fn reason_of(reason: OpenReason) -> KeepReason
     ensures place { (place : _) → result ≡ KeepReason.NotAJournal place → reason ≡ OpenReason.NotAJournal place }
     ensures disk { result ≡ KeepReason.DiskFault → reason ≡ OpenReason.DiskFault }
     ensures no_disk { (result ≡ KeepReason.DiskFault → ⊥) → reason ≡ OpenReason.DiskFault → ⊥ }
+    ensures no_limits { (wrong : _) → result ≡ KeepReason.Limits wrong → ⊥ }
 {
     match reason {
         OpenReason::NotAJournal(place) => KeepReason::NotAJournal(place),
