@@ -1,12 +1,11 @@
 -- What a list stands for, as a snapshot is written and as a list is refused.
-use Rattle.std.specs.Prelude.{IfOk, IfSome}
-use Rattle.std.proofs.Common.{◌⊎◌, ◌≡◌, ◌≤◌, ◌∷◌, Err, List, None, Ok, Option, Result, Some, [], false, length, refl, subst, sym, true, ℕ, ⊎_elim}
+use Rattle.std.specs.Prelude.{IfOk}
+use Rattle.std.proofs.Common.{◌⊎◌, ◌≡◌, ◌∷◌, Err, List, Ok, Result, [], false, refl, subst, sym, true, ℕ, ⊎_elim}
 use Rattle.host_codec.specs.Books.{book}
 use Rattle.host_journal.specs.Image.{ImageState}
 use Rattle.host_model.specs.Book.{Book}
 use Rattle.host_model.specs.Lawful.{Lawful}
 use Rattle.kept_host.specs.Stands.{StandsAs, StandsFor}
-use Rattle.host_keep.specs.declared.call.HostStep.{HostStep}
 
 -- an image of a lawful book stands for it
 pub image_stands : {E : Type 0} (r : Result ImageState E) (n : ℕ) (b : Book) → IfOk r (λ made. made.bytes ≡ book.code b) → IfOk r (λ made. book.Fits b) → IfOk r (λ made. Lawful n b) → IfOk r (λ made. StandsAs true n (made.bytes ∷ []) b)
@@ -17,8 +16,3 @@ image_stands (Err e) n b code fits lawful = tt
 pub either_stands : (list : List (List ℕ)) (n : ℕ) (b : Book) → StandsAs true n list b ⊎ StandsAs false n list b → StandsFor n list b
 either_stands [] n b = ⊎_elim (λ never. never) (λ never. never)
 either_stands (x ∷ xs) n b = λ either. either
-
--- a record of few bytes
-pub short_step : (o : Option HostStep) (bytes : List ℕ) → length bytes ≤ 8_388_608 → IfSome o (λ step. step.record.items ≡ bytes) → IfSome o (λ step. length step.record.items ≤ 8_388_608)
-short_step None bytes few is = tt
-short_step (Some step) bytes few is = subst (λ (l : List ℕ). length l ≤ 8_388_608) (sym is) few

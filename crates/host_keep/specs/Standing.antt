@@ -5,7 +5,6 @@ use Rattle.host_book.specs.Ready.{IsReady, all_brought, changes_of}
 use Rattle.host_model.specs.Apply.{recorded}
 use Rattle.host_model.specs.Book.{Book}
 use Rattle.host_model.specs.Conditions.{IsConfig, IsInput}
-use Rattle.host_model.specs.InputLength.{input_texts, most_input_texts}
 use Rattle.host_model.specs.MayFollow.{MayFollow}
 use Rattle.host_model.specs.Step.{step_changes, step_reply}
 use Rattle.host_model.specs.declared.change.Changes.{Changes}
@@ -43,7 +42,6 @@ pub record IsAsked (c : Config) (call : HostCall) : Type 0 where
   pub config : IsConfig c
   pub clock : call.clock ≤ greatest_moment
   pub bounds : IsInput c call.input
-  pub short : input_texts call.input ≤ most_input_texts
 
 -- a configuration that another may take the place of
 pub record IsNext (before later : Config) : Type 0 where

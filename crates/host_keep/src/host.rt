@@ -9,7 +9,7 @@ ghost use Rattle.run_states.specs.ResultBytes.{result_bytes};
 use crate::call::{HostCall, HostStep};
 use crate::parts::write_snapshot;
 use host_book::book::HostBook;
-use host_codec::record::{law_lengths, law_writable_record, write_record};
+use host_codec::record::{law_writable_record, write_record};
 use host_journal::image::SnapshotImage;
 use host_model::change::Changes;
 use host_model::config::Config;
@@ -59,7 +59,11 @@ impl Host {
     }
 }
 
-// The step that makes these changes; none where there are none.
+/// No record has more bytes. An input of at most 2,097,152 bytes of texts, as all are that come by HTTP, makes none that is longer.
+const MOST_RECORD_BYTES: usize = 8_388_608;
+
+// The step that makes these changes; none where there are none. One whose record would be longer than a journal takes is refused
+// as want of memory.
 fn step_of(alloc: Global, book: &mut HostBook, kept: Changes) -> Result<Option<HostStep>, Memory>
     requires { changes.Writable kept }
     ensures number { book.new.number ≡ book.old.number }
@@ -71,6 +75,7 @@ fn step_of(alloc: Global, book: &mut HostBook, kept: Changes) -> Result<Option<H
     ensures room { IfOk result (λ o. IfSome o (λ step. length step.list ≤ book.new.room)) }
     ensures fits { IfOk result (λ o. IfSome o (λ step. changes.Fits kept)) }
     ensures code { IfOk result (λ o. IfSome o (λ step. step.record.items ≡ changes.code kept)) }
+    ensures short { IfOk result (λ o. IfSome o (λ step. length step.record.items ≤ 8388608)) }
 {
     if kept.list.len() == 0 {
         drop(kept);
@@ -80,6 +85,10 @@ fn step_of(alloc: Global, book: &mut HostBook, kept: Changes) -> Result<Option<H
     if let Err(fault) = write_record(alloc, &kept, &mut record) {
         drop(kept);
         return Err(fault);
+    }
+    if record.len() > MOST_RECORD_BYTES {
+        drop((kept, record));
+        return Err(Memory);
     }
     let Changes { moment, list } = kept;
     match book.prepare(alloc, list) {
@@ -169,7 +178,6 @@ impl Machine for Host {
         call: HostCall,
     ) -> Result<Decided<Reply, HostStep>, Memory> {
         law_step();
-        law_lengths();
         law_writable_record();
         let _ = self.book.rows();
         let HostCall { clock, input } = call;
