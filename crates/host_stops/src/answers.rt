@@ -3,8 +3,6 @@ ghost use Rattle.std.specs.Prelude.{◌∷◌, ◌≡◌, ◌≤◌, [], IfOk, c
 ghost use Rattle.ps_time.specs.Span.{Range};
 ghost use Rattle.ps_time.specs.declared.moment.TheConstants.{MAX_MOMENT};
 ghost use Rattle.host_model.specs.Conditions.{IsAnswer, IsFreeHeard, IsInput, IsResultHeard};
-ghost use Rattle.host_model.specs.InputLength.{heard_texts, input_texts, most_input_texts};
-ghost use Rattle.host_model.specs.RecordLength.{answer_bytes};
 
 use crate::fault::TableFault;
 use crate::given::{a_key, cut};
@@ -113,7 +111,6 @@ fn free_then(alloc: Global) -> Result<FreeAnswer, Memory>
 
 fn a_free_answer(alloc: Global) -> Result<FreeAnswer, TableFault>
     ensures heard { IfOk result IsFreeHeard }
-    ensures short { IfOk result (λ answer. answer_bytes answer ≤ 64) }
 {
     let answer = free_then(alloc)?;
     if !is_free_answer(&answer) {
@@ -136,7 +133,6 @@ fn a_result(alloc: Global) -> Result<Text, TableFault>
 fn an_answer(alloc: Global, word: &str, clock: Moment) -> Result<PeerAnswer, TableFault>
     requires { clock ≤ MAX_MOMENT }
     ensures answer { IfOk result IsAnswer }
-    ensures short { IfOk result (λ answer. heard_texts answer ≤ most_input_texts) }
 {
     match word {
         "free" => Ok(PeerAnswer::Free(a_free_answer(alloc)?)),
@@ -156,7 +152,6 @@ pub(crate) fn a_hearing(
 ) -> Result<Input, TableFault>
     requires { clock ≤ MAX_MOMENT }
     ensures bounds { IfOk result (IsInput config.now) }
-    ensures short { IfOk result (λ input. input_texts input ≤ most_input_texts) }
 {
     let (key, word) = cut(rest);
     let key = a_key(key)?;

@@ -1,5 +1,5 @@
 //! What stands in a line of a script: words, moments, keys, tests, tasks and limits.
-ghost use Rattle.std.specs.Prelude.{◌≡◌, ◌≤◌, IfOk, length};
+ghost use Rattle.std.specs.Prelude.{◌≡◌, ◌≤◌, IfOk};
 ghost use Rattle.limit_apply.specs.Read.{IsKept};
 ghost use Rattle.plugin_core.specs.Bounds.{IsTest};
 ghost use Rattle.ps_time.specs.declared.moment.TheConstants.{MAX_MOMENT};
@@ -28,9 +28,6 @@ static ALONE: &str = r#"{"test":{"spec":{"duration":"PT10S"},"type":"idle"}}"#;
 // Nobody may have anything.
 static NOBODY: &str =
     r#"{"identifiers":[{"name":"all","type":"always"}],"classifiers":[{"name":"all","identifiers":["all"]}],"limits":[{"name":"nothing","type":"pass-fail","data":{"pass":false}}],"applications":[{"classifier":"all","apply":[{"require":"all","limits":["nothing"]}]}]}"#;
-
-// A name or an address has no more bytes.
-const MOST_BYTES: usize = 64;
 
 /// What stands before the first space and behind it; all of a text without one stands before.
 pub(crate) fn cut(text: &str) -> (&str, &str) {
@@ -105,11 +102,7 @@ pub(crate) fn a_key(text: &str) -> Result<RunKey, TableFault> {
 /// A name or an address.
 pub(crate) fn a_text(alloc: Global, text: &str) -> Result<Text, TableFault>
     ensures text { IfOk result (λ made. made ≡ text.now) }
-    ensures short { IfOk result (λ made. length made ≤ 64) }
 {
-    if text.len() > MOST_BYTES {
-        return Err(TableFault::Line);
-    }
     Ok(Text::new(alloc, text)?)
 }
 

@@ -2,7 +2,6 @@
 ghost use Rattle.std.specs.Prelude.{◌≡◌, ◌≤◌};
 ghost use Rattle.ps_time.specs.declared.moment.TheConstants.{MAX_MOMENT};
 ghost use Rattle.host_model.specs.Conditions.{IsInput};
-ghost use Rattle.host_model.specs.InputLength.{input_texts, most_input_texts};
 
 use crate::fault::TableFault;
 use host_journal::image::SnapshotImage;
@@ -106,7 +105,6 @@ impl KeptHost {
     ) -> Result<Outcome, Memory>
         requires clock { clock ≤ MAX_MOMENT }
         requires bounds { IsInput self.old input }
-        requires short { input_texts input ≤ most_input_texts }
         ensures { self.new ≡ self.old }
     {
         match self.keep.apply(alloc, HostCall { clock, input }) {

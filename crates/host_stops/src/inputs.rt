@@ -5,10 +5,9 @@
 //! - `free KEY START`, `propose KEY START`, `confirm KEY` and `drop KEY`, from host b;
 //! - `heard KEY free`, `accepted`, `confirmed` or `result`: what host b answers;
 //! - `tried KEY`: its first archive has taken the result.
-ghost use Rattle.std.specs.Prelude.{◌≡◌, ◌≤◌, IfOk, IfSome, length};
+ghost use Rattle.std.specs.Prelude.{◌≡◌, ◌≤◌, IfOk, IfSome};
 ghost use Rattle.ps_time.specs.declared.moment.TheConstants.{MAX_MOMENT};
 ghost use Rattle.host_model.specs.Conditions.{IsInput};
-ghost use Rattle.host_model.specs.InputLength.{input_texts, most_input_texts};
 ghost use Rattle.host_model.specs.Propose.{lead_name};
 
 use crate::answers::a_hearing;
@@ -37,14 +36,12 @@ static REQUESTER: &str = "10.0.0.9";
 
 fn a_run(config: &Config, rest: &str) -> Result<Input, TableFault>
     ensures bounds { IfOk result (IsInput config.now) }
-    ensures short { IfOk result (λ input. input_texts input ≤ most_input_texts) }
 {
     Ok(a_booking(a_moment(rest)?))
 }
 
 fn new_limits(alloc: Global, config: &Config, rest: &str) -> Result<Input, TableFault>
     ensures bounds { IfOk result (IsInput config.now) }
-    ensures short { IfOk result (λ input. input_texts input ≤ most_input_texts) }
 {
     Ok(Input::Limits(limits_of(alloc, rest)?))
 }
@@ -52,7 +49,6 @@ fn new_limits(alloc: Global, config: &Config, rest: &str) -> Result<Input, Table
 fn a_post(alloc: Global, config: &Config, clock: Moment, rest: &str) -> Result<Input, TableFault>
     requires { clock ≤ MAX_MOMENT }
     ensures bounds { IfOk result (IsInput config.now) }
-    ensures short { IfOk result (λ input. input_texts input ≤ most_input_texts) }
 {
     law_task_text();
     let requester = a_text(alloc, REQUESTER)?;
@@ -67,7 +63,6 @@ fn a_post(alloc: Global, config: &Config, clock: Moment, rest: &str) -> Result<I
 
 fn a_canceling(alloc: Global, config: &Config, rest: &str) -> Result<Input, TableFault>
     ensures bounds { IfOk result (IsInput config.now) }
-    ensures short { IfOk result (λ input. input_texts input ≤ most_input_texts) }
 {
     let task = a_number(rest)?;
     let requester = a_text(alloc, REQUESTER)?;
@@ -76,7 +71,6 @@ fn a_canceling(alloc: Global, config: &Config, rest: &str) -> Result<Input, Tabl
 
 fn a_question(alloc: Global, config: &Config, rest: &str) -> Result<Input, TableFault>
     ensures bounds { IfOk result (IsInput config.now) }
-    ensures short { IfOk result (λ input. input_texts input ≤ most_input_texts) }
 {
     law_test_text();
     let (key, start) = cut(rest);
@@ -100,7 +94,6 @@ fn a_question(alloc: Global, config: &Config, rest: &str) -> Result<Input, Table
 // The name of the lead of a key.
 fn server(alloc: Global, config: &Config, key: RunKey) -> Result<Text, TableFault>
     ensures name { IfOk result (λ server. IfSome (lead_name config.now 2 key) (λ lead. server ≡ lead)) }
-    ensures short { IfOk result (λ server. length server ≤ 64) }
 {
     match lead_name(config, PEER, key) {
         Some(lead) => a_text(alloc, lead.as_str()),
@@ -110,8 +103,6 @@ fn server(alloc: Global, config: &Config, key: RunKey) -> Result<Text, TableFaul
 
 fn an_asker(alloc: Global, config: &Config, key: RunKey) -> Result<Asker, TableFault>
     ensures server { IfOk result (λ asker. IfSome (lead_name config.now 2 key) (λ lead. asker.server ≡ lead)) }
-    ensures short_server { IfOk result (λ asker. length asker.server ≤ 64) }
-    ensures short_requester { IfOk result (λ asker. length asker.requester ≤ 64) }
 {
     let server = server(alloc, config, key)?;
     let requester = a_text(alloc, REQUESTER)?;
@@ -120,7 +111,6 @@ fn an_asker(alloc: Global, config: &Config, key: RunKey) -> Result<Asker, TableF
 
 fn a_proposal(alloc: Global, config: &Config, rest: &str) -> Result<Input, TableFault>
     ensures bounds { IfOk result (IsInput config.now) }
-    ensures short { IfOk result (λ input. input_texts input ≤ most_input_texts) }
 {
     law_test_text();
     let (key, start) = cut(rest);
@@ -144,7 +134,6 @@ fn a_proposal(alloc: Global, config: &Config, rest: &str) -> Result<Input, Table
 
 fn a_message(config: &Config, word: &str, rest: &str) -> Result<Input, TableFault>
     ensures bounds { IfOk result (IsInput config.now) }
-    ensures short { IfOk result (λ input. input_texts input ≤ most_input_texts) }
 {
     let key = a_key(rest)?;
     match word {
@@ -169,7 +158,6 @@ pub(crate) fn an_input(
 ) -> Result<Input, TableFault>
     requires { clock ≤ MAX_MOMENT }
     ensures bounds { IfOk result (IsInput config.now) }
-    ensures short { IfOk result (λ input. input_texts input ≤ most_input_texts) }
 {
     let (word, rest) = cut(asked);
     match word {

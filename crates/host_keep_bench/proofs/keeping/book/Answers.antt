@@ -6,5 +6,4 @@ apply-requires g c = record {
   config = c.requires;
   clock = c.clock_of-clock.ensures;
   bounds = c.a_booking.ensures.bounds c.args.keep.now.machine.standing.config;
-  short = omega (arith, c.a_booking.ensures.texts);
 }

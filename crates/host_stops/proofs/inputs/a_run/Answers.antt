@@ -1,4 +1,4 @@
 use Rattle.host_stops.proofs.inputs.a_run.Goals as goal
 
-pub returns-clause-bounds : goal.returns-clause-bounds
-returns-clause-bounds c = c.a_booking.ensures.bounds c.args.config.now
+pub returns : goal.returns
+returns c = record { bounds = c.a_booking.ensures.bounds c.args.config.now }
