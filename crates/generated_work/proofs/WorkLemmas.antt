@@ -37,10 +37,10 @@ module _ (hosts : List ScriptHost) (lawful : AreLawfulHosts hosts) (eight : leng
   there : (place : ℕ) → place < 8 → place < length hosts
   there place within = omega (arith, within, eight)
 
-  made : (s : Show) (b : Seen) → Seeing s b → (m : ℕ) (move : Move) → IsMove hosts move → MayMove b move → m ≤ greatest_moment → Seeing (moved hosts s m move) (moved_seen hosts b m move)
+  made : (s : Show) (b : Seen) → Seeing s b → (m : ℕ) (move : Move) → IsMove hosts b move → MayMove b move → m ≤ greatest_moment → Seeing (moved hosts s m move) (moved_seen hosts b m move)
   made s b x m move is may low = (
-    reaches_moved hosts lawful s x.0 m move is (subst (λ y. MayMove y move) (sym x.1) may) low,
-    seen_moved hosts lawful s x.0 m move is ∙ ap (λ y. moved_seen hosts y m move) x.1,
+    reaches_moved hosts lawful s x.0 m move (subst (λ y. IsMove hosts y move) (sym x.1) is) (subst (λ y. MayMove y move) (sym x.1) may) low,
+    seen_moved hosts lawful s x.0 m move (subst (λ y. IsMove hosts y move) (sym x.1) is) ∙ ap (λ y. moved_seen hosts y m move) x.1,
   )
 
   -- ---- a message
@@ -104,7 +104,7 @@ module _ (hosts : List ScriptHost) (lawful : AreLawfulHosts hosts) (eight : leng
       (seconds_alike place start within n (omega (arith, low)) st bt alike)
 
   -- ---- a post
-  posting_is : (b : Seen) (clock : ℕ) (q : Post) → b.last ≤ greatest_moment → clock ≤ greatest_moment → q.place < 8 → IsMove hosts (posting b clock q)
+  posting_is : (b : Seen) (clock : ℕ) (q : Post) → b.last ≤ greatest_moment → clock ≤ greatest_moment → q.place < 8 → IsMove hosts b (posting b clock q)
   posting_is b clock q last low within = move_is hosts b last (line.Post clock q.place (codes "127.0.0.1") (body_of q)) (low, there q.place within, omega arith)
 
   pub post_seen : (clock : ℕ) (q : Post) → clock ≤ greatest_moment → q.place < 8 → (s : Show) (b : Seen) → Seeing s b → MayMove b (posting b clock q) → Seeing (posted (plays hosts) clock q s) (posted (shows hosts) clock q b)

@@ -1,3 +1,4 @@
 mod ArriveLemmas
 mod LineLemmas
 pub mod PlayLemmas
+mod StopLemmas

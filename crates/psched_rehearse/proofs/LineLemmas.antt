@@ -5,7 +5,12 @@ use Rattle.std.proofs.Common.{◌≡◌, ◌≤◌, ◌<◌, ◌+◌, ◌++◌, 
 use Rattle.std.proofs.Math.Seq.{drop-append_seam}
 use Rattle.ps_time.specs.Numbers.{greatest_length}
 use Rattle.ps_doors.specs.declared.archiver.Tried.TheVariants.{Failed, Succeeded}
+use Rattle.std.specs.List.{list_all}
 use Rattle.std.specs.Str.{bytes_eq}
+use Rattle.plugin_core.specs.ReadTest.{all_differ}
+use Rattle.task_spec.specs.ReadTask.{is_tool}
+use Rattle.host_model.specs.Conditions.{IsConfig}
+use Rattle.host_model.specs.declared.config.Config.{Config}
 use Rattle.host_model.specs.declared.input.Input.{Input}
 use Rattle.host_model.specs.declared.lead.Due.{Due}
 use Rattle.psched_script.specs.declared.script.ScriptHost.{ScriptHost}
@@ -13,7 +18,7 @@ use Rattle.psched_world.specs.World.{Letter}
 use Rattle.report_text.specs.Line.{line_text}
 use Rattle.rehearsal_model.specs.Moves.{Move, archived, retry_of, trying}
 use Rattle.rehearsal_model.specs.Reaching.{MayMove}
-use Rattle.rehearsal_model.specs.Rehearsal.{letters_told}
+use Rattle.rehearsal_model.specs.Rehearsal.{letters_told, retooled}
 use Rattle.rehearsal_model.specs.Seen.{Seen, config_at}
 use Rattle.rehearsal_state.specs.Moved.{with_step}
 use Rattle.rehearsal_state.proofs.MoveLemmas.{stage_stepped}
@@ -62,3 +67,16 @@ may_try b place clock (Some d) = archived_in d.archiver d.settings d.tried
 pub may_either : (b : Seen) (t : Bool) (x y : Move) → MayMove b x → MayMove b y → MayMove b (if t then x else y)
 may_either b true x y may other = may
 may_either b false x y may other = other
+
+-- ---- other tools
+pub config_retooled : (c : Config) (tools : List (List ℕ)) → IsConfig c → list_all is_tool tools ≡ true → all_differ tools ≡ true → IsConfig (retooled tools c)
+config_retooled c tools is known different = record {
+  name = is.name;
+  authority = is.authority;
+  peers = is.peers;
+  numbers = is.numbers;
+  names = is.names;
+  tools = known;
+  different = different;
+  limits = is.limits;
+}

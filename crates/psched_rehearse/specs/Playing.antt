@@ -37,3 +37,10 @@ is_asked (line.Post at host address body) = true
 is_asked (line.Get at host path) = true
 is_asked (line.Delete at host address path) = true
 is_asked _ = false
+
+-- a line that makes a request
+abbrev pub is_request : ScriptLine → Bool
+is_request (line.Post at host address body) = true
+is_request (line.Get at host path) = true
+is_request (line.Delete at host address path) = true
+is_request _ = false

@@ -26,7 +26,11 @@ use report_text::report::ReportText;
 use std::alloc::Global;
 
 /// The attempt at the first archive that is due, if one is.
-fn first_attempt(alloc: Global, book: &HostBook, clock: Moment) -> Result<Option<Due>, Memory>
+pub(crate) fn first_attempt(
+    alloc: Global,
+    book: &HostBook,
+    clock: Moment,
+) -> Result<Option<Due>, Memory>
     ensures { IfOk result (λ made. made ≡ option_and_then (λ pair. attempt_of book.now.book pair.0 pair.1) (slice_get (all_due book.now.book clock) 0)) }
 {
     match first_due(book, clock) {
@@ -78,7 +82,7 @@ fn as_input(due: &Due, tried: &Tried) -> Result<Input, Memory>
 }
 
 /// The attempt is made, and this is what the host is told of it.
-fn make_attempt(alloc: Global, due: &Due) -> Result<Input, Memory>
+pub(crate) fn make_attempt(alloc: Global, due: &Due) -> Result<Input, Memory>
     ensures { IfOk result (λ input. input ≡ tried_as due.now (archived due.now.archiver due.now.settings due.now.tried)) }
 {
     let tried = try_once(alloc, due);

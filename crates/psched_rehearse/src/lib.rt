@@ -7,3 +7,4 @@ pub mod ask;
 pub mod line;
 pub mod rehearse;
 pub mod request;
+mod stopping;

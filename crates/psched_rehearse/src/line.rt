@@ -4,10 +4,12 @@ ghost use Rattle.psched_script.specs.Lawful.{IsLawfulLine};
 ghost use Rattle.psched_script.specs.declared.script.ScriptHost.{ScriptHost};
 ghost use Rattle.report_text.specs.Line.{line_text};
 ghost use Rattle.rehearsal_model.specs.After.{seen_after};
-ghost use Rattle.rehearsal_model.specs.Moves.{Move.Turns, move_of};
+ghost use Rattle.host_model.specs.Conditions.{IsConfig, IsInput};
+ghost use Rattle.rehearsal_model.specs.Moves.{Move.Turns, landed_with, move_of, stopped};
 ghost use Rattle.rehearsal_model.specs.Reaching.{MayMove};
-ghost use Rattle.rehearsal_model.specs.Rehearsal.{told, turn_told};
-ghost use Rattle.rehearsal_state.specs.Moved.{with_move, with_tools};
+ghost use Rattle.rehearsal_model.specs.Rehearsal.{plainly_told, retooled, told, turn_told};
+ghost use Rattle.rehearsal_model.specs.Seen.{config_at};
+ghost use Rattle.rehearsal_state.specs.Moved.{with_crash, with_move, with_stop, with_tools};
 ghost use Rattle.rehearsal_state.specs.Ready.{IsReady};
 ghost use Rattle.psched_rehearse.specs.Playing.{AreConfigs, IsPlaying, is_asked, is_at_path};
 
@@ -15,15 +17,16 @@ use crate::archive::archive;
 use crate::arrive::{deliver, lose, repeat};
 use crate::ask::{book, booking, limit};
 use crate::request::{delete, get, post};
+use crate::stopping::{StoppedStep, stopped_step};
 use ps_time::items::Items;
 use ps_time::memory::Memory;
 use ps_time::moment::Moment;
 use ps_time::text::Text;
-use psched_script::script::{Numbered, ScriptHost, ScriptLine};
+use psched_script::script::{Numbered, ScriptHost, ScriptLine, Stop};
 use rehearsal_state::rehearsal::Rehearsal;
 use rehearsal_state::tell::add_letters;
 use rehearsal_state::turn::turn;
-use report_text::line::add_ok;
+use report_text::line::{add_ok, add_said};
 use report_text::message::begin_turn;
 use report_text::report::ReportText;
 use std::alloc::Global;
@@ -36,13 +39,29 @@ fn retool(
     line: u64,
     report: &mut ReportText,
 ) -> Result<(), Memory>
-    requires { place < length now.old.stages }
+    requires place { place < length now.old.stages }
+    requires config { IsConfig (retooled tools.now (config_at now.old place)) }
     ensures report { OnOk result (report.new ≡ report.old ++ line_text line (codes "ok")) }
     ensures seen { OnOk result (now.new ≡ with_tools now.old place tools.now) }
 {
     let tools = tools.copy(alloc)?;
-    now.retool(place, tools);
+    now.retool(alloc, place, tools)?;
     add_ok(report, line)
+}
+
+/// The next step of the host at a place is to stop.
+fn arm(
+    now: &mut Rehearsal,
+    place: usize,
+    stop: Stop,
+    line: u64,
+    report: &mut ReportText,
+) -> Result<(), Memory>
+    ensures report { OnOk result (report.new ≡ report.old ++ line_text line (codes "armed")) }
+    ensures seen { OnOk result (now.new ≡ with_stop now.old place stop) }
+{
+    now.arm(place, stop)?;
+    add_said(report, line, "armed")
 }
 
 /// A turn of the host at a place; what it sends then is reported too.
@@ -78,7 +97,7 @@ fn run_at_path(
     requires kind { is_at_path event.now ≡ true }
     requires lawful { IsLawfulLine (length now.old.stages) event.now }
     requires configs { AreConfigs now.old }
-    ensures report { (hosts : List ScriptHost) → OnOk result (report.new ≡ report.old ++ line_text line (told hosts now.old event.now)) }
+    ensures report { (hosts : List ScriptHost) → OnOk result (report.new ≡ report.old ++ line_text line (plainly_told hosts now.old event.now)) }
     ensures seen { (hosts : List ScriptHost) → OnOk result (now.new ≡ with_move hosts now.old (move_of now.old event.now)) }
     ensures may { OnOk result (MayMove now.old (move_of now.old event.now)) }
 {
@@ -111,7 +130,7 @@ fn run_asked(
     requires kind { is_asked event.now ≡ true }
     requires lawful { IsLawfulLine (length now.old.stages) event.now }
     requires configs { AreConfigs now.old }
-    ensures report { (hosts : List ScriptHost) → OnOk result (report.new ≡ report.old ++ line_text line (told hosts now.old event.now)) }
+    ensures report { (hosts : List ScriptHost) → OnOk result (report.new ≡ report.old ++ line_text line (plainly_told hosts now.old event.now)) }
     ensures seen { (hosts : List ScriptHost) → OnOk result (now.new ≡ with_move hosts now.old (move_of now.old event.now)) }
     ensures may { OnOk result (MayMove now.old (move_of now.old event.now)) }
 {
@@ -140,7 +159,7 @@ fn run_asked(
     }
 }
 
-// What a line asks for happens.
+// What a line asks for happens, and no step of it stops.
 fn run_event(
     alloc: Global,
     hosts: &[ScriptHost],
@@ -151,7 +170,7 @@ fn run_event(
 ) -> Result<(), Memory>
     requires playing { IsPlaying hosts.now now.old }
     requires lawful { IsLawfulLine (length hosts.now) event.now }
-    ensures report { OnOk result (report.new ≡ report.old ++ line_text line (told hosts.now now.old event.now)) }
+    ensures report { OnOk result (report.new ≡ report.old ++ line_text line (plainly_told hosts.now now.old event.now)) }
     ensures seen { OnOk result (now.new ≡ with_move hosts.now now.old (move_of now.old event.now)) }
     ensures may { OnOk result (MayMove now.old (move_of now.old event.now)) }
 {
@@ -161,6 +180,7 @@ fn run_event(
         ScriptLine::Limits { host, limits } => limit(alloc, now, *host, limits, line, report),
         ScriptLine::Turn { at, host } => take_turn(alloc, hosts, now, *host, *at, line, report),
         ScriptLine::Archive { at, host } => archive(alloc, now, *host, *at, line, report),
+        ScriptLine::Crash { at: _, host, stop } => arm(now, *host, *stop, line, report),
         ScriptLine::Deliver { at, message } => deliver(
             alloc, hosts, now, *message, *at, line, report,
         ),
@@ -169,6 +189,44 @@ fn run_event(
         ),
         ScriptLine::Lose { message } => lose(now, *message, line, report),
         _ => run_asked(alloc, now, event, line, report),
+    }
+}
+
+// A step stops, and its host is opened again.
+fn crash(
+    alloc: Global,
+    now: &mut Rehearsal,
+    step: StoppedStep,
+    line: u64,
+    report: &mut ReportText,
+) -> Result<(), Memory>
+    requires ready { IsReady now.old step.place step.clock }
+    requires input { IsInput (config_at now.old step.place) step.input }
+    ensures report { OnOk result (report.new ≡ report.old ++ line_text line (codes "crashed")) }
+    ensures seen { OnOk result (now.new ≡ with_crash (record now.old { flying = landed_with step.landing now.old.flying }) step.place step.clock step.input step.stop) }
+{
+    step.crash(alloc, now)?;
+    add_said(report, line, "crashed")
+}
+
+// What a line asks for happens, or its step stops.
+fn run_or_crash(
+    alloc: Global,
+    hosts: &[ScriptHost],
+    now: &mut Rehearsal,
+    event: &ScriptLine,
+    line: u64,
+    report: &mut ReportText,
+) -> Result<(), Memory>
+    requires playing { IsPlaying hosts.now now.old }
+    requires lawful { IsLawfulLine (length hosts.now) event.now }
+    ensures report { OnOk result (report.new ≡ report.old ++ line_text line (told hosts.now now.old event.now)) }
+    ensures seen { OnOk result (now.new ≡ with_move hosts.now now.old (stopped hosts.now now.old (move_of now.old event.now))) }
+    ensures may { OnOk result (MayMove now.old (move_of now.old event.now)) }
+{
+    match stopped_step(alloc, hosts, now, event)? {
+        Some(step) => crash(alloc, now, step, line, report),
+        None => run_event(alloc, hosts, now, event, line, report),
     }
 }
 
@@ -186,7 +244,7 @@ pub fn run_line(
     ensures seen { OnOk result (now.new ≡ seen_after hosts.now now.old numbered.now.line) }
     ensures may { OnOk result (MayMove now.old (move_of now.old numbered.now.line)) }
 {
-    run_event(alloc, hosts, now, &numbered.line, numbered.number, report)?;
+    run_or_crash(alloc, hosts, now, &numbered.line, numbered.number, report)?;
     now.advance(numbered.line.moment().unwrap_or(0));
     Ok(())
 }

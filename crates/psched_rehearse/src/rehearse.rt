@@ -6,8 +6,10 @@ ghost use Rattle.psched_world.specs.Laws.{Safe};
 ghost use Rattle.rehearsal_model.specs.After.{first_seen, opened_stage};
 ghost use Rattle.rehearsal_model.specs.Reaching.{Reaches};
 ghost use Rattle.rehearsal_model.specs.Rehearsal.{first_show, last_show, report_from, report_of, seen, tables, world_of};
+ghost use Rattle.rehearsal_state.specs.Kept.{AreKeptOn};
 
 use crate::line::run_line;
+use ps_disks::memory_disk::MemoryDisk;
 use ps_time::items::Items;
 use ps_time::memory::Memory;
 use psched_script::script::{Script, ScriptHost};
@@ -68,11 +70,34 @@ fn add_tables(alloc: Global, now: &Rehearsal, report: &mut ReportText) -> Result
     Ok(())
 }
 
-/// Runs the hosts of a script, each opened with an empty book at moment 0, and gives the report on what they do.
+/// The disks of a host, in their order.
+pub type Disks = (MemoryDisk, MemoryDisk);
+
+/// What came of a script.
+#[derive(Drop)]
+pub struct Rehearsed {
+    pub report: Items<u8>,
+    /// Of each host, in the order of their declaration.
+    pub disks: Vec<Disks>,
+}
+
+fn disks_of(alloc: Global, seats: Vec<Seat>) -> Result<Vec<Disks>, Memory>
+    ensures { IfOk result (λ disks. AreKeptOn seats.items disks.items) }
+{
+    let mut disks = Vec::new(alloc);
+    for seat in seats {
+        disks.push(seat.into_disks()?)?;
+    }
+    Ok(disks)
+}
+
+/// Runs the hosts of a script, each opened with an empty book at moment 0, and gives the report on what they do, and their disks.
 /// docs/specification/rehearsal.md states the report.
-pub fn rehearse(alloc: Global, script: &Script) -> Result<Items<u8>, Memory>
+pub fn run_script(alloc: Global, script: &Script) -> Result<Rehearsed, Memory>
     requires { IsLawful script.now }
-    ensures report { IfOk result (λ report. report ≡ report_of script.now) }
+    ensures report { IfOk result (λ made. made.report ≡ report_of script.now) }
+    // What each host did is kept.
+    ensures kept { IfOk result (λ made. AreKeptOn (seen script.now.hosts (last_show script.now)).stages made.disks.items) }
     ensures safe { OnOk result (Safe (world_of script.now)) }
 {
     law_rehearsed();
@@ -81,5 +106,20 @@ pub fn rehearse(alloc: Global, script: &Script) -> Result<Items<u8>, Memory>
     let mut report = ReportText::new(alloc);
     run_lines(alloc, script, &mut now, &mut report)?;
     add_tables(alloc, &now, &mut report)?;
-    Ok(report.into_bytes())
+    let disks = disks_of(alloc, now.into_seats())?;
+    Ok(Rehearsed {
+        report: report.into_bytes(),
+        disks,
+    })
+}
+
+/// The report alone.
+pub fn rehearse(alloc: Global, script: &Script) -> Result<Items<u8>, Memory>
+    requires { IsLawful script.now }
+    ensures report { IfOk result (λ report. report ≡ report_of script.now) }
+    ensures safe { OnOk result (Safe (world_of script.now)) }
+{
+    let Rehearsed { report, disks } = run_script(alloc, script)?;
+    drop(disks);
+    Ok(report)
 }

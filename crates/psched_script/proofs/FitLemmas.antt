@@ -15,18 +15,18 @@ use Rattle.plugin_core.specs.ReadTest.{all_differ}
 use Rattle.task_spec.specs.ReadTask.{is_tool}
 use Rattle.psched_script.specs.Kind.{kind_of}
 use Rattle.psched_script.specs.Lawful.{IsLawfulHost, IsLawfulLine, FollowsHosts, hosts_after, HasKeptLimits}
-use Rattle.psched_script.specs.Line.{need, check, place_of, is_repeated, host_named, host_at, host_asked, rest, limits_of, host_line, tools_line, limits_line, book_line, post_line, get_line, delete_line, turn_line, archive_line, deliver_line, repeat_line, lose_line, line_by_kind}
+use Rattle.psched_script.specs.Line.{need, check, place_of, is_repeated, host_named, host_at, host_asked, rest, limits_of, host_line, tools_line, limits_line, book_line, post_line, get_line, delete_line, turn_line, archive_line, crash_line, deliver_line, repeat_line, lose_line, line_by_kind}
 use Rattle.psched_script.specs.Script.{is_skipped, fields_of, line_of}
-use Rattle.psched_script.specs.Words.{within, number_of, moment_of, message_of, priority_of, is_address, tools_of}
+use Rattle.psched_script.specs.Words.{within, number_of, moment_of, numeral_of, image_of, priority_of, is_address, tools_of}
 use Rattle.psched_script.specs.declared.kind.Kind.{Kind}
 use Rattle.psched_script.specs.declared.kind.Kind.TheVariants as kind
 use Rattle.psched_script.specs.declared.lines.Content.{Content}
 use Rattle.psched_script.specs.declared.lines.Content.TheVariants.{Nothing, NewHost, Event}
 use Rattle.psched_script.specs.declared.script.Reason.{Reason}
-use Rattle.psched_script.specs.declared.script.Reason.TheVariants.{NotUtf8, UnknownWord, BadNumber, BadName, NoSuchHost, RepeatedHost, TooManyHosts, BadClass, BadTool, BadLimits}
+use Rattle.psched_script.specs.declared.script.Reason.TheVariants.{NotUtf8, UnknownWord, BadNumber, BadName, NoSuchHost, RepeatedHost, TooManyHosts, BadClass, BadTool, BadLimits, BadImage}
 use Rattle.psched_script.specs.declared.script.ScriptHost.{ScriptHost}
 use Rattle.psched_script.specs.declared.script.ScriptLine.{ScriptLine}
-use Rattle.psched_script.specs.declared.script.ScriptLine.TheVariants.{Tools, Limits, Book, Post, Get, Delete, Turn, Archive, Deliver, Repeat, Lose}
+use Rattle.psched_script.specs.declared.script.ScriptLine.TheVariants.{Tools, Limits, Book, Post, Get, Delete, Turn, Archive, Crash, Deliver, Repeat, Lose}
 
 -- ---- what holds of each value that a step goes on with holds of the whole
 need_keeps : {A B : Type 0} (P : B → Type 0) (o : Option A) (reason : Reason) (next : A → Result B Reason) → ((a : A) → o ≡ Some a → IfOk (next a) P) → IfOk (need o reason next) P
@@ -226,23 +226,32 @@ module _ (hosts : List ScriptHost) where
       record { law = (p_is.0, p_is.1); follows = p_is.1; stays = refl })
   archive_fits _ = tt
 
+  crash_fits : (fields : List (List ℕ)) → IfOk (crash_line hosts fields) Fits
+  crash_fits (at ∷ name ∷ word ∷ call ∷ image ∷ []) =
+      need_keeps Fits (moment_of at) BadNumber _ (λ t t_is.
+      need_keeps Fits (numeral_of call) BadNumber _ (λ k k_is.
+      then_keeps (IsHost hosts) Fits (host_named hosts name) _ (named_fits hosts name) (λ h h_is.
+      need_keeps Fits (image_of image) BadImage (λ i. Ok (Event (Crash t h (record { call = k; image = i })))) (λ i i_is _.
+      record { law = (moment_bound at t t_is, h_is); follows = h_is; stays = refl }))))
+  crash_fits _ = tt
+
   deliver_fits : (fields : List (List ℕ)) → IfOk (deliver_line fields) Fits
   deliver_fits (at ∷ word ∷ message ∷ []) =
       need_keeps Fits (moment_of at) BadNumber _ (λ t t_is.
-      need_keeps Fits (message_of message) BadNumber (λ n. Ok (Event (Deliver t n))) (λ n n_is _.
+      need_keeps Fits (numeral_of message) BadNumber (λ n. Ok (Event (Deliver t n))) (λ n n_is _.
       record { law = moment_bound at t t_is; follows = tt; stays = refl }))
   deliver_fits _ = tt
 
   repeat_fits : (fields : List (List ℕ)) → IfOk (repeat_line fields) Fits
   repeat_fits (at ∷ word ∷ message ∷ []) =
       need_keeps Fits (moment_of at) BadNumber _ (λ t t_is.
-      need_keeps Fits (message_of message) BadNumber (λ n. Ok (Event (Repeat t n))) (λ n n_is _.
+      need_keeps Fits (numeral_of message) BadNumber (λ n. Ok (Event (Repeat t n))) (λ n n_is _.
       record { law = moment_bound at t t_is; follows = tt; stays = refl }))
   repeat_fits _ = tt
 
   lose_fits : (fields : List (List ℕ)) → IfOk (lose_line fields) Fits
   lose_fits (word ∷ message ∷ []) =
-      need_keeps Fits (message_of message) BadNumber (λ n. Ok (Event (Lose n))) (λ n n_is _.
+      need_keeps Fits (numeral_of message) BadNumber (λ n. Ok (Event (Lose n))) (λ n n_is _.
       record { law = tt; follows = tt; stays = refl })
   lose_fits _ = tt
 
@@ -257,6 +266,7 @@ module _ (hosts : List ScriptHost) where
   kind_fits kind.Delete fields = delete_fits fields
   kind_fits kind.Turn fields = turn_fits fields
   kind_fits kind.Archive fields = archive_fits fields
+  kind_fits kind.Crash fields = crash_fits fields
   kind_fits kind.Deliver fields = deliver_fits fields
   kind_fits kind.Repeat fields = repeat_fits fields
   kind_fits kind.Lose fields = lose_fits fields

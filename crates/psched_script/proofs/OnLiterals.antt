@@ -4,9 +4,9 @@ use lib.Utf8.{encode}
 use Rattle.psched_script.specs.Kind.{kind_of}
 use Rattle.psched_script.specs.Line.{host_named, host_at, host_asked, limits_of, line_by_kind}
 use Rattle.psched_script.specs.Script.{line_of}
-use Rattle.psched_script.specs.Words.{number_of, message_of, priority_of, tools_of}
+use Rattle.psched_script.specs.Words.{number_of, numeral_of, priority_of, tools_of}
 
 -- what an answer unfolds to compute the grammar on a literal, up to the configurations of limits
 unfoldable pub script_on_literals : ⊤
-unfolding line_of kind_of line_by_kind host_named host_at host_asked limits_of number_of message_of priority_of tools_of is_utf8 chars encode
+unfolding line_of kind_of line_by_kind host_named host_at host_asked limits_of number_of numeral_of priority_of tools_of is_utf8 chars encode
 script_on_literals = tt

@@ -1,6 +1,7 @@
 -- The grammar, computed: lines after two declared hosts, and whole scripts.
 use Rattle.std.proofs.Common.{◌≡◌, ℕ, pos, negsuc, List, [], ◌∷◌, ◌++◌, Result, Ok, Err, refl}
 use Rattle.std.specs.Prelude.{codes}
+use Rattle.ps_disks.specs.declared.image.Image.TheVariants.{Torn}
 use Rattle.ps_time.specs.declared.class.Class.TheVariants.{Normal, Exclusive}
 use Rattle.limit_apply.specs.Open.{open_config, open_text}
 use Rattle.limit_apply.proofs.OpenLemmas.{open_again}
@@ -8,10 +9,10 @@ use Rattle.psched_script.specs.Script.{line_of, script_of}
 use Rattle.psched_script.specs.declared.lines.Content.{Content}
 use Rattle.psched_script.specs.declared.lines.Content.TheVariants.{Nothing, NewHost, Event}
 use Rattle.psched_script.specs.declared.script.Reason.{Reason}
-use Rattle.psched_script.specs.declared.script.Reason.TheVariants.{NotUtf8, UnknownWord, WrongNumberOfFields, BadNumber, BadName, NoSuchHost, RepeatedHost, BadClass, BadTool}
+use Rattle.psched_script.specs.declared.script.Reason.TheVariants.{NotUtf8, UnknownWord, WrongNumberOfFields, BadNumber, BadName, NoSuchHost, RepeatedHost, BadClass, BadTool, BadImage}
 use Rattle.psched_script.specs.declared.script.ScriptFault.TheVariants.{Refused}
 use Rattle.psched_script.specs.declared.script.ScriptHost.{ScriptHost}
-use Rattle.psched_script.specs.declared.script.ScriptLine.TheVariants.{Host, Tools, Limits, Book, Post, Get, Delete, Turn, Archive, Deliver, Repeat, Lose}
+use Rattle.psched_script.specs.declared.script.ScriptLine.TheVariants.{Host, Tools, Limits, Book, Post, Get, Delete, Turn, Archive, Crash, Deliver, Repeat, Lose}
 use Rattle.psched_script.proofs.OnLiterals.{script_on_literals}
 
 abbrev declared : List ScriptHost
@@ -37,10 +38,11 @@ read_lines :
     × (says (codes "5 deliver turn") ≡ Ok (Event (Turn 5 1)))
     × (says (codes "5 a archive") ≡ Ok (Event (Archive 5 0)))
     × (says (codes "5 deliver 7") ≡ Ok (Event (Deliver 5 7)))
+    × (says (codes "5 a crash 4 torn") ≡ Ok (Event (Crash 5 0 (record { call = 4; image = Torn }))))
     × (says (codes "5 repeat 0") ≡ Ok (Event (Repeat 5 0)))
     × (says (codes "lose 9999999999") ≡ Ok (Event (Lose 9999999999)))
 unfolding script_on_literals
-read_lines = (refl, refl, refl, refl, refl, refl, refl, refl, refl, refl, refl, refl, refl, refl, refl, refl, refl)
+read_lines = (refl, refl, refl, refl, refl, refl, refl, refl, refl, refl, refl, refl, refl, refl, refl, refl, refl, refl)
 
 -- the limits are the rest of the line
 read_limits : says (codes "limits a " ++ open_text) ≡ Ok (Event (Limits 0 open_config))
@@ -51,7 +53,7 @@ refused_lines :
     (says (35 ∷ 255 ∷ []) ≡ Err NotUtf8)
     × (says (codes "5 a") ≡ Err UnknownWord)
     × (says (codes "5 a turns") ≡ Err UnknownWord)
-    × (says (codes "5 a crash 0 old") ≡ Err UnknownWord)
+    × (says (codes "5 a fail 1") ≡ Err UnknownWord)
     × (says (codes "5 deliver fail") ≡ Err UnknownWord)
     × (says (codes "x A book loud") ≡ Err WrongNumberOfFields)
     × (says (codes "tools a sleep snooze") ≡ Err WrongNumberOfFields)
@@ -73,8 +75,9 @@ refused_lines :
     × (says (codes "tools a ") ≡ Err BadTool)
     × (says (codes "tools a ping") ≡ Err BadTool)
     × (says (codes "tools a sleep,snooze,sleep") ≡ Err BadTool)
+    × (says (codes "5 a crash 4 older") ≡ Err BadImage)
 unfolding script_on_literals
-refused_lines = (refl, refl, refl, refl, refl, refl, refl, refl, refl, refl, refl, refl, refl, refl, refl, refl, refl, refl, refl, refl, refl, refl, refl, refl, refl)
+refused_lines = (refl, refl, refl, refl, refl, refl, refl, refl, refl, refl, refl, refl, refl, refl, refl, refl, refl, refl, refl, refl, refl, refl, refl, refl, refl, refl)
 
 read_script : script_of (codes "# one\nhost a 1\n\n0 a turn\nlose 1") ≡ Ok (record {
   hosts = record { name = codes "a"; number = 1 } ∷ [];

@@ -9,15 +9,15 @@ use Rattle.ps_time.specs.Name.{is_name}
 use Rattle.ps_time.specs.Numbers.{greatest_length, most_script_hosts}
 use Rattle.limit_apply.specs.Limits.{Config}
 use Rattle.limit_apply.specs.Read.{config_in}
-use Rattle.psched_script.specs.Words.{number_of, moment_of, message_of, priority_of, is_address, tools_of}
+use Rattle.psched_script.specs.Words.{number_of, moment_of, numeral_of, image_of, priority_of, is_address, tools_of}
 use Rattle.psched_script.specs.declared.kind.Kind.{Kind}
 use Rattle.psched_script.specs.declared.kind.Kind.TheVariants as kind
 use Rattle.psched_script.specs.declared.lines.Content.{Content}
 use Rattle.psched_script.specs.declared.lines.Content.TheVariants.{NewHost, Event}
 use Rattle.psched_script.specs.declared.script.ScriptHost.{ScriptHost}
-use Rattle.psched_script.specs.declared.script.ScriptLine.TheVariants.{Tools, Limits, Book, Post, Get, Delete, Turn, Archive, Deliver, Repeat, Lose}
+use Rattle.psched_script.specs.declared.script.ScriptLine.TheVariants.{Tools, Limits, Book, Post, Get, Delete, Turn, Archive, Crash, Deliver, Repeat, Lose}
 use Rattle.psched_script.specs.declared.script.Reason.{Reason}
-use Rattle.psched_script.specs.declared.script.Reason.TheVariants.{UnknownWord, WrongNumberOfFields, BadNumber, BadName, NoSuchHost, RepeatedHost, TooManyHosts, BadClass, BadTool, BadLimits}
+use Rattle.psched_script.specs.declared.script.Reason.TheVariants.{UnknownWord, WrongNumberOfFields, BadNumber, BadName, NoSuchHost, RepeatedHost, TooManyHosts, BadClass, BadTool, BadLimits, BadImage}
 
 -- ---- what may be refused
 -- go on with the value, or refuse
@@ -133,21 +133,31 @@ abbrev pub archive_line : List ScriptHost → List (List ℕ) → Result Content
 archive_line hosts (at ∷ name ∷ word ∷ []) = then_with (host_at hosts at name) (λ p. Ok (Event (Archive p.0 p.1)))
 archive_line hosts _ = Err WrongNumberOfFields
 
+-- `T NAME crash K IMAGE`
+abbrev pub crash_line : List ScriptHost → List (List ℕ) → Result Content Reason
+crash_line hosts (at ∷ name ∷ word ∷ call ∷ image ∷ []) =
+    need (moment_of at) BadNumber (λ t.
+    need (numeral_of call) BadNumber (λ k.
+    then_with (host_named hosts name) (λ h.
+    need (image_of image) BadImage (λ i.
+    Ok (Event (Crash t h (record { call = k; image = i })))))))
+crash_line hosts _ = Err WrongNumberOfFields
+
 -- `T deliver N`
 abbrev pub deliver_line : List (List ℕ) → Result Content Reason
 deliver_line (at ∷ word ∷ message ∷ []) =
-    need (moment_of at) BadNumber (λ t. need (message_of message) BadNumber (λ n. Ok (Event (Deliver t n))))
+    need (moment_of at) BadNumber (λ t. need (numeral_of message) BadNumber (λ n. Ok (Event (Deliver t n))))
 deliver_line _ = Err WrongNumberOfFields
 
 -- `T repeat N`
 abbrev pub repeat_line : List (List ℕ) → Result Content Reason
 repeat_line (at ∷ word ∷ message ∷ []) =
-    need (moment_of at) BadNumber (λ t. need (message_of message) BadNumber (λ n. Ok (Event (Repeat t n))))
+    need (moment_of at) BadNumber (λ t. need (numeral_of message) BadNumber (λ n. Ok (Event (Repeat t n))))
 repeat_line _ = Err WrongNumberOfFields
 
 -- `lose N`
 abbrev pub lose_line : List (List ℕ) → Result Content Reason
-lose_line (word ∷ message ∷ []) = need (message_of message) BadNumber (λ n. Ok (Event (Lose n)))
+lose_line (word ∷ message ∷ []) = need (numeral_of message) BadNumber (λ n. Ok (Event (Lose n)))
 lose_line _ = Err WrongNumberOfFields
 
 unfoldable pub line_by_kind : List ScriptHost → Kind → List (List ℕ) → Result Content Reason
@@ -160,6 +170,7 @@ line_by_kind hosts kind.Get fields = get_line hosts fields
 line_by_kind hosts kind.Delete fields = delete_line hosts fields
 line_by_kind hosts kind.Turn fields = turn_line hosts fields
 line_by_kind hosts kind.Archive fields = archive_line hosts fields
+line_by_kind hosts kind.Crash fields = crash_line hosts fields
 line_by_kind hosts kind.Deliver fields = deliver_line fields
 line_by_kind hosts kind.Repeat fields = repeat_line fields
 line_by_kind hosts kind.Lose fields = lose_line fields

@@ -1,7 +1,7 @@
 -- The texts of refusals.
 use Rattle.std.specs.Prelude.{ℕ, ◌++◌, List, codes, decimal}
 use Rattle.psched_script.specs.declared.script.Reason.{Reason}
-use Rattle.psched_script.specs.declared.script.Reason.TheVariants.{NotUtf8, UnknownWord, WrongNumberOfFields, BadNumber, BadName, NoSuchHost, RepeatedHost, TooManyHosts, BadClass, BadTool, BadLimits}
+use Rattle.psched_script.specs.declared.script.Reason.TheVariants.{NotUtf8, UnknownWord, WrongNumberOfFields, BadNumber, BadName, NoSuchHost, RepeatedHost, TooManyHosts, BadClass, BadTool, BadLimits, BadImage}
 use Rattle.psched_script.specs.declared.script.ScriptFault.{ScriptFault}
 use Rattle.psched_script.specs.declared.script.ScriptFault.TheVariants.{Refused, Memory}
 
@@ -17,6 +17,7 @@ reason_text TooManyHosts = codes "too many hosts"
 reason_text BadClass = codes "bad class"
 reason_text BadTool = codes "bad tool"
 reason_text BadLimits = codes "bad limits"
+reason_text BadImage = codes "bad image"
 
 -- a refusal as a user reads it: `line 2: bad class`
 abbrev pub fault_text : ScriptFault → List ℕ

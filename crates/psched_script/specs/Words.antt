@@ -1,6 +1,9 @@
 -- The forms of a line's fields.
-use Rattle.std.specs.Prelude.{ℕ, ℤ, pos, ◌-ℤ◌, Bool, ◌==◌, ◌&&◌, nat_le, List, [], ◌∷◌, length, Option, Some, None, option_map, option_and_then, if◌then◌else◌}
+use Rattle.std.specs.Prelude.{ℕ, ℤ, pos, ◌-ℤ◌, Bool, ◌==◌, ◌&&◌, nat_le, List, [], ◌∷◌, length, Option, Some, None, option_map, option_and_then, if◌then◌else◌, codes}
 use Rattle.std.specs.List.{list_all, slice_split}
+use Rattle.std.specs.Str.{bytes_eq}
+use Rattle.ps_disks.specs.declared.image.Image.{Image}
+use Rattle.ps_disks.specs.declared.image.Image.TheVariants.{Old, New, Torn}
 use Rattle.ps_time.specs.Number.{decimal_of}
 use Rattle.ps_time.specs.Numbers.{greatest_moment}
 use Rattle.plugin_core.specs.ReadTest.{all_differ}
@@ -18,9 +21,17 @@ number_of low high field = option_and_then (within low high) (decimal_of 1 10 fi
 abbrev pub moment_of : List ℕ → Option ℕ
 moment_of field = number_of 0 greatest_moment field
 
--- N: any number of 1 to 10 digits
-unfoldable pub message_of : List ℕ → Option ℕ
-message_of field = decimal_of 1 10 field
+-- N, K: any number of 1 to 10 digits
+unfoldable pub numeral_of : List ℕ → Option ℕ
+numeral_of field = decimal_of 1 10 field
+
+-- IMAGE
+abbrev pub image_of : List ℕ → Option Image
+image_of field =
+    if bytes_eq field (codes "old") then Some Old
+    else if bytes_eq field (codes "new") then Some New
+    else if bytes_eq field (codes "torn") then Some Torn
+    else None
 
 -- PRIORITY, from -1000 to 1000: the digits of its size, after '-' where it is negative
 unfoldable pub priority_of : List ℕ → Option ℤ

@@ -16,6 +16,7 @@ pub enum Kind {
     Delete,
     Turn,
     Archive,
+    Crash,
     Deliver,
     Repeat,
     Lose,
@@ -55,7 +56,7 @@ fn kind_by_third(word: &str) -> Option<Kind>
         "delete" => Some(Kind::Delete),
         "turn" => Some(Kind::Turn),
         "archive" => Some(Kind::Archive),
-        "crash" => Some(Kind::Later),
+        "crash" => Some(Kind::Crash),
         "fail" => Some(Kind::Later),
         _ => None,
     }

@@ -1,13 +1,13 @@
 //! The lines of each kind. Where memory may be wanting it is the outer error, and a reason the inner one.
 ghost use Rattle.std.specs.Prelude.{◌≡◌, ◌≤◌, IfOk, drop, length};
-ghost use Rattle.psched_script.specs.Line.{host_line, tools_line, limits_line, book_line, post_line, get_line, delete_line, turn_line, archive_line, deliver_line, repeat_line, lose_line, line_by_kind, limits_of};
+ghost use Rattle.psched_script.specs.Line.{host_line, tools_line, limits_line, book_line, post_line, get_line, delete_line, turn_line, archive_line, crash_line, deliver_line, repeat_line, lose_line, line_by_kind, limits_of};
 
 use crate::fields::Fields;
 use crate::hosts::{is_used, read_asked, read_name, read_place};
 use crate::kind::Kind;
-use crate::script::{MAX_HOSTS, Reason, ScriptHost, ScriptLine};
+use crate::script::{MAX_HOSTS, Reason, ScriptHost, ScriptLine, Stop};
 use crate::tools::read_tools;
-use crate::words::{read_message, read_moment, read_number, read_priority};
+use crate::words::{read_image, read_moment, read_number, read_numeral, read_priority};
 use limit_apply::limits::Limits;
 use limit_ident::fault::LimitFault;
 use ps_time::class::read_class;
@@ -194,6 +194,20 @@ fn read_archive_line(hosts: &[ScriptHost], fields: &Fields<'_>) -> Result<Conten
     Ok(Content::Event(ScriptLine::Archive { at, host }))
 }
 
+fn read_crash_line(hosts: &[ScriptHost], fields: &Fields<'_>) -> Result<Content, Reason>
+    ensures { result ≡ crash_line hosts.now fields.now }
+{
+    if fields.len() != 5 {
+        return Err(Reason::WrongNumberOfFields);
+    }
+    let at = read_moment(fields.at(0)).ok_or(Reason::BadNumber)?;
+    let call = read_numeral(fields.at(3)).ok_or(Reason::BadNumber)?;
+    let host = read_name(hosts, fields.at(1))?;
+    let image = read_image(fields.at(4)).ok_or(Reason::BadImage)?;
+    let stop = Stop { call, image };
+    Ok(Content::Event(ScriptLine::Crash { at, host, stop }))
+}
+
 fn read_deliver_line(fields: &Fields<'_>) -> Result<Content, Reason>
     ensures { result ≡ deliver_line fields.now }
 {
@@ -201,7 +215,7 @@ fn read_deliver_line(fields: &Fields<'_>) -> Result<Content, Reason>
         return Err(Reason::WrongNumberOfFields);
     }
     let at = read_moment(fields.at(0)).ok_or(Reason::BadNumber)?;
-    let message = read_message(fields.at(2)).ok_or(Reason::BadNumber)?;
+    let message = read_numeral(fields.at(2)).ok_or(Reason::BadNumber)?;
     Ok(Content::Event(ScriptLine::Deliver { at, message }))
 }
 
@@ -212,7 +226,7 @@ fn read_repeat_line(fields: &Fields<'_>) -> Result<Content, Reason>
         return Err(Reason::WrongNumberOfFields);
     }
     let at = read_moment(fields.at(0)).ok_or(Reason::BadNumber)?;
-    let message = read_message(fields.at(2)).ok_or(Reason::BadNumber)?;
+    let message = read_numeral(fields.at(2)).ok_or(Reason::BadNumber)?;
     Ok(Content::Event(ScriptLine::Repeat { at, message }))
 }
 
@@ -222,7 +236,7 @@ fn read_lose_line(fields: &Fields<'_>) -> Result<Content, Reason>
     if fields.len() != 2 {
         return Err(Reason::WrongNumberOfFields);
     }
-    let message = read_message(fields.at(1)).ok_or(Reason::BadNumber)?;
+    let message = read_numeral(fields.at(1)).ok_or(Reason::BadNumber)?;
     Ok(Content::Event(ScriptLine::Lose { message }))
 }
 
@@ -246,6 +260,7 @@ pub fn read_by_kind(
         Kind::Delete => read_delete_line(alloc, hosts, fields),
         Kind::Turn => Ok(read_turn_line(hosts, fields)),
         Kind::Archive => Ok(read_archive_line(hosts, fields)),
+        Kind::Crash => Ok(read_crash_line(hosts, fields)),
         Kind::Deliver => Ok(read_deliver_line(fields)),
         Kind::Repeat => Ok(read_repeat_line(fields)),
         Kind::Lose => Ok(read_lose_line(fields)),

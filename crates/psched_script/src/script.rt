@@ -2,6 +2,7 @@
 ghost use Rattle.std.specs.Prelude.{◌≡◌};
 
 use limit_apply::limits::Limits;
+use ps_disks::image::Image;
 use ps_time::class::Class;
 use ps_time::items::Items;
 use ps_time::moment::{Length, Moment};
@@ -18,6 +19,15 @@ pub struct ScriptHost {
     pub name: Text,
     /// From 1 to 65535.
     pub number: u16,
+}
+
+/// Where a crash stops a step, and what it leaves of the disks.
+#[derive(Clone, Copy)]
+pub struct Stop {
+    /// At which of the writes, cuts and syncs that the step makes, counted from 1 over both disks; after the last where it makes
+    /// fewer, and before them all for 0.
+    pub call: u64,
+    pub image: Image,
 }
 
 /// What happens at one line of a script. A host is told by its place among the script's hosts, a message by
@@ -81,6 +91,12 @@ pub enum ScriptLine {
         at: Moment,
         host: usize,
     },
+    /// `T NAME crash K IMAGE`: the host's next step stops there, and the host is opened again.
+    Crash {
+        at: Moment,
+        host: usize,
+        stop: Stop,
+    },
     /// `T deliver N`: a message comes.
     Deliver {
         at: Moment,
@@ -131,6 +147,11 @@ impl Drop for ScriptLine {
             } => {}
             ScriptLine::Turn { at: _, host: _ } => {}
             ScriptLine::Archive { at: _, host: _ } => {}
+            ScriptLine::Crash {
+                at: _,
+                host: _,
+                stop: _,
+            } => {}
             ScriptLine::Deliver { at: _, message: _ } => {}
             ScriptLine::Repeat { at: _, message: _ } => {}
             ScriptLine::Lose { message: _ } => {}
@@ -156,6 +177,7 @@ impl ScriptLine {
             ScriptLine::Delete { at, .. } => Some(*at),
             ScriptLine::Turn { at, .. } => Some(*at),
             ScriptLine::Archive { at, .. } => Some(*at),
+            ScriptLine::Crash { at, .. } => Some(*at),
             ScriptLine::Deliver { at, .. } => Some(*at),
             ScriptLine::Repeat { at, .. } => Some(*at),
         }
@@ -190,6 +212,7 @@ pub enum Reason {
     BadClass,
     BadTool,
     BadLimits,
+    BadImage,
 }
 
 impl fmt::Display for Reason {
@@ -211,6 +234,7 @@ impl fmt::Display for Reason {
             Reason::BadClass => "bad class",
             Reason::BadTool => "bad tool",
             Reason::BadLimits => "bad limits",
+            Reason::BadImage => "bad image",
         })
     }
 }

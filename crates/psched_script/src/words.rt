@@ -1,7 +1,8 @@
-//! Numbers in the fields of a script.
+//! Numbers and images in the fields of a script.
 ghost use Rattle.std.specs.Prelude.{◌≡◌, ◌≤◌, ◌≤ℤ◌, pos, option_map, IfSome};
-ghost use Rattle.psched_script.specs.Words.{number_of, moment_of, message_of, priority_of};
+ghost use Rattle.psched_script.specs.Words.{number_of, moment_of, numeral_of, image_of, priority_of};
 
+use ps_disks::image::Image;
 use ps_time::moment::{MAX_MOMENT, Moment};
 use ps_time::number::read_decimal;
 
@@ -25,12 +26,23 @@ pub fn read_moment(field: &str) -> Option<Moment>
     read_number(field, 0, MAX_MOMENT)
 }
 
-/// The number of a message: any one of 1 to 10 digits.
-#[tactic(auto, unfolding(crate::specs::Words::message_of))]
-pub fn read_message(field: &str) -> Option<u64>
-    ensures { result ≡ message_of field.now }
+/// The number of a message, or of a call: any one of 1 to 10 digits.
+#[tactic(auto, unfolding(crate::specs::Words::numeral_of))]
+pub fn read_numeral(field: &str) -> Option<u64>
+    ensures { result ≡ numeral_of field.now }
 {
     read_decimal(field, 1, 10)
+}
+
+pub fn read_image(field: &str) -> Option<Image>
+    ensures { result ≡ image_of field.now }
+{
+    match field {
+        "old" => Some(Image::Old),
+        "new" => Some(Image::New),
+        "torn" => Some(Image::Torn),
+        _ => None,
+    }
 }
 
 /// The priority, from -1000 to 1000: `-` stands before the digits of a negative one.

@@ -106,9 +106,18 @@ line 1: wrong number of fields <- lose
 line 1: wrong number of fields <- lose 1 2
 line 1: bad number <- lose 
 line 1: bad number <- lose x
-line 1: unknown word <- 10 a crash 0 old
+line 1: wrong number of fields <- x A crash
+line 1: wrong number of fields <- 10 a crash 0
+line 1: wrong number of fields <- 10 a crash 0 old 1
+line 1: bad number <- x A crash 0 old
+line 1: bad number <- 10 A crash -1 older
+line 1: bad number <- 10 A crash 00000000001 old
+line 1: bad name <- 10 A crash 0 older
+line 1: no such host <- 10 a crash 0 older
+line 2: bad image <- host a 1|10 a crash 0 older
+line 2: bad image <- host a 1|10 a crash 0 Old
+line 2: bad image <- host a 1|10 a crash 0 
 line 1: unknown word <- 10 a fail 1
-line 1: unknown word <- x A crash
 line 1: unknown word <- 10 deliver fail
 line 1: no such host <- 10 deliver turn
 line 1: no such host <- 10 lose turn

@@ -1,4 +1,5 @@
 //! What is read of a script, as a text.
+use ps_disks::image::Image;
 use ps_time::memory::Memory;
 use ps_time::text::Text;
 use psched_script::read::read_script;
@@ -29,6 +30,14 @@ fn add_standing(said: &mut String, line: &ScriptLine) -> Result<(), AllocError> 
     }
 }
 
+fn image_name(image: Image) -> &'static str {
+    match image {
+        Image::Old => "old",
+        Image::New => "new",
+        Image::Torn => "torn",
+    }
+}
+
 // A line that happens at a moment, but for a booking.
 fn add_timed(said: &mut String, line: &ScriptLine) -> Result<(), AllocError> {
     match line {
@@ -47,6 +56,10 @@ fn add_timed(said: &mut String, line: &ScriptLine) -> Result<(), AllocError> {
         } => writeln!(said, "delete {host} [{address}] [{path}]"),
         ScriptLine::Turn { host, .. } => writeln!(said, "turn {host}"),
         ScriptLine::Archive { host, .. } => writeln!(said, "archive {host}"),
+        ScriptLine::Crash { host, stop, .. } => {
+            let (call, image) = (stop.call, image_name(stop.image));
+            writeln!(said, "crash {host} {call} {image}")
+        }
         ScriptLine::Deliver { message, .. } => writeln!(said, "deliver {message}"),
         ScriptLine::Repeat { message, .. } => writeln!(said, "repeat {message}"),
         _ => Ok(()),

@@ -29,7 +29,7 @@ b.c-2 65535
 ",
     ),
     (
-        b"host a 1\nhost b 2\ntools b sleep\ntools a simplestreamer,snooze,sleepbgm,sleep\n5 b turn\n4102444800 a archive\n6 deliver 1\n6 repeat 0\nlose 9999999999\n",
+        b"host a 1\nhost b 2\ntools b sleep\ntools a simplestreamer,snooze,sleepbgm,sleep\n5 b turn\n4102444800 a archive\n6 deliver 1\n6 repeat 0\nlose 9999999999\n7 b crash 4 new\n8 a crash 0000000000 old\n9 a crash 9999999999 torn\n",
         "\
 a 1
 b 2
@@ -42,6 +42,9 @@ b 2
 7 at 6 deliver 1
 8 at 6 repeat 0
 9 lose 9999999999
+10 at 7 crash 1 4 new
+11 at 8 crash 0 0 old
+12 at 9 crash 0 9999999999 torn
 ",
     ),
     (

@@ -72,8 +72,8 @@ module _ (hosts : List ScriptHost) where
 
     pub first_is : seen hosts (first_show hosts) ≡ first_seen hosts
     first_is =
-        ap (λ x. record { stages = x; letters = reverse (first_world hosts).letters; flying = []; last = 0 }) stages_first
-        ∙ ap (λ (x : List Letter). record { stages = map (opened_stage hosts) hosts; letters = reverse x; flying = []; last = 0 }) letters_first
+        ap (λ x. record { stages = x; letters = reverse (first_world hosts).letters; flying = []; last = 0; stops = [] }) stages_first
+        ∙ ap (λ (x : List Letter). record { stages = map (opened_stage hosts) hosts; letters = reverse x; flying = []; last = 0; stops = [] }) letters_first
 
     configs_first : (place : ℕ) (h : ScriptHost) → StandsAt hosts place h → IsAsFirst hosts h (stage_in (present hosts (first_world hosts)) place).config
     configs_first place h at =

@@ -48,7 +48,7 @@ number_is (g ∷ hs) zero h e = let same : g ≡ h = cc in ap (λ x. x.number) s
 number_is (g ∷ hs) (suc place) h e = number_is hs place h e
 
 -- ---- by number
-same_number : (a b : ℕ) → a ≡ b → (a == b) ≡ true
+pub same_number : (a b : ℕ) → a ≡ b → (a == b) ≡ true
 same_number a b e = grind (arith, nat_tests)
 
 other_number : (a b : ℕ) → a ≢ b → (a == b) ≡ false

@@ -18,15 +18,17 @@ use Rattle.psched_world.specs.World.{Letter, Stage, World, start}
 use Rattle.psched_script.specs.Lawful.{AreLawfulHosts, IsLawfulLine}
 use Rattle.psched_script.specs.declared.script.ScriptHost.{ScriptHost}
 use Rattle.psched_script.specs.declared.script.ScriptLine.{ScriptLine}
-use Rattle.rehearsal_model.specs.After.{arrived_at, moved_seen, seen_after, stages_after}
+use Rattle.psched_script.specs.declared.script.Stop.{Stop}
+use Rattle.machine_keep.specs.Crash.{keeps_step}
+use Rattle.rehearsal_model.specs.After.{arrived_at, crashed_stage, moved_seen, seen_after, stages_after}
 use Rattle.rehearsal_model.specs.Hosts.{config_numbered, name_numbered, others_of, peer_of}
-use Rattle.rehearsal_model.specs.Moves.{Move, flying_after, is_untold, joining, moment_of_line, move_of, numbers_from, receiver, replied, replies, still_flying}
+use Rattle.rehearsal_model.specs.Moves.{Move, flying_after, is_untold, joining, landed_with, moment_of_line, move_of, numbers_from, receiver, replied, replies, still_flying, stopped, stops_after}
 use Rattle.rehearsal_model.specs.Reaching.{IsAsFirst, IsHost, MayMove, Reaches}
 use Rattle.rehearsal_model.specs.Rehearsal.{Show, after, events_of, moved, retooled, seen}
 use Rattle.rehearsal_model.specs.Seen.{Seen, acted, config_at, is_sent, message, nobody, stage_at}
 use Rattle.rehearsal_model.proofs.HostLemmas.{StandsAt, differ, host_at, is_host}
 use Rattle.rehearsal_model.proofs.ListLemmas.{aged_is, all_reverse}
-use Rattle.rehearsal_model.proofs.MoveLemmas.{IsMove, known, letters_moved, may_moved, moment_within, move_is, stages_moved}
+use Rattle.rehearsal_model.proofs.MoveLemmas.{IsMove, cut_config, known, letters_moved, may_moved, moment_within, move_is, stages_moved, stopped_is, stopped_may}
 use Rattle.rehearsal_model.proofs.SeenLemmas.{stage_in}
 use Rattle.rehearsal_model.proofs.TurnLemmas.{peer_number, sent_all}
 use Rattle.rehearsal_model.proofs.WorldLemmas.{may_more, run_more}
@@ -58,8 +60,8 @@ is_new : (n count more : ℕ) → count + 1 ≤ n → n ≤ more → IsTrue (nat
 is_new n count more low high = grind (arith, nat_tests)
 
 -- ---- a move
-abbrev seen_with : List Stage → List Letter → List ℕ → ℕ → Seen
-seen_with stages letters flying last = record { stages = stages; letters = letters; flying = flying; last = last }
+abbrev seen_with : List Stage → List Letter → List ℕ → ℕ → List (ℕ × Stop) → Seen
+seen_with stages letters flying last stops = record { stages = stages; letters = letters; flying = flying; last = last; stops = stops }
 
 module _ (hosts : List ScriptHost) (lawful : AreLawfulHosts hosts) (s : Show) (reach : Reaches hosts s) where
   abbrev b : Seen
@@ -71,14 +73,14 @@ module _ (hosts : List ScriptHost) (lawful : AreLawfulHosts hosts) (s : Show) (r
   abbrev world_after : Move → World
   world_after move = run (events_of hosts s move) s.world
 
-  letters_seen : (move : Move) → IsMove hosts move → reverse (world_after move).letters ≡ b.letters ++ joining hosts b move
+  letters_seen : (move : Move) → IsMove hosts b move → reverse (world_after move).letters ≡ b.letters ++ joining hosts b move
   letters_seen move is =
       ap reverse (letters_moved hosts lawful s reach move is) ∙ reverse-append (reverse (joining hosts b move)) s.world.letters ∙ ap (λ xs. reverse s.world.letters ++ xs) (reverse-reverse (joining hosts b move))
 
-  pub seen_moved : (m : ℕ) (move : Move) → IsMove hosts move → seen hosts (moved hosts s m move) ≡ moved_seen hosts b m move
+  pub seen_moved : (m : ℕ) (move : Move) → IsMove hosts b move → seen hosts (moved hosts s m move) ≡ moved_seen hosts b m move
   seen_moved m move is =
-      ap (λ x. seen_with x (reverse (world_after move).letters) (flying_after hosts b move) (max s.last m)) (stages_moved hosts lawful s reach move is)
-      ∙ ap (λ x. seen_with (stages_after hosts b move) x (flying_after hosts b move) (max s.last m)) (letters_seen move is)
+      ap (λ x. seen_with x (reverse (world_after move).letters) (flying_after hosts b move) (max s.last m) (stops_after b move)) (stages_moved hosts lawful s reach move is)
+      ∙ ap (λ x. seen_with (stages_after hosts b move) x (flying_after hosts b move) (max s.last m) (stops_after b move)) (letters_seen move is)
 
   -- ---- configurations
   long : length b.stages ≡ length hosts
@@ -101,6 +103,8 @@ module _ (hosts : List ScriptHost) (lawful : AreLawfulHosts hosts) (s : Show) (r
   configs_moved (Move.Reopens place clock) = configs_at place (acted (stage_at b place) clock input.Open) refl
   configs_moved (Move.Arrives n clock) = configs_arrived clock (message b n)
   configs_moved (Move.Lost n) = reach.configs
+  configs_moved (Move.Arms place stop) = reach.configs
+  configs_moved (Move.Crashes c) = configs_at c.place (crashed_stage c.stop (stage_at b c.place) c.clock c.asked) (cut_config (keeps_step c.stop.call c.stop.image) (stage_at b c.place) c.clock c.asked)
 
   -- ---- letters
   module _ (place : ℕ) (within : place < length hosts) where
@@ -127,7 +131,7 @@ module _ (hosts : List ScriptHost) (lawful : AreLawfulHosts hosts) (s : Show) (r
   replies_known clock None each = All-nil Known
   replies_known clock (Some l) each = replied_known clock l (each l refl) l.reply
 
-  joined_known : (move : Move) → IsMove hosts move → All Known (joining hosts b move)
+  joined_known : (move : Move) → IsMove hosts b move → All Known (joining hosts b move)
   joined_known Move.Rests is = All-nil Known
   joined_known (Move.Asks place clock i) is = All-nil Known
   joined_known (Move.Tries place clock i) is = All-nil Known
@@ -136,15 +140,21 @@ module _ (hosts : List ScriptHost) (lawful : AreLawfulHosts hosts) (s : Show) (r
   joined_known (Move.Reopens place clock) is = All-nil Known
   joined_known (Move.Arrives n clock) is = replies_known clock (message b n) (λ l e. known hosts lawful s reach (n - 1) l (sym (aged_is s.world.letters (n - 1)) ∙ e))
   joined_known (Move.Lost n) is = All-nil Known
+  joined_known (Move.Arms place stop) is = All-nil Known
+  joined_known (Move.Crashes c) is = All-nil Known
 
-  letters_all : (P : Letter → Type 0) → ((l : Letter) → Known l → P l) → All P s.world.letters → (move : Move) → IsMove hosts move → All P (world_after move).letters
+  letters_all : (P : Letter → Type 0) → ((l : Letter) → Known l → P l) → All P s.world.letters → (move : Move) → IsMove hosts b move → All P (world_after move).letters
   letters_all P from old move is =
       All-same P (world_after move).letters (reverse (joining hosts b move) ++ s.world.letters) (letters_moved hosts lawful s reach move is)
       (All-append P (reverse (joining hosts b move)) s.world.letters (all_reverse P (joining hosts b move) (All-weaker Known P from (joining hosts b move) (joined_known move is))) old)
 
   -- ---- messages in flight
-  counted : (move : Move) → IsMove hosts move → length (reverse (world_after move).letters) ≡ length b.letters + length (joining hosts b move)
+  counted : (move : Move) → IsMove hosts b move → length (reverse (world_after move).letters) ≡ length b.letters + length (joining hosts b move)
   counted move is = ap length (letters_seen move is) ∙ length-append b.letters (joining hosts b move)
+
+  landed_all : (P : ℕ → Type 0) → All P s.flying → (o : Option ℕ) → All P (landed_with o s.flying)
+  landed_all P all None = all
+  landed_all P all (Some n) = All-filter (λ f. not (f == n)) P s.flying all
 
   flying_all : (P : ℕ → Type 0) → All P s.flying → (move : Move) → All P (still_flying b move)
   flying_all P all Move.Rests = all
@@ -155,8 +165,10 @@ module _ (hosts : List ScriptHost) (lawful : AreLawfulHosts hosts) (s : Show) (r
   flying_all P all (Move.Reopens place clock) = all
   flying_all P all (Move.Arrives n clock) = All-filter (λ f. not (f == n)) P s.flying all
   flying_all P all (Move.Lost n) = All-filter (λ f. not (f == n)) P s.flying all
+  flying_all P all (Move.Arms place stop) = all
+  flying_all P all (Move.Crashes c) = landed_all P all c.landing
 
-  flying_moved : (m : ℕ) (move : Move) → IsMove hosts move → All (λ n. IsTrue (is_sent (seen hosts (moved hosts s m move)) n)) (flying_after hosts b move)
+  flying_moved : (m : ℕ) (move : Move) → IsMove hosts b move → All (λ n. IsTrue (is_sent (seen hosts (moved hosts s m move)) n)) (flying_after hosts b move)
   flying_moved m move is =
       let js : List Letter = joining hosts b move in
       let count : ℕ = length b.letters in
@@ -167,7 +179,7 @@ module _ (hosts : List ScriptHost) (lawful : AreLawfulHosts hosts) (s : Show) (r
       (numbers_all (λ n. IsTrue (nat_le 1 n && nat_le n more)) (count + 1) js (λ k low high. is_new k count more low (omega (arith, sum, high))))
 
   -- ---- it leads on
-  pub reaches_moved : (m : ℕ) (move : Move) → IsMove hosts move → MayMove b move → m ≤ greatest_moment → Reaches hosts (moved hosts s m move)
+  pub reaches_moved : (m : ℕ) (move : Move) → IsMove hosts b move → MayMove b move → m ≤ greatest_moment → Reaches hosts (moved hosts s m move)
   reaches_moved m move is may low =
       let first : World = start (name_numbered hosts) (config_numbered hosts) in
       let events : List Event = events_of hosts s move in
@@ -185,7 +197,8 @@ module _ (hosts : List ScriptHost) (lawful : AreLawfulHosts hosts) (s : Show) (r
 
   -- ---- a line
   pub line_seen : (l : ScriptLine) → IsLawfulLine (length hosts) l → seen hosts (after hosts s l) ≡ seen_after hosts (seen hosts s) l
-  line_seen l is = seen_moved (moment_of_line l) (move_of b l) (move_is hosts b reach.last l is)
+  line_seen l is = seen_moved (moment_of_line l) (stopped hosts b (move_of b l)) (stopped_is hosts lawful s reach (move_of b l) (move_is hosts b reach.last l is))
 
   pub line_reaches : (l : ScriptLine) → IsLawfulLine (length hosts) l → MayMove (seen hosts s) (move_of (seen hosts s) l) → Reaches hosts (after hosts s l)
-  line_reaches l is may = reaches_moved (moment_of_line l) (move_of b l) (move_is hosts b reach.last l is) may (moment_within (length hosts) l is)
+  line_reaches l is may =
+      reaches_moved (moment_of_line l) (stopped hosts b (move_of b l)) (stopped_is hosts lawful s reach (move_of b l) (move_is hosts b reach.last l is)) (stopped_may hosts lawful s reach (move_of b l) may) (moment_within (length hosts) l is)

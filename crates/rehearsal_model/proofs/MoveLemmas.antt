@@ -1,37 +1,41 @@
 -- The move of each line, and its events: what each of them leaves of what is seen.
 use Rattle.std.specs.List.{list_all}
 use Rattle.std.specs.Prelude.{codes, set}
-use Rattle.std.proofs.Common.{◌≡◌, ◌≤◌, ◌<◌, ◌-◌, ℕ, suc, Bool, true, false, cond, List, [], ◌∷◌, ◌++◌, length, reverse, Option, Some, None, Result, Ok, Err, refl, sym, ap, ◌∙◌, subst, arith}
+use Rattle.std.proofs.Common.{◌≡◌, ◌≤◌, ◌<◌, ◌-◌, ℕ, suc, Bool, true, false, cond, List, [], ◌∷◌, ◌++◌, length, option_map, reverse, slice_get, Option, Some, None, Result, Ok, Err, refl, sym, ap, ◌∙◌, subst, arith}
+use Rattle.std.proofs.lemmas.List.{set-set}
 use Rattle.ps_time.specs.Numbers.{greatest_moment}
 use Rattle.ps_http.specs.declared.message.Response.{Response}
 use Rattle.plugin_core.specs.ReadTest.{all_differ}
 use Rattle.task_spec.specs.ReadTask.{is_tool}
 use Rattle.host_model.specs.Conditions.{IsInput}
 use Rattle.host_model.specs.Orders.{orders}
-use Rattle.host_model.specs.Step.{step_reply}
+use Rattle.host_model.specs.Step.{step_book, step_reply}
+use Rattle.host_model.specs.declared.config.Config.{Config}
 use Rattle.host_model.specs.declared.input.Input.{Input}
 use Rattle.host_model.specs.declared.input.Input.TheVariants as input
 use Rattle.host_model.specs.declared.lead.Due.{Due}
 use Rattle.host_model.specs.declared.reply.Reply.{Reply}
 use Rattle.host_model.proofs.StepFollows.{step_follows}
-use Rattle.psched_world.specs.Events.{MayRun, Right, answered, arrived, brings, delivered, goes_to, idle_stage, is_client, is_inner, reply_now, run, step_stage, stepped}
+use Rattle.psched_world.specs.Events.{Cause, Event, MayHappen, MayRun, Right, answered, arrived, brings, brought_to, config_by, cut, delivered, goes_to, happens, idle_stage, input_by, is_client, is_inner, reply_now, run, step_stage, stepped}
 use Rattle.psched_world.specs.World.{Letter, Stage, World, aged, push, stages, start}
 use Rattle.psched_world.proofs.Lawfulness.{right_now}
 use Rattle.psched_world.proofs.Stages.{aged_last}
-use Rattle.psched_world.proofs.Worlds.{stages_same}
+use Rattle.psched_world.proofs.Worlds.{now_same, stages_same}
 use Rattle.psched_script.specs.Lawful.{AreLawfulHosts, IsLawfulLine}
 use Rattle.psched_script.specs.declared.script.ScriptHost.{ScriptHost}
 use Rattle.psched_script.specs.declared.script.ScriptLine.{ScriptLine}
 use Rattle.psched_script.specs.declared.script.ScriptLine.TheVariants as line
-use Rattle.rehearsal_model.specs.After.{arrived_at, stages_after, stepped_at}
+use Rattle.psched_script.specs.declared.script.Stop.{Stop}
+use Rattle.machine_keep.specs.Crash.{keeps_step}
+use Rattle.rehearsal_model.specs.After.{arrived_at, crashed_stage, cut_stage, stages_after, stepped_at}
 use Rattle.rehearsal_model.specs.Hosts.{config_numbered, first_config, name_numbered}
-use Rattle.rehearsal_model.specs.Moves.{Move, asking, attempt, joining, moment_of_line, move_of, place_numbered, replied, replies, reply_to, sent_at, trying}
-use Rattle.rehearsal_model.specs.Reaching.{IsHost, MayMove, Reaches}
+use Rattle.rehearsal_model.specs.Moves.{Crash, Move, asking, attempt, crash_by, joining, moment_of_line, move_of, place_numbered, receiver, replied, replies, reply_to, sent_at, stopped, trying, unless_crash}
+use Rattle.rehearsal_model.specs.Reaching.{IsHost, MayAsk, MayMove, Reaches}
 use Rattle.rehearsal_model.specs.Rehearsal.{Show, events_of, number_at, retooled, seen}
 use Rattle.rehearsal_model.specs.Requests.{delete, get, post}
-use Rattle.rehearsal_model.specs.Seen.{Seen, acted, config_at, has_arrived, is_flying, reply_at, stage_at}
+use Rattle.rehearsal_model.specs.Seen.{Seen, acted, config_at, has_arrived, is_flying, message, reply_at, stage_at, stop_at}
 use Rattle.rehearsal_model.proofs.AskLemmas.{asked_by_client}
-use Rattle.rehearsal_model.proofs.HostLemmas.{differ, host_at, number_is, right_with, stands}
+use Rattle.rehearsal_model.proofs.HostLemmas.{differ, host_at, number_is, right_with, same_number, stands}
 use Rattle.rehearsal_model.proofs.KnownLemmas.{known_inv}
 use Rattle.rehearsal_model.proofs.ListLemmas.{aged_is, all_aged}
 use Rattle.rehearsal_model.proofs.SeenLemmas.{present, pushed_at, stage_numbered, step_seen}
@@ -39,44 +43,54 @@ use Rattle.rehearsal_model.proofs.TurnLemmas.{tells_may, turn_told, with_letters
 use Rattle.rehearsal_model.proofs.WorldLemmas.{run_named}
 
 -- ---- moves of lines
+-- a host is asked this by that
+abbrev pub HasCause : List ScriptHost → Seen → ℕ → Cause → Input → Type 0
+HasCause hosts b place (Cause.ByClient i) asked = (asked ≡ i) × (is_client i ≡ true)
+HasCause hosts b place (Cause.ByInner i) asked = (asked ≡ i) × (is_inner i ≡ true)
+HasCause hosts b place (Cause.ByLetter j) asked = (l : Letter) × (slice_get b.letters j ≡ Some l) × (place ≡ receiver hosts l) × (asked ≡ brings l l.reply)
+HasCause hosts b place (Cause.ByOpening c) asked = ⊥
+
 -- a move is about a host of the script, at a moment, and asks what may be asked there
-abbrev pub IsMove : List ScriptHost → Move → Type 0
-IsMove hosts Move.Rests = Unit {0}
-IsMove hosts (Move.Asks place clock i) = (place < length hosts) × (clock ≤ greatest_moment) × (is_client i ≡ true)
-IsMove hosts (Move.Tries place clock i) = (place < length hosts) × (clock ≤ greatest_moment) × (is_inner i ≡ true)
-IsMove hosts (Move.Turns place clock) = (place < length hosts) × (clock ≤ greatest_moment)
-IsMove hosts (Move.Retools place tools) = (place < length hosts) × (list_all is_tool tools ≡ true) × (all_differ tools ≡ true)
-IsMove hosts (Move.Reopens place clock) = (place < length hosts) × (clock ≤ greatest_moment)
-IsMove hosts (Move.Arrives n clock) = clock ≤ greatest_moment
-IsMove hosts (Move.Lost n) = Unit {0}
+abbrev pub IsMove : List ScriptHost → Seen → Move → Type 0
+IsMove hosts b Move.Rests = Unit {0}
+IsMove hosts b (Move.Asks place clock i) = (place < length hosts) × (clock ≤ greatest_moment) × (is_client i ≡ true)
+IsMove hosts b (Move.Tries place clock i) = (place < length hosts) × (clock ≤ greatest_moment) × (is_inner i ≡ true)
+IsMove hosts b (Move.Turns place clock) = (place < length hosts) × (clock ≤ greatest_moment)
+IsMove hosts b (Move.Retools place tools) = (place < length hosts) × (list_all is_tool tools ≡ true) × (all_differ tools ≡ true)
+IsMove hosts b (Move.Reopens place clock) = (place < length hosts) × (clock ≤ greatest_moment)
+IsMove hosts b (Move.Arrives n clock) = clock ≤ greatest_moment
+IsMove hosts b (Move.Lost n) = Unit {0}
+IsMove hosts b (Move.Arms place stop) = Unit {0}
+IsMove hosts b (Move.Crashes c) = (c.place < length hosts) × (c.clock ≤ greatest_moment) × HasCause hosts b c.place c.cause c.asked
 
-asking_is : (hosts : List ScriptHost) (place clock : ℕ) (r : Result Input Response) → place < length hosts → clock ≤ greatest_moment → ((i : Input) → r ≡ Ok i → is_client i ≡ true) → IsMove hosts (asking place clock r)
-asking_is hosts place clock (Ok i) within low client = (within, low, client i refl)
-asking_is hosts place clock (Err response) within low client = tt
+asking_is : (hosts : List ScriptHost) (b : Seen) (place clock : ℕ) (r : Result Input Response) → place < length hosts → clock ≤ greatest_moment → ((i : Input) → r ≡ Ok i → is_client i ≡ true) → IsMove hosts b (asking place clock r)
+asking_is hosts b place clock (Ok i) within low client = (within, low, client i refl)
+asking_is hosts b place clock (Err response) within low client = tt
 
-trying_is : (hosts : List ScriptHost) (place clock : ℕ) (o : Option Due) → place < length hosts → clock ≤ greatest_moment → IsMove hosts (trying place clock o)
-trying_is hosts place clock None within low = tt
-trying_is hosts place clock (Some d) within low = (within, low, refl)
+trying_is : (hosts : List ScriptHost) (b : Seen) (place clock : ℕ) (o : Option Due) → place < length hosts → clock ≤ greatest_moment → IsMove hosts b (trying place clock o)
+trying_is hosts b place clock None within low = tt
+trying_is hosts b place clock (Some d) within low = (within, low, refl)
 
-either_is : (hosts : List ScriptHost) (t : Bool) (move other : Move) → IsMove hosts move → IsMove hosts other → IsMove hosts (cond t move other)
-either_is hosts true move other is is_other = is
-either_is hosts false move other is is_other = is_other
+either_is : (hosts : List ScriptHost) (b : Seen) (t : Bool) (move other : Move) → IsMove hosts b move → IsMove hosts b other → IsMove hosts b (cond t move other)
+either_is hosts b true move other is is_other = is
+either_is hosts b false move other is is_other = is_other
 
-pub move_is : (hosts : List ScriptHost) (b : Seen) → b.last ≤ greatest_moment → (l : ScriptLine) → IsLawfulLine (length hosts) l → IsMove hosts (move_of b l)
+pub move_is : (hosts : List ScriptHost) (b : Seen) → b.last ≤ greatest_moment → (l : ScriptLine) → IsLawfulLine (length hosts) l → IsMove hosts b (move_of b l)
 move_is hosts b low (line.Host place) is = tt
 move_is hosts b low (line.Tools host tools) is = is
 move_is hosts b low (line.Limits host limits) is = (is.0, low, refl)
 move_is hosts b low (line.Book at host class priority start len) is = (is.1, is.0, refl)
 move_is hosts b low (line.Post at host address body) is =
-    asking_is hosts host at (post (config_at b host) address body at) is.1 is.0 (asked_by_client (config_at b host) (codes "POST") (codes "/pscheduler/tasks") body address at)
-move_is hosts b low (line.Get at host path) is = asking_is hosts host at (get (config_at b host) path at) is.1 is.0 (asked_by_client (config_at b host) (codes "GET") path [] (codes "127.0.0.1") at)
+    asking_is hosts b host at (post (config_at b host) address body at) is.1 is.0 (asked_by_client (config_at b host) (codes "POST") (codes "/pscheduler/tasks") body address at)
+move_is hosts b low (line.Get at host path) is = asking_is hosts b host at (get (config_at b host) path at) is.1 is.0 (asked_by_client (config_at b host) (codes "GET") path [] (codes "127.0.0.1") at)
 move_is hosts b low (line.Delete at host address path) is =
-    asking_is hosts host at (delete (config_at b host) address path at) is.1 is.0 (asked_by_client (config_at b host) (codes "DELETE") path [] address at)
+    asking_is hosts b host at (delete (config_at b host) address path at) is.1 is.0 (asked_by_client (config_at b host) (codes "DELETE") path [] address at)
 move_is hosts b low (line.Turn at host) is = (is.1, is.0)
-move_is hosts b low (line.Archive at host) is = trying_is hosts host at (attempt b host at) is.1 is.0
-move_is hosts b low (line.Deliver at n) is = either_is hosts (is_flying b n) (Move.Arrives n at) Move.Rests is tt
-move_is hosts b low (line.Repeat at n) is = either_is hosts (has_arrived b n) (Move.Arrives n at) Move.Rests is tt
-move_is hosts b low (line.Lose n) is = either_is hosts (is_flying b n) (Move.Lost n) Move.Rests tt tt
+move_is hosts b low (line.Archive at host) is = trying_is hosts b host at (attempt b host at) is.1 is.0
+move_is hosts b low (line.Crash at host stop) is = tt
+move_is hosts b low (line.Deliver at n) is = either_is hosts b (is_flying b n) (Move.Arrives n at) Move.Rests is tt
+move_is hosts b low (line.Repeat at n) is = either_is hosts b (has_arrived b n) (Move.Arrives n at) Move.Rests is tt
+move_is hosts b low (line.Lose n) is = either_is hosts b (is_flying b n) (Move.Lost n) Move.Rests tt tt
 
 -- no line is later than the last moment
 pub moment_within : (hosts : ℕ) (l : ScriptLine) → IsLawfulLine hosts l → moment_of_line l ≤ greatest_moment
@@ -89,11 +103,16 @@ moment_within hosts (line.Get at host path) is = is.0
 moment_within hosts (line.Delete at host address path) is = is.0
 moment_within hosts (line.Turn at host) is = is.0
 moment_within hosts (line.Archive at host) is = is.0
+moment_within hosts (line.Crash at host stop) is = is.0
 moment_within hosts (line.Deliver at n) is = is
 moment_within hosts (line.Repeat at n) is = is
 moment_within hosts (line.Lose n) is = omega arith
 
 -- ---- what the events of a move leave
+pub cut_config : (kept : Bool) (s : Stage) (clock : ℕ) (i : Input) → (cut_stage kept s clock i).config ≡ s.config
+cut_config true s clock i = refl
+cut_config false s clock i = refl
+
 pub goes_known : (hosts : List ScriptHost) (l : Letter) → IsHost hosts l.asker → IsHost hosts l.asked → (r : Option Reply) → IsHost hosts (goes_to l r)
 goes_known hosts l asker asked None = asked
 goes_known hosts l asker asked (Some said) = asker
@@ -198,8 +217,90 @@ module _ (hosts : List ScriptHost) (lawful : AreLawfulHosts hosts) (s : Show) (r
   delivered_letters clock None each = refl
   delivered_letters clock (Some l) each = arrived_letters clock l l.reply refl (goes_known hosts l (each l refl).0 (each l refl).1 l.reply)
 
+  -- ---- a step that stops
+  -- what a cause has the host act on, and under which configuration
+  cause_input : (place : ℕ) → place < length hosts → (cause : Cause) (i : Input) → HasCause hosts b place cause i → input_by w (number_at hosts place) cause ≡ Some i
+  cause_input place within (Cause.ByClient j) i has = ap (λ t. cond t (Some j) None) has.1 ∙ ap Some (sym has.0)
+  cause_input place within (Cause.ByInner j) i has = ap (λ t. cond t (Some j) None) has.1 ∙ ap Some (sym has.0)
+  cause_input place within (Cause.ByLetter j) i has =
+      let l : Letter = has.0 in
+      let sent : aged w.letters j ≡ Some l = sym (aged_is w.letters j) ∙ has.1 in
+      let x = stands hosts (goes_to l l.reply) (subst (λ p. p < length hosts) has.2 within) in
+      let number : goes_to l l.reply ≡ number_at hosts place = sym (ap (number_at hosts) has.2 ∙ (number_is hosts (receiver hosts l) x.0 x.1 ∙ x.2)) in
+      ap (brought_to (number_at hosts place)) sent
+      ∙ (ap (λ t. cond t (Some (brings l l.reply)) None) (same_number (goes_to l l.reply) (number_at hosts place) number)
+      ∙ ap Some (sym has.3))
+  cause_input place within (Cause.ByOpening c) i has = absurd has
+
+  cause_config : (place : ℕ) (n : ℕ) (cause : Cause) (i : Input) → HasCause hosts b place cause i → config_by w n cause ≡ (w.hosts n).now.config
+  cause_config place n (Cause.ByClient j) i has = refl
+  cause_config place n (Cause.ByInner j) i has = refl
+  cause_config place n (Cause.ByLetter j) i has = refl
+  cause_config place n (Cause.ByOpening c) i has = absurd has
+
+  -- the step is kept, or it isn't
+  cut_is : (n clock : ℕ) (i : Input) (kept : Bool) → cut w n clock (w.hosts n).now.config (Some i) kept ≡ push w n (cut_stage kept (w.hosts n).now clock i)
+  cut_is n clock i true = refl
+  cut_is n clock i false = refl
+
+  cut_letters : (n clock : ℕ) (c : Config) (o : Option Input) (kept : Bool) → (cut w n clock c o kept).letters ≡ w.letters
+  cut_letters n clock c None kept = refl
+  cut_letters n clock c (Some i) true = refl
+  cut_letters n clock c (Some i) false = refl
+
+  module _ (c : Crash) (is : IsMove hosts b (Move.Crashes c)) where
+    abbrev kept : Bool
+    kept = keeps_step c.stop.call c.stop.image
+
+    abbrev m : ℕ
+    m = number_at hosts c.place
+
+    -- the stage in which the step leaves the host, and that after it is opened
+    abbrev left : Stage
+    left = cut_stage kept (w.hosts m).now c.clock c.asked
+
+    abbrev opened : Stage
+    opened = step_stage (push w m left) m c.clock (config_at b c.place) input.Open
+
+    cut_here : happens w (Event.Cut m c.clock c.cause kept) ≡ push w m left
+    cut_here =
+        ap (λ x. cut w m c.clock x (input_by w m c.cause) kept) (cause_config c.place m c.cause c.asked is.2)
+        ∙ (ap (λ o. cut w m c.clock (w.hosts m).now.config o kept) (cause_input c.place is.0 c.cause c.asked is.2)
+        ∙ cut_is m c.clock c.asked kept)
+
+    opened_is : opened ≡ crashed_stage c.stop (stage_at b c.place) c.clock c.asked
+    opened_is =
+        let here : Stage = cut_stage kept (stage_at b c.place) c.clock c.asked in
+        ap (λ x. record { config = config_at b c.place; book = step_book (config_at b c.place) x.book c.clock input.Open }) (now_same w m left)
+        ∙ (ap (λ (x : Stage). record { config = config_at b c.place; book = step_book (config_at b c.place) (cut_stage kept x c.clock c.asked).book c.clock input.Open }) (sym (stage_here c.place is.0))
+        ∙ ap (λ x. record { config = x; book = step_book x here.book c.clock input.Open }) (sym (cut_config kept (stage_at b c.place) c.clock c.asked)))
+
+    crashed_stages : present hosts (run (events_of hosts s (Move.Crashes c)) w) ≡ stages_after hosts b (Move.Crashes c)
+    crashed_stages =
+        let x = host_at hosts c.place is.0 in
+        let at = pushed_at hosts (differ hosts lawful) in
+        ap (λ v. present hosts (happens v (Event.Reopen m c.clock (config_at b c.place)))) cut_here
+        ∙ (at (push w m left) c.place x.0 x.1 m (number c.place is.0) opened
+        ∙ (ap (λ xs. set xs c.place opened) (at w c.place x.0 x.1 m (number c.place is.0) left)
+        ∙ (set-set b.stages c.place left opened
+        ∙ ap (set b.stages c.place) opened_is)))
+
+    crashed_letters : (run (events_of hosts s (Move.Crashes c)) w).letters ≡ w.letters
+    crashed_letters = cut_letters m c.clock (config_by w m c.cause) (input_by w m c.cause) kept
+
+    cut_may : (cause : Cause) → HasCause hosts b c.place cause c.asked → MayAsk (config_at b c.place) cause → MayHappen w (Event.Cut m c.clock cause kept)
+    cut_may (Cause.ByClient i) has may = (is.1, bounds_here c.place is.0 i may)
+    cut_may (Cause.ByInner i) has may = (is.1, bounds_here c.place is.0 i may)
+    cut_may (Cause.ByLetter j) has may = is.1
+    cut_may (Cause.ByOpening d) has may = absurd has
+
+    crash_may : MayMove b (Move.Crashes c) → MayRun w (events_of hosts s (Move.Crashes c))
+    crash_may may =
+        let named = run_named (Event.Cut m c.clock c.cause kept ∷ []) w in
+        (cut_may c.cause is.2 may, ((is.1, subst (λ ns. Right ns m (config_at b c.place)) (sym named) (config_right c.place is.0)), tt))
+
   -- ---- every move
-  pub stages_moved : (move : Move) → IsMove hosts move → present hosts (run (events_of hosts s move) w) ≡ stages_after hosts b move
+  pub stages_moved : (move : Move) → IsMove hosts b move → present hosts (run (events_of hosts s move) w) ≡ stages_after hosts b move
   stages_moved Move.Rests is = refl
   stages_moved (Move.Asks place clock i) is = asked_stages place is.0 clock i is.2
   stages_moved (Move.Tries place clock i) is = tried_stages place is.0 clock i is.2
@@ -208,8 +309,10 @@ module _ (hosts : List ScriptHost) (lawful : AreLawfulHosts hosts) (s : Show) (r
   stages_moved (Move.Reopens place clock) is = reopened_stages place is.0 clock
   stages_moved (Move.Arrives n clock) is = delivered_stages clock (aged w.letters (n - 1)) (known (n - 1)) ∙ ap (arrived_at hosts b clock) (sym (aged_is w.letters (n - 1)))
   stages_moved (Move.Lost n) is = refl
+  stages_moved (Move.Arms place stop) is = refl
+  stages_moved (Move.Crashes c) is = crashed_stages c is
 
-  pub letters_moved : (move : Move) → IsMove hosts move → (run (events_of hosts s move) w).letters ≡ reverse (joining hosts b move) ++ w.letters
+  pub letters_moved : (move : Move) → IsMove hosts b move → (run (events_of hosts s move) w).letters ≡ reverse (joining hosts b move) ++ w.letters
   letters_moved Move.Rests is = refl
   letters_moved (Move.Asks place clock i) is = asked_letters place is.0 clock i is.2
   letters_moved (Move.Tries place clock i) is = tried_letters place is.0 clock i is.2
@@ -218,9 +321,11 @@ module _ (hosts : List ScriptHost) (lawful : AreLawfulHosts hosts) (s : Show) (r
   letters_moved (Move.Reopens place clock) is = refl
   letters_moved (Move.Arrives n clock) is = delivered_letters clock (aged w.letters (n - 1)) (known (n - 1)) ∙ ap (λ o. reverse (replies hosts b clock o) ++ w.letters) (sym (aged_is w.letters (n - 1)))
   letters_moved (Move.Lost n) is = refl
+  letters_moved (Move.Arms place stop) is = refl
+  letters_moved (Move.Crashes c) is = crashed_letters c is
 
   -- its events may happen
-  pub may_moved : (move : Move) → IsMove hosts move → MayMove b move → MayRun w (events_of hosts s move)
+  pub may_moved : (move : Move) → IsMove hosts b move → MayMove b move → MayRun w (events_of hosts s move)
   may_moved Move.Rests is may = tt
   may_moved (Move.Asks place clock i) is may = ((is.1, bounds_here place is.0 i may), tt)
   may_moved (Move.Tries place clock i) is may = ((is.1, bounds_here place is.0 i may), tt)
@@ -230,3 +335,50 @@ module _ (hosts : List ScriptHost) (lawful : AreLawfulHosts hosts) (s : Show) (r
   may_moved (Move.Reopens place clock) is may = ((is.1, config_right place is.0), tt)
   may_moved (Move.Arrives n clock) is may = (is, tt)
   may_moved (Move.Lost n) is may = (tt, tt)
+  may_moved (Move.Arms place stop) is may = tt
+  may_moved (Move.Crashes c) is may = crash_may c is may
+
+  -- ---- a move whose step may be to stop
+  asks_stopped : (place clock : ℕ) (i : Input) (cause : Cause) (landing : Option ℕ) (move : Move) → place < length hosts → clock ≤ greatest_moment → HasCause hosts b place cause i → IsMove hosts b move → (o : Option Stop)
+      → IsMove hosts b (unless_crash move (option_map (λ stop. record { place = place; clock = clock; cause = cause; asked = i; landing = landing; stop = stop }) o))
+  asks_stopped place clock i cause landing move within low has is None = is
+  asks_stopped place clock i cause landing move within low has is (Some stop) = (within, low, has)
+
+  arrives_stopped : (n clock : ℕ) → clock ≤ greatest_moment → (o : Option Letter) → message b n ≡ o → IsMove hosts b (unless_crash (Move.Arrives n clock) (crash_by hosts b n clock o))
+  arrives_stopped n clock low None e = low
+  arrives_stopped n clock low (Some l) e =
+      let ok = known (n - 1) l (sym (aged_is w.letters (n - 1)) ∙ e) in
+      asks_stopped (receiver hosts l) clock (brings l l.reply) (Cause.ByLetter (n - 1)) (Some n) (Move.Arrives n clock) (goes_known hosts l ok.0 ok.1 l.reply) low (l, e, refl, refl) low (stop_at b (receiver hosts l))
+
+  pub stopped_is : (move : Move) → IsMove hosts b move → IsMove hosts b (stopped hosts b move)
+  stopped_is Move.Rests is = is
+  stopped_is (Move.Asks place clock i) is = asks_stopped place clock i (Cause.ByClient i) None (Move.Asks place clock i) is.0 is.1 (refl, is.2) is (stop_at b place)
+  stopped_is (Move.Tries place clock i) is = asks_stopped place clock i (Cause.ByInner i) None (Move.Tries place clock i) is.0 is.1 (refl, is.2) is (stop_at b place)
+  stopped_is (Move.Turns place clock) is = asks_stopped place clock input.Turn (Cause.ByInner input.Turn) None (Move.Turns place clock) is.0 is.1 (refl, refl) is (stop_at b place)
+  stopped_is (Move.Retools place tools) is = is
+  stopped_is (Move.Reopens place clock) is = is
+  stopped_is (Move.Arrives n clock) is = arrives_stopped n clock is (message b n) refl
+  stopped_is (Move.Lost n) is = is
+  stopped_is (Move.Arms place stop) is = is
+  stopped_is (Move.Crashes c) is = is
+
+  may_stop : (place clock : ℕ) (i : Input) (cause : Cause) (landing : Option ℕ) (move : Move) → MayAsk (config_at b place) cause → MayMove b move → (o : Option Stop)
+      → MayMove b (unless_crash move (option_map (λ stop. record { place = place; clock = clock; cause = cause; asked = i; landing = landing; stop = stop }) o))
+  may_stop place clock i cause landing move asks may None = may
+  may_stop place clock i cause landing move asks may (Some stop) = asks
+
+  may_arrive : (n clock : ℕ) (o : Option Letter) → MayMove b (unless_crash (Move.Arrives n clock) (crash_by hosts b n clock o))
+  may_arrive n clock None = tt
+  may_arrive n clock (Some l) = may_stop (receiver hosts l) clock (brings l l.reply) (Cause.ByLetter (n - 1)) (Some n) (Move.Arrives n clock) tt tt (stop_at b (receiver hosts l))
+
+  pub stopped_may : (move : Move) → MayMove b move → MayMove b (stopped hosts b move)
+  stopped_may Move.Rests may = may
+  stopped_may (Move.Asks place clock i) may = may_stop place clock i (Cause.ByClient i) None (Move.Asks place clock i) may may (stop_at b place)
+  stopped_may (Move.Tries place clock i) may = may_stop place clock i (Cause.ByInner i) None (Move.Tries place clock i) may may (stop_at b place)
+  stopped_may (Move.Turns place clock) may = may_stop place clock input.Turn (Cause.ByInner input.Turn) None (Move.Turns place clock) tt tt (stop_at b place)
+  stopped_may (Move.Retools place tools) may = may
+  stopped_may (Move.Reopens place clock) may = may
+  stopped_may (Move.Arrives n clock) may = may_arrive n clock (message b n)
+  stopped_may (Move.Lost n) may = may
+  stopped_may (Move.Arms place stop) may = may
+  stopped_may (Move.Crashes c) may = may

@@ -11,6 +11,7 @@ use Rattle.ps_time.specs.Calendar.{date_of_day, month_after, year_after}
 use Rattle.ps_time.specs.Length.{amount_of, clock_at, count_at, days_at, length_of, length_text_of, seconds_at}
 use Rattle.ps_time.specs.Moment.{day_text_of, moment_text_of}
 use Rattle.ps_time.specs.Picture.{begins_as, fraction_at, leading_number}
+use Rattle.ps_disks.specs.declared.image.Image.TheVariants.{New, Old}
 use Rattle.ps_time.specs.declared.class.Class.TheVariants.{Exclusive}
 use Rattle.schedule_rule.specs.Rule.{first_from}
 use Rattle.limit_rule.specs.declared.limit.Rule.TheVariants.{PassFail}
@@ -71,6 +72,19 @@ accepting : report_of (script two accepted) ≡
     codes "10 heard\n11 changes 0 6=a>b:confirm\n12 200 7=b>a:reply\na 1007 1017 exclusive 0 on-deck 00010000-0001-8001-8000-000000000000\nb 1007 1017 exclusive 0 on-deck 00010000-0001-8001-8000-000000000000\n"
 unfolding is_utf8 chars encode digits uuid_on_literals serde_json_on_literals escape_byte length_of amount_of days_at count_at clock_at seconds_at leading_number begins_as fraction_at length_text_of first_from run_text task_text moment_data second_data
 accepting = refl
+
+-- a participant crashes as it accepts a run: before the run is kept, and behind that
+abbrev crashing : List ScriptLine
+crashing =
+    line.Host 0 ∷ line.Host 1 ∷ line.Post 1000 0 (codes "10.0.0.9") body ∷ line.Turn 1001 0 ∷ line.Deliver 1001 1 ∷ line.Deliver 1001 2 ∷ line.Turn 1002 0 ∷ line.Crash 1003 1 (record { call = 1; image = Old }) ∷ line.Deliver 1003 3 ∷
+    line.Turn 1004 0 ∷ line.Crash 1004 1 (record { call = 4; image = New }) ∷ line.Deliver 1004 4 ∷ line.Turn 1005 0 ∷ line.Deliver 1005 5 ∷ line.Deliver 1006 6 ∷ []
+
+crashed : report_of (script two crashing) ≡
+    codes "1 ok\n2 ok\n3 200 \"http://a/pscheduler/tasks/00010000-0001-8000-8000-000000000000\"\n4 changes 1 1=a>b:free\n5 200 2=b>a:reply\n6 heard\n7 changes 1 3=a>b:propose\n8 armed\n9 crashed\n" ++
+    codes "10 changes 0 4=a>b:propose\n11 armed\n12 crashed\n13 changes 0 5=a>b:propose\n14 200 6=b>a:reply\n15 heard\n" ++
+    codes "a 1007 1017 exclusive 0 on-deck 00010000-0001-8001-8000-000000000000\nb 1007 1017 exclusive 0 pending 00010000-0001-8001-8000-000000000000\n"
+unfolding is_utf8 chars encode digits uuid_on_literals serde_json_on_literals escape_byte length_of amount_of days_at count_at clock_at seconds_at leading_number begins_as fraction_at length_text_of first_from run_text task_text moment_data second_data
+crashed = refl
 
 -- a lost order goes out again while those to another participant and for another run are in flight
 abbrev three : List ScriptHost

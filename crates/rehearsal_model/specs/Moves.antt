@@ -1,5 +1,5 @@
 -- What each line of a script does in a world.
-use Rattle.std.specs.Prelude.{◌&&◌, ◌+◌, ◌==◌, ◌∷◌, ◌++◌, Bool, Err, List, None, Ok, Option, Result, Some, [], codes, false, filter, filter_map, if◌then◌else◌, length, not, option_and_then, option_map, slice_get, true, unwrap_or, ℕ}
+use Rattle.std.specs.Prelude.{◌&&◌, ◌+◌, ◌-◌, ◌==◌, ◌∷◌, ◌++◌, Bool, Err, List, None, Ok, Option, Result, Some, [], codes, false, filter, filter_map, if◌then◌else◌, length, not, option_and_then, option_map, slice_get, true, unwrap_or, ℕ}
 use Rattle.std.specs.List.{list_any, position_or_len}
 use Rattle.std.specs.Str.{bytes_eq}
 use Rattle.ps_time.specs.declared.key.RunKey.{RunKey}
@@ -17,14 +17,25 @@ use Rattle.host_model.specs.declared.order.Order.{Order}
 use Rattle.host_model.specs.declared.order.OrderBody.{OrderBody}
 use Rattle.host_model.specs.declared.order.OrderBody.TheVariants as order
 use Rattle.host_model.specs.declared.reply.Reply.{Reply}
-use Rattle.psched_world.specs.Events.{brings, goes_to}
+use Rattle.psched_world.specs.Events.{Cause, brings, goes_to}
 use Rattle.psched_world.specs.World.{Letter, Stage, number_of}
 use Rattle.psched_script.specs.Told.{moment_told}
 use Rattle.psched_script.specs.declared.script.ScriptHost.{ScriptHost}
 use Rattle.psched_script.specs.declared.script.ScriptLine.{ScriptLine}
 use Rattle.psched_script.specs.declared.script.ScriptLine.TheVariants as line
+use Rattle.psched_script.specs.declared.script.Stop.{Stop}
 use Rattle.rehearsal_model.specs.Requests.{delete, get, post}
-use Rattle.rehearsal_model.specs.Seen.{Seen, acted, book_at, config_at, has_arrived, is_flying, landed, message, reply_at, stage_at}
+use Rattle.rehearsal_model.specs.Seen.{Seen, acted, book_at, config_at, disarmed, has_arrived, is_flying, landed, message, reply_at, stage_at, stop_at}
+
+-- a step that stops: of the host at a place, at a clock, by what it came, and what it was asked
+pub record Crash : Type 0 where
+  pub place : ℕ
+  pub clock : ℕ
+  pub cause : Cause
+  pub asked : Input
+  -- the number of the message that brought it
+  pub landing : Option ℕ
+  pub stop : Stop
 
 -- a host is told by its place among the script's hosts, a message by its number
 pub data Move : Type 0 where
@@ -42,6 +53,10 @@ pub data Move : Type 0 where
   Reopens : (place clock : ℕ) → Move
   Arrives : (number clock : ℕ) → Move
   Lost : (number : ℕ) → Move
+  -- the next step of a host is to stop
+  Arms : (place : ℕ) (stop : Stop) → Move
+  -- a step stops, and its host is opened again
+  Crashes : (crash : Crash) → Move
 
 -- ---- requests
 -- one that is refused as it is read asks nothing
@@ -87,6 +102,7 @@ move_of b (line.Get at host path) = asking host at (get (config_at b host) path 
 move_of b (line.Delete at host address path) = asking host at (delete (config_at b host) address path at)
 move_of b (line.Turn at host) = Turns host at
 move_of b (line.Archive at host) = trying host at (attempt b host at)
+move_of b (line.Crash at host stop) = Arms host stop
 move_of b (line.Deliver at n) = if is_flying b n then Arrives n at else Rests
 move_of b (line.Repeat at n) = if has_arrived b n then Arrives n at else Rests
 move_of b (line.Lose n) = if is_flying b n then Lost n else Rests
@@ -161,10 +177,46 @@ joining hosts b (Turns place clock) = sent_at b place clock
 joining hosts b (Arrives n clock) = replies hosts b clock (message b n)
 joining hosts b _ = []
 
+-- ---- steps that stop
+-- the step of the host at the place, where it is to stop
+abbrev pub crash_in : Seen → ℕ → ℕ → Cause → Input → Option ℕ → Option Crash
+crash_in b place clock cause i landing = option_map (λ stop. record { place = place; clock = clock; cause = cause; asked = i; landing = landing; stop = stop }) (stop_at b place)
+
+abbrev pub crash_by : List ScriptHost → Seen → ℕ → ℕ → Option Letter → Option Crash
+crash_by hosts b n clock None = None
+crash_by hosts b n clock (Some l) = crash_in b (receiver hosts l) clock (Cause.ByLetter (n - 1)) (brings l l.reply) (Some n)
+
+-- the step of a move, where it is to stop
+abbrev pub crash_of : List ScriptHost → Seen → Move → Option Crash
+crash_of hosts b (Asks place clock i) = crash_in b place clock (Cause.ByClient i) i None
+crash_of hosts b (Tries place clock i) = crash_in b place clock (Cause.ByInner i) i None
+crash_of hosts b (Turns place clock) = crash_in b place clock (Cause.ByInner input.Turn) input.Turn None
+crash_of hosts b (Arrives n clock) = crash_by hosts b n clock (message b n)
+crash_of hosts b _ = None
+
+abbrev pub unless_crash : Move → Option Crash → Move
+unless_crash move None = move
+unless_crash move (Some c) = Crashes c
+
+-- the move, unless its step is to stop
+abbrev pub stopped : List ScriptHost → Seen → Move → Move
+stopped hosts b move = unless_crash move (crash_of hosts b move)
+
+-- what is to stop afterwards
+abbrev pub stops_after : Seen → Move → List (ℕ × Stop)
+stops_after b (Arms place stop) = disarmed place b.stops ++ (place, stop) ∷ []
+stops_after b (Crashes c) = disarmed c.place b.stops
+stops_after b _ = b.stops
+
 -- ---- what is in flight afterwards
+abbrev pub landed_with : Option ℕ → List ℕ → List ℕ
+landed_with None flying = flying
+landed_with (Some n) flying = landed n flying
+
 abbrev pub still_flying : Seen → Move → List ℕ
 still_flying b (Arrives n clock) = landed n b.flying
 still_flying b (Lost n) = landed n b.flying
+still_flying b (Crashes c) = landed_with c.landing b.flying
 still_flying b _ = b.flying
 
 abbrev pub flying_after : List ScriptHost → Seen → Move → List ℕ

@@ -3,7 +3,7 @@ use Rattle.std.specs.Prelude.{◌<◌, ◌≡◌, ◌≤◌, All, IsTrue, List, 
 use Rattle.ps_time.specs.Numbers.{greatest_moment}
 use Rattle.host_model.specs.Conditions.{IsInput}
 use Rattle.host_model.specs.declared.config.Config.{Config}
-use Rattle.psched_world.specs.Events.{Event, MayRun, run}
+use Rattle.psched_world.specs.Events.{Cause, Event, MayRun, run}
 use Rattle.psched_world.specs.World.{start}
 use Rattle.psched_script.specs.declared.script.ScriptHost.{ScriptHost}
 use Rattle.rehearsal_model.specs.Hosts.{config_numbered, first_config, name_numbered}
@@ -30,8 +30,14 @@ pub record Reaches (hosts : List ScriptHost) (s : Show) : Type 0 where
   pub flying : All (λ n. IsTrue (is_sent (seen hosts s) n)) s.flying
   pub last : s.last ≤ greatest_moment
 
--- the host at the place may be given what it is asked
+-- a host with this configuration may be given what it is asked
+abbrev pub MayAsk : Config → Cause → Type 0
+MayAsk c (Cause.ByClient i) = IsInput c i
+MayAsk c (Cause.ByInner i) = IsInput c i
+MayAsk c _ = Unit {0}
+
 abbrev pub MayMove : Seen → Move → Type 0
 MayMove b (Move.Asks place clock i) = IsInput (config_at b place) i
 MayMove b (Move.Tries place clock i) = IsInput (config_at b place) i
+MayMove b (Move.Crashes c) = MayAsk (config_at b c.place) c.cause
 MayMove b _ = Unit {0}

@@ -4,6 +4,7 @@ use Rattle.std.specs.Fmt.{decimal}
 use Rattle.run_states.specs.Life.{settled_rows}
 use Rattle.ps_http.specs.declared.message.Response.{Response}
 use Rattle.api_reply.specs.Replies.{reply_status, response_of}
+use Rattle.machine_keep.specs.Crash.{keeps_step}
 use Rattle.host_model.specs.Orders.{orders}
 use Rattle.host_model.specs.declared.config.Config.{Config}
 use Rattle.host_model.specs.declared.input.Input.{Input}
@@ -18,10 +19,11 @@ use Rattle.psched_script.specs.declared.script.Script.{Script}
 use Rattle.psched_script.specs.declared.script.ScriptHost.{ScriptHost}
 use Rattle.psched_script.specs.declared.script.ScriptLine.{ScriptLine}
 use Rattle.psched_script.specs.declared.script.ScriptLine.TheVariants as line
+use Rattle.psched_script.specs.declared.script.Stop.{Stop}
 use Rattle.report_text.specs.Line.{archive_text, booking_text, changes_text, limits_text, line_text, order_kind, response_text, sent_text}
 use Rattle.report_text.specs.Table.{table_text}
 use Rattle.rehearsal_model.specs.Hosts.{config_numbered, first_config, name_numbered}
-use Rattle.rehearsal_model.specs.Moves.{Move, attempt, flying_after, is_untold, moment_of_line, move_of, reply_to, replied, sent_at, tried_as, archived}
+use Rattle.rehearsal_model.specs.Moves.{Crash, Move, attempt, crash_of, flying_after, is_untold, moment_of_line, move_of, reply_to, replied, sent_at, stopped, stops_after, tried_as, archived}
 use Rattle.rehearsal_model.specs.Requests.{delete, get, post}
 use Rattle.rehearsal_model.specs.Seen.{Seen, acted, config_at, has_arrived, is_flying, message, reply_at, stage_at}
 
@@ -33,10 +35,12 @@ pub record Show : Type 0 where
   pub flying : List ℕ
   -- the greatest moment of the moves so far; 0 at first
   pub last : ℕ
+  -- the places of the hosts whose next step is to stop, and where it is to
+  pub stops : List (ℕ × Stop)
 
 -- what a script sees of it
 abbrev pub seen : List ScriptHost → Show → Seen
-seen hosts s = record { stages = map (λ h. (s.world.hosts h.number).now) hosts; letters = reverse s.world.letters; flying = s.flying; last = s.last }
+seen hosts s = record { stages = map (λ h. (s.world.hosts h.number).now) hosts; letters = reverse s.world.letters; flying = s.flying; last = s.last; stops = s.stops }
 
 -- all hosts of the script are opened at moment 0, before its first line
 abbrev pub openings : List ScriptHost → List Event
@@ -46,7 +50,7 @@ abbrev pub first_world : List ScriptHost → World
 first_world hosts = run (openings hosts) (start (name_numbered hosts) (config_numbered hosts))
 
 abbrev pub first_show : List ScriptHost → Show
-first_show hosts = record { world = first_world hosts; flying = []; last = 0 }
+first_show hosts = record { world = first_world hosts; flying = []; last = 0; stops = [] }
 
 -- ---- the events of a move
 abbrev pub number_at : List ScriptHost → ℕ → ℕ
@@ -79,14 +83,17 @@ events_of hosts s (Move.Retools place tools) = Event.Reconfigure (number_at host
 events_of hosts s (Move.Reopens place clock) = Event.Reopen (number_at hosts place) clock (config_at (seen hosts s) place) ∷ []
 events_of hosts s (Move.Arrives n clock) = Event.Deliver (n - 1) clock ∷ []
 events_of hosts s (Move.Lost n) = Event.Lose (n - 1) ∷ []
+events_of hosts s (Move.Arms place stop) = []
+events_of hosts s (Move.Crashes c) =
+    Event.Cut (number_at hosts c.place) c.clock c.cause (keeps_step c.stop.call c.stop.image) ∷ Event.Reopen (number_at hosts c.place) c.clock (config_at (seen hosts s) c.place) ∷ []
 
 -- a move at a moment
 abbrev pub moved : List ScriptHost → Show → ℕ → Move → Show
-moved hosts s m move = record { world = run (events_of hosts s move) s.world; flying = flying_after hosts (seen hosts s) move; last = max s.last m }
+moved hosts s m move = record { world = run (events_of hosts s move) s.world; flying = flying_after hosts (seen hosts s) move; last = max s.last m; stops = stops_after (seen hosts s) move }
 
 -- ---- lines
 abbrev pub after : List ScriptHost → Show → ScriptLine → Show
-after hosts s l = moved hosts s (moment_of_line l) (move_of (seen hosts s) l)
+after hosts s l = moved hosts s (moment_of_line l) (stopped hosts (seen hosts s) (move_of (seen hosts s) l))
 
 abbrev pub after_all : List ScriptHost → Show → List Numbered → Show
 after_all hosts s [] = s
@@ -129,19 +136,28 @@ abbrev pub attempt_told : Seen → ℕ → ℕ → Option Due → List ℕ
 attempt_told b place clock None = codes "nothing due"
 attempt_told b place clock (Some d) = archive_text (reply_at b place clock (tried_as d (archived d.archiver d.settings d.tried)))
 
+-- where its step doesn't stop
+abbrev pub plainly_told : List ScriptHost → Seen → ScriptLine → List ℕ
+plainly_told hosts b (line.Host place) = codes "ok"
+plainly_told hosts b (line.Tools host tools) = codes "ok"
+plainly_told hosts b (line.Limits host limits) = limits_text (reply_at b host b.last (input.Limits limits))
+plainly_told hosts b (line.Book at host class priority start len) = booking_text (reply_at b host at (input.Book class priority start len))
+plainly_told hosts b (line.Post at host address body) = response_text (response_at b host at (post (config_at b host) address body at))
+plainly_told hosts b (line.Get at host path) = response_text (response_at b host at (get (config_at b host) path at))
+plainly_told hosts b (line.Delete at host address path) = response_text (response_at b host at (delete (config_at b host) address path at))
+plainly_told hosts b (line.Turn at host) = turn_told hosts b host at
+plainly_told hosts b (line.Archive at host) = attempt_told b host at (attempt b host at)
+plainly_told hosts b (line.Crash at host stop) = codes "armed"
+plainly_told hosts b (line.Deliver at n) = if is_flying b n then arrival_told hosts b at (message b n) else codes "not in flight"
+plainly_told hosts b (line.Repeat at n) = if has_arrived b n then arrival_told hosts b at (message b n) else codes "not in flight"
+plainly_told hosts b (line.Lose n) = if is_flying b n then codes "lost" else codes "not in flight"
+
+abbrev pub told_unless : Option Crash → List ℕ → List ℕ
+told_unless None said = said
+told_unless (Some c) said = codes "crashed"
+
 abbrev pub told : List ScriptHost → Seen → ScriptLine → List ℕ
-told hosts b (line.Host place) = codes "ok"
-told hosts b (line.Tools host tools) = codes "ok"
-told hosts b (line.Limits host limits) = limits_text (reply_at b host b.last (input.Limits limits))
-told hosts b (line.Book at host class priority start len) = booking_text (reply_at b host at (input.Book class priority start len))
-told hosts b (line.Post at host address body) = response_text (response_at b host at (post (config_at b host) address body at))
-told hosts b (line.Get at host path) = response_text (response_at b host at (get (config_at b host) path at))
-told hosts b (line.Delete at host address path) = response_text (response_at b host at (delete (config_at b host) address path at))
-told hosts b (line.Turn at host) = turn_told hosts b host at
-told hosts b (line.Archive at host) = attempt_told b host at (attempt b host at)
-told hosts b (line.Deliver at n) = if is_flying b n then arrival_told hosts b at (message b n) else codes "not in flight"
-told hosts b (line.Repeat at n) = if has_arrived b n then arrival_told hosts b at (message b n) else codes "not in flight"
-told hosts b (line.Lose n) = if is_flying b n then codes "lost" else codes "not in flight"
+told hosts b l = told_unless (crash_of hosts b (move_of b l)) (plainly_told hosts b l)
 
 -- ---- the report
 -- the lines that are left, each told over what those before it left

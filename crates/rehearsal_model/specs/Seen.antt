@@ -1,5 +1,5 @@
 -- What is seen of a world by a script: the present stage of each of its hosts, the messages, and which of these are in flight.
-use Rattle.std.specs.Prelude.{◌-◌, ◌==◌, ◌&&◌, List, [], Bool, Option, filter, length, nat_le, not, slice_get, slice_index_or, ℕ}
+use Rattle.std.specs.Prelude.{◌-◌, ◌==◌, ◌&&◌, List, [], Bool, Option, filter, find, length, nat_le, not, option_map, slice_get, slice_index_or, ℕ}
 use Rattle.std.specs.List.{list_any}
 use Rattle.host_model.specs.Book.{Book, empty_book}
 use Rattle.host_model.specs.Step.{step_book, step_reply}
@@ -7,6 +7,7 @@ use Rattle.host_model.specs.declared.config.Config.{Config}
 use Rattle.host_model.specs.declared.input.Input.{Input}
 use Rattle.host_model.specs.declared.reply.Reply.{Reply}
 use Rattle.psched_world.specs.World.{Letter, Stage}
+use Rattle.psched_script.specs.declared.script.Stop.{Stop}
 use Rattle.rehearsal_model.specs.Hosts.{opened_host, stranger}
 
 pub record Seen : Type 0 where
@@ -18,6 +19,8 @@ pub record Seen : Type 0 where
   pub flying : List ℕ
   -- the greatest moment of the moves so far; 0 at first
   pub last : ℕ
+  -- the places of the hosts whose next step is to stop, and where it is to
+  pub stops : List (ℕ × Stop)
 
 -- a place without a host is read as one that never acts
 abbrev pub nobody : Stage
@@ -56,3 +59,15 @@ has_arrived b n = is_sent b n && not (is_flying b n)
 
 abbrev pub landed : ℕ → List ℕ → List ℕ
 landed n flying = filter (λ f. not (f == n)) flying
+
+-- ---- steps that are to stop
+-- where the next step of the host at the place is to stop
+abbrev pub stop_in : ℕ → List (ℕ × Stop) → Option Stop
+stop_in place stops = option_map (λ s. s.1) (find (λ s. s.0 == place) stops)
+
+abbrev pub stop_at : Seen → ℕ → Option Stop
+stop_at b place = stop_in place b.stops
+
+-- it is to stop no longer
+abbrev pub disarmed : ℕ → List (ℕ × Stop) → List (ℕ × Stop)
+disarmed place stops = filter (λ s. not (s.0 == place)) stops

@@ -1,1 +1,3 @@
 pub mod MoveLemmas
+mod RehearsalLemmas
+mod SeatLemmas

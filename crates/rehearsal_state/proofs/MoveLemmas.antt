@@ -10,10 +10,11 @@ use Rattle.host_model.specs.declared.reply.Reply.{Reply}
 use Rattle.psched_world.specs.Events.{brings}
 use Rattle.psched_world.specs.World.{Letter}
 use Rattle.psched_script.specs.declared.script.ScriptHost.{ScriptHost}
+use Rattle.psched_script.specs.declared.script.Stop.{Stop}
 use Rattle.rehearsal_model.specs.After.{arrived_at}
-use Rattle.rehearsal_model.specs.Moves.{Move.Arrives, Move.Asks, Move.Lost, Move.Rests, Move.Retools, Move.Tries, Move.Turns, is_untold, letter_of, numbers_from, receiver, replied, replies, reply_to, sent_by}
+use Rattle.rehearsal_model.specs.Moves.{Crash, Move.Arms, Move.Arrives, Move.Asks, Move.Crashes, Move.Lost, Move.Rests, Move.Retools, Move.Tries, Move.Turns, is_untold, landed_with as flying_with, letter_of, numbers_from, receiver, replied, replies, reply_to, sent_by}
 use Rattle.rehearsal_model.specs.Seen.{Seen, acted, landed, message, nobody, stage_at}
-use Rattle.rehearsal_state.specs.Moved.{sent_of, with_letters, with_move, with_step, with_tools}
+use Rattle.rehearsal_state.specs.Moved.{sent_of, with_crash, with_letters, with_move, with_step, with_stop, with_tools}
 
 -- ---- letters
 abbrev made : Seen → List Letter → List ℕ → Seen
@@ -47,6 +48,13 @@ retooled hosts b place tools = sym (letters_none (with_tools b place tools))
 
 pub lost : (hosts : List ScriptHost) (b : Seen) (n : ℕ) → record b { flying = landed n b.flying } ≡ with_move hosts b (Lost n)
 lost hosts b n = sym (letters_none (record b { flying = landed n b.flying }))
+
+pub armed : (hosts : List ScriptHost) (b : Seen) (place : ℕ) (stop : Stop) → with_stop b place stop ≡ with_move hosts b (Arms place stop)
+armed hosts b place stop = sym (letters_none (with_stop b place stop))
+
+-- a step stops, once the message that brings it has landed
+pub crashed : (hosts : List ScriptHost) (b : Seen) (c : Crash) → with_crash (record b { flying = flying_with c.landing b.flying }) c.place c.clock c.asked c.stop ≡ with_move hosts b (Crashes c)
+crashed hosts b c = sym (letters_none (with_crash (record b { flying = flying_with c.landing b.flying }) c.place c.clock c.asked c.stop))
 
 -- ---- a turn
 pub stage_stepped : (b : Seen) (place clock : ℕ) (i : Input) → place < length b.stages → stage_at (with_step b place clock i) place ≡ acted (stage_at b place) clock i

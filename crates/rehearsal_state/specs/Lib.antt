@@ -1,2 +1,3 @@
-pub mod Ready
+pub mod Kept
 pub mod Moved
+pub mod Ready

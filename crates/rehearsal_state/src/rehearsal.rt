@@ -1,10 +1,13 @@
 //! How far a rehearsal has come: its hosts, and the messages between them.
 ghost use Rattle.std.specs.List.{list_any};
-ghost use Rattle.std.specs.Prelude.{◌∷◌, ◌==◌, ◌≡◌, ◌<◌, [], IfOk, OnOk, Some, length, max, true};
-ghost use Rattle.host_model.specs.Conditions.{IsInput};
+ghost use Rattle.std.specs.Prelude.{◌∷◌, ◌==◌, ◌≡◌, ◌≤◌, ◌<◌, [], IfOk, OnOk, Some, false, length, max, set, slice_index_or, true};
+ghost use Rattle.ps_time.specs.declared.moment.TheConstants.{MAX_MOMENT};
+ghost use Rattle.host_model.specs.Conditions.{IsConfig, IsInput};
 ghost use Rattle.host_model.specs.declared.input.Input.TheVariants.{Open};
-ghost use Rattle.rehearsal_model.specs.Seen.{config_at, has_arrived, is_flying, is_sent, landed, message, reply_at, stage_at};
-ghost use Rattle.rehearsal_state.specs.Moved.{with_letters, with_step, with_tools};
+ghost use Rattle.rehearsal_model.specs.After.{crashed_stage};
+ghost use Rattle.rehearsal_model.specs.Rehearsal.{retooled};
+ghost use Rattle.rehearsal_model.specs.Seen.{config_at, disarmed, has_arrived, is_flying, is_sent, landed, message, nobody, reply_at, stage_at, stop_at, stop_in};
+ghost use Rattle.rehearsal_state.specs.Moved.{with_crash, with_letters, with_step, with_stop, with_tools};
 ghost use Rattle.rehearsal_state.specs.Ready.{IsReady};
 
 use crate::message::Message;
@@ -15,6 +18,7 @@ use ps_time::items::Items;
 use ps_time::memory::Memory;
 use ps_time::moment::Moment;
 use ps_time::text::Text;
+use psched_script::script::Stop;
 use std::alloc::Global;
 use std::marker::Model;
 
@@ -27,6 +31,8 @@ pub struct Rehearsal {
     flying: Vec<u64>,
     // the greatest moment of the moves so far
     last: Moment,
+    // the places of the hosts whose next step is to stop, and where it is to
+    stops: Vec<(usize, Stop)>,
 }
 
 impl Model for Rehearsal {
@@ -34,7 +40,7 @@ impl Model for Rehearsal {
 
     ghost Value = { Seen };
 
-    ghost view = { λ r. record { stages = r.seats.items; letters = r.messages.items; flying = r.flying.items; last = r.last } };
+    ghost view = { λ r. record { stages = r.seats.items; letters = r.messages.items; flying = r.flying.items; last = r.last; stops = r.stops.items } };
 }
 
 // Written out, so that a drop elsewhere is one call.
@@ -45,6 +51,7 @@ impl Drop for Rehearsal {
             messages: _,
             flying: _,
             last: _,
+            stops: _,
         } = self;
     }
 }
@@ -52,13 +59,14 @@ impl Drop for Rehearsal {
 impl Rehearsal {
     /// These hosts, before the first move.
     pub fn new(alloc: Global, seats: Vec<Seat>) -> Rehearsal
-        ensures { result ≡ record { stages = seats.items; letters = []; flying = []; last = 0 } }
+        ensures { result ≡ record { stages = seats.items; letters = []; flying = []; last = 0; stops = [] } }
     {
         Rehearsal {
             seats,
             messages: Vec::new(alloc),
             flying: Vec::new(alloc),
             last: 0,
+            stops: Vec::new(alloc),
         }
     }
 
@@ -66,6 +74,19 @@ impl Rehearsal {
         ensures { result.now ≡ self.now.stages }
     {
         self.seats.as_slice()
+    }
+
+    pub fn into_seats(self) -> Vec<Seat>
+        ensures { result.items ≡ self.stages }
+    {
+        let Rehearsal {
+            seats,
+            messages: _,
+            flying: _,
+            last: _,
+            stops: _,
+        } = self;
+        seats
     }
 
     pub fn messages(&self) -> &[Message]
@@ -119,8 +140,8 @@ impl Rehearsal {
         seat.act(alloc, clock, input)
     }
 
-    /// Opens the host at a place again, at a clock in seconds since 1970 UTC, as after a crash. It has its book, and ends what it
-    /// was running.
+    /// Opens the host at a place again, at a clock in seconds since 1970 UTC, as after a crash between its steps. It has its book,
+    /// and ends what it was running.
     pub fn reopen(&mut self, alloc: Global, place: usize, clock: Moment) -> Result<(), Memory>
         requires { IsReady self.old place clock }
         ensures { OnOk result (self.new ≡ with_step self.old place clock Open) }
@@ -131,12 +152,58 @@ impl Rehearsal {
     }
 
     /// Gives the host at a place other tools.
-    pub fn retool(&mut self, place: usize, tools: Items<Text>)
-        requires { place < length self.old.stages }
-        ensures { self.new ≡ with_tools self.old place tools }
+    pub fn retool(&mut self, alloc: Global, place: usize, tools: Items<Text>) -> Result<(), Memory>
+        requires place { place < length self.old.stages }
+        requires config { IsConfig (retooled tools (config_at self.old place)) }
+        ensures { OnOk result (self.new ≡ with_tools self.old place tools) }
     {
         let seat = &mut self.seats[place];
-        seat.retool(tools);
+        seat.retool(alloc, tools)
+    }
+
+    /// Whether the next step of a host is to stop.
+    pub fn has_stops(&self) -> bool
+        ensures { result ≡ false → self.now.stops ≡ [] }
+    {
+        match self.stops.as_slice() {
+            [] => false,
+            _ => true,
+        }
+    }
+
+    /// Where the next step of the host at a place is to stop, if it is to.
+    pub fn stop(&self, place: usize) -> Option<Stop>
+        ensures { result ≡ stop_at self.now place }
+    {
+        stop_of(self.stops.as_slice(), place)
+    }
+
+    /// The next step of the host at a place is to stop.
+    pub fn arm(&mut self, place: usize, stop: Stop) -> Result<(), Memory>
+        ensures { OnOk result (self.new ≡ with_stop self.old place stop) }
+    {
+        disarm(&mut self.stops, place);
+        self.stops.push((place, stop))?;
+        Ok(())
+    }
+
+    /// This step of the host at a place stops, and the host is opened again on what that leaves of its disks, at the same clock in
+    /// seconds since 1970 UTC.
+    pub fn crash(
+        &mut self,
+        alloc: Global,
+        place: usize,
+        clock: Moment,
+        input: Input,
+        stop: Stop,
+    ) -> Result<(), Memory>
+        requires ready { IsReady self.old place clock }
+        requires input { IsInput (config_at self.old place) input }
+        ensures { OnOk result (self.new ≡ with_crash self.old place clock input stop) }
+    {
+        crash_at(alloc, &mut self.seats, place, clock, input, stop)?;
+        disarm(&mut self.stops, place);
+        Ok(())
     }
 
     pub fn is_flying(&self, number: u64) -> bool
@@ -186,6 +253,44 @@ impl Rehearsal {
         }
         Ok(())
     }
+}
+
+// The host at the place crashes.
+fn crash_at(
+    alloc: Global,
+    seats: &mut Vec<Seat>,
+    place: usize,
+    clock: Moment,
+    input: Input,
+    stop: Stop,
+) -> Result<(), Memory>
+    requires place { place < length seats.old.items }
+    requires config { IsConfig (slice_index_or seats.old.items place nobody).config }
+    requires clock { clock ≤ MAX_MOMENT }
+    requires input { IsInput (slice_index_or seats.old.items place nobody).config input }
+    ensures { OnOk result (seats.new.items ≡ set seats.old.items place (crashed_stage stop (slice_index_or seats.old.items place nobody) clock input)) }
+{
+    let seat = seats.remove(place);
+    let seat = seat.crash(alloc, clock, input, stop)?;
+    seats.insert(place, seat)?;
+    Ok(())
+}
+
+fn stop_of(stops: &[(usize, Stop)], place: usize) -> Option<Stop>
+    ensures { result ≡ stop_in place stops.now }
+{
+    for armed in stops {
+        if armed.0 == place {
+            return Some(armed.1);
+        }
+    }
+    None
+}
+
+fn disarm(stops: &mut Vec<(usize, Stop)>, place: usize)
+    ensures { stops.new.items ≡ disarmed place stops.old.items }
+{
+    stops.retain(|armed| armed.0 != place);
 }
 
 fn is_among(numbers: &[u64], number: u64) -> bool
