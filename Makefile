@@ -3,9 +3,10 @@
 # make build                        leaves psched at build/psched, proved: what the gate built, where no source is newer
 # make examples                     runs examples/ on build/psched
 # make test                         the gate: every proof and test, then the examples
+# make edits                        tries the edits that must fail and that the gate leaves out
 # make gate-cost                    the gate, and the processor seconds that each crate takes in it
 # make bench                        times build/psched, the opening of journals, requests, steps of a host, kept hosts, and reports on stored results
-.PHONY: rehearse validate-limits build examples test gate-cost bench
+.PHONY: rehearse validate-limits build examples test edits gate-cost bench
 
 PROVED := crates/psched_cli/out/psched_cli
 SOURCES := crates.txt $(shell find crates -type f \( -path '*/src/*' -o -path '*/specs/*' -o -path '*/proofs/*' \) -not -path '*_tests/*' -not -path '*/out/*')
@@ -32,6 +33,9 @@ examples: build
 
 test:
 	.ci/run
+
+edits:
+	@bin/edits
 
 gate-cost:
 	@bin/gate-cost
