@@ -42,6 +42,7 @@ gate-cost:
 
 bench: build
 	python3 bench/run.py build/psched
+	python3 bench/tasks.py build/psched
 	python3 bench/limits.py build/psched
 	-cd crates/host_journal_bench && rt run
 	python3 bench/journal.py crates/host_journal_bench/out/host_journal_bench
