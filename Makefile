@@ -54,5 +54,5 @@ bench: build
 	python3 bench/host.py crates/host_step_bench/out/host_step_bench
 	-cd crates/host_keep_bench && rt run -- book 64 3
 	python3 bench/keep.py crates/host_keep_bench/out/host_keep_bench crates/host_step_bench/out/host_step_bench
-	-cd crates/result_keeper_bench && rt run -- out/store 4
+	-cd crates/result_keeper_bench && rt run < /dev/null
 	python3 bench/keeper.py crates/result_keeper_bench/out/result_keeper_bench

@@ -84,11 +84,22 @@ def walked(path: pathlib.Path) -> str:
     return "".join(lines) + line("total", total)
 
 
-def run(program: str, path: pathlib.Path, count: int, status: int = 0) -> str:
-    done = subprocess.run([program, str(path), str(count)], capture_output=True, text=True)
-    if done.returncode != status:
-        sys.exit(f"{path} {count}: status {done.returncode}")
+def run(program: str, *lines: str) -> str:
+    done = subprocess.run([program], input="".join(f"{line}\n" for line in lines), capture_output=True, text=True)
+    if done.returncode != 0:
+        sys.exit(f"{lines}: status {done.returncode}")
     return done.stdout
+
+
+def filled(program: str, path: pathlib.Path, count: int) -> str:
+    """So many made results are put in the file, which is opened again and reported."""
+    return run(program, f"file {path}", f"fill {count}", f"file {path}", "report")
+
+
+def refused(program: str, path: pathlib.Path, why: str) -> None:
+    told = run(program, f"file {path}", "fill 1", "report")
+    if told != f"refused: {why}\n":
+        sys.exit(f"{path}: {told!r}, and {why} is wanted")
 
 
 def least(call) -> tuple[float, str]:
@@ -103,8 +114,8 @@ def least(call) -> tuple[float, str]:
 
 def read_back(program: str, folder: str) -> None:
     path, count = pathlib.Path(folder, "written"), 200
-    told = run(program, path, count)
-    if run(program, path, count) != told:
+    told = filled(program, path, count)
+    if filled(program, path, count) != told:
         sys.exit("a second run of the same results tells another report")
     store = sqlite3.connect(path)
     columns = [(c[1], c[2], c[3], c[5]) for c in store.execute("PRAGMA table_info(result)")]
@@ -150,19 +161,19 @@ def refuse_bad(program: str, folder: str) -> None:
         store.executescript(script)
         store.close()
         before = rows_in(path)
-        run(program, path, 0, status=3 if name == "other" else 4)
+        refused(program, path, "other tables" if name == "other" else "no record")
         if len(before) != 1 or rows_in(path) != before:
             sys.exit(f"{name}: other rows")
     text = pathlib.Path(folder, "text")
     text.write_bytes(b"This is no database.\n" * 100)
-    run(program, text, 1, status=1)
+    refused(program, text, "failed")
     if text.read_bytes() != b"This is no database.\n" * 100:
         sys.exit("the text was changed")
     locked = pathlib.Path(folder, "written")
     before = rows_in(locked)
     store = sqlite3.connect(locked, isolation_level=None)
     store.execute("BEGIN EXCLUSIVE")
-    run(program, locked, 1, status=1)
+    refused(program, locked, "failed")
     store.execute("ROLLBACK")
     store.close()
     if rows_in(locked) != before:
@@ -180,7 +191,7 @@ def main() -> None:
         path = pathlib.Path(folder, "store")
         write_store(path)
         plain, wanted = least(lambda: walked(path))
-        seconds, told = least(lambda: run(program, path, 0))
+        seconds, told = least(lambda: run(program, f"file {path}", "report"))
         if told != wanted:
             sys.exit("another report")
     print(f"{RECORDS} records: {seconds:.3f} s, plain {plain:.3f} s, ratio {seconds / plain:.1f}")
