@@ -50,9 +50,8 @@ bench: build
 	python3 bench/timeline.py crates/host_timeline_bench/out/host_timeline_bench
 	-cd crates/api_bench && rt run -- run 10
 	python3 bench/interface.py crates/api_bench/out/api_bench
-	-cd crates/host_step_bench && rt run -- starts 64 3
-	python3 bench/host.py crates/host_step_bench/out/host_step_bench
-	-cd crates/host_keep_bench && rt run -- book 64 3
-	python3 bench/keep.py crates/host_keep_bench/out/host_keep_bench crates/host_step_bench/out/host_step_bench
+	python3 bench/host.py build/psched
+	-cd crates/host_trials && rt run < /dev/null
+	python3 bench/keep.py crates/host_trials/out/host_trials
 	-cd crates/result_keeper_bench && rt run < /dev/null
 	python3 bench/keeper.py crates/result_keeper_bench/out/result_keeper_bench

@@ -1,4 +1,0 @@
-use Rattle.host_stops.proofs.inputs.a_run.Goals as goal
-
-pub returns : goal.returns
-returns c = record { bounds = c.a_booking.ensures.bounds c.args.config.now }

@@ -1,4 +1,0 @@
-use Rattle.host_stops.proofs.stops.book_after_next.Goals as goal
-
-pub act-requires-clause-bounds : goal.act-requires-clause-bounds
-act-requires-clause-bounds c = c.a_booking.ensures.bounds c.args.host
