@@ -86,18 +86,19 @@ fn a_small_number(text: &str) -> Result<u16, TableFault> {
     }
 }
 
-fn parts_of(text: &str) -> Option<(&str, &str, &str, &str)> {
-    let (lead, rest) = text.split_once('.')?;
-    let (task, rest) = rest.split_once('.')?;
-    let (number, attempt) = rest.split_once('.')?;
-    Some((lead, task, number, attempt))
+// What stands before the first point and behind it.
+fn cut_at_point(text: &str) -> (&str, &str) {
+    match text.split_once('.') {
+        Some(both) => both,
+        None => (text, ""),
+    }
 }
 
 /// A key as its lead, task, number and attempt with points between.
 pub(crate) fn a_key(text: &str) -> Result<RunKey, TableFault> {
-    let Some((lead, task, number, attempt)) = parts_of(text) else {
-        return Err(TableFault::Line);
-    };
+    let (lead, rest) = cut_at_point(text);
+    let (task, rest) = cut_at_point(rest);
+    let (number, attempt) = cut_at_point(rest);
     Ok(RunKey {
         lead: a_small_number(lead)?,
         task: a_number(task)?,
