@@ -1,5 +1,5 @@
-use Rattle.host_journal_keeper_tests.proofs.RunLemmas.{after_record, after_both, made_since}
-use Rattle.host_journal_keeper_tests.proofs.run_tests.turn.Goals as goal
+use Rattle.machine_keep_tests.proofs.RunLemmas.{after_record, after_both, made_since}
+use Rattle.machine_keep_tests.proofs.run_tests.turn.Goals as goal
 
 pub returns-in_err-append : goal.returns-in_err-append
 returns-in_err-append g c = record {

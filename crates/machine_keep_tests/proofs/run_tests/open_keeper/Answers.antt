@@ -1,7 +1,7 @@
 use Rattle.std.proofs.Common.{refl}
 use Rattle.host_journal.specs.Pair.{pair_of}
-use Rattle.host_journal_keeper_tests.proofs.RunLemmas.{opened_any, opened_fixed}
-use Rattle.host_journal_keeper_tests.proofs.run_tests.open_keeper.Goals as goal
+use Rattle.machine_keep_tests.proofs.RunLemmas.{opened_any, opened_fixed}
+use Rattle.machine_keep_tests.proofs.run_tests.open_keeper.Goals as goal
 
 pub returns-in-Ok-clause-any_moment : goal.returns-in-Ok-clause-any_moment
 returns-in-Ok-clause-any_moment g c p =

@@ -5,12 +5,14 @@ ghost use Rattle.ps_disks.specs.Disk.{Only};
 ghost use Rattle.host_journal.specs.Moments.{Adds, LeftIn, LiesBeside, Shows};
 ghost use Rattle.host_journal.specs.Pair.{pair_of};
 ghost use Rattle.host_journal.specs.State.{is_ready, stored, EachSince, snapshot_of, first_disk, second_disk};
-ghost use Rattle.host_journal_keeper_tests.specs.Kept.{Keeps, IsMade};
+ghost use Rattle.machine_keep_tests.specs.Kept.{Keeps, IsMade};
 
-use crate::pairs::{Pair, list_of, new_journal, new_pair};
+use crate::disks::{Pair, pair_on};
+use crate::journals::{list_of, new_journal};
 use host_journal::fault::{DiskFault, OpenFault};
 use host_journal::journal::Journal;
 use ps_disks::disk::Disk;
+use ps_disks::rack::FRESH_FIRST;
 use ps_time::memory::Memory;
 use std::alloc::Global;
 use std::test::Fail;
@@ -137,7 +139,7 @@ fn a_number_is_added_and_then_the_snapshot(rt: HostRuntime) -> Result<(), Fail> 
 }
 
 fn opens(alloc: Global) -> Result<bool, Memory> {
-    let (first, second) = new_pair(alloc)?;
+    let (first, second) = pair_on(alloc, &FRESH_FIRST)?;
     match open_keeper(alloc, first, second, &[9]) {
         Ok((journal, done)) => Ok(done && is_twice(alloc, journal.into_disks(), &[9])),
         Err(_fault) => Ok(false),

@@ -2,7 +2,8 @@
 ghost use Rattle.std.specs.Prelude.{◌≡◌, ◌+◌, ◌≤◌, IsTrue, IfOk, OnOk, length};
 ghost use Rattle.host_journal.specs.State.{is_ready, stored, which, EachImage};
 
-use crate::pairs::{Pair, list_of, new_journal};
+use crate::disks::Pair;
+use crate::journals::{list_of, new_journal};
 use host_journal::fault::DiskFault;
 use host_journal::journal::Journal;
 use ps_disks::disk::Disk;

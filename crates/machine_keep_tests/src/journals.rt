@@ -1,17 +1,10 @@
-//! New pairs of disks in memory, and openings of journals on pairs.
+//! Journals on new pairs of disks, and the lists for which pairs stand.
+use crate::disks::{Pair, pair_on};
 use host_journal::journal::Journal;
 use ps_disks::memory_disk::MemoryDisk;
-use ps_disks::rack::{FRESH_FIRST, FRESH_SECOND};
+use ps_disks::rack::FRESH_FIRST;
 use ps_time::items::Items;
 use std::alloc::{AllocError, Global};
-
-pub type Pair = (MemoryDisk, MemoryDisk);
-
-pub fn new_pair(alloc: Global) -> Result<Pair, AllocError> {
-    let first = MemoryDisk::new(alloc, FRESH_FIRST.to_vec(alloc)?, Vec::new(alloc));
-    let second = MemoryDisk::new(alloc, FRESH_SECOND.to_vec(alloc)?, Vec::new(alloc));
-    Ok((first, second))
-}
 
 // A journal, and the list that its opening gave.
 type Found = (Journal<MemoryDisk>, Items<Items<u8>>);
@@ -21,7 +14,7 @@ fn found(alloc: Global, pair: Pair) -> Option<Found> {
 }
 
 pub fn new_journal(alloc: Global) -> Result<Option<Journal<MemoryDisk>>, AllocError> {
-    match found(alloc, new_pair(alloc)?) {
+    match found(alloc, pair_on(alloc, &FRESH_FIRST)?) {
         Some((journal, _list)) => Ok(Some(journal)),
         None => Ok(None),
     }

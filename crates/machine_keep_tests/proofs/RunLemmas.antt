@@ -8,7 +8,7 @@ use Rattle.host_journal.specs.State.{State, stored, with_record, snapshot_of, Is
 use Rattle.host_journal.specs.declared.reading.Counted.{Counted}
 use Rattle.host_journal.specs.declared.reading.DiskPlace.{DiskPlace}
 use Rattle.host_journal.proofs.MomentLemmas.{adds_on, read_adds, since_begin, beside_record, near_record, near_with_record, near_snapshot, ours_at, fits_pair, run_pair, run_more, run_on, run_since}
-use Rattle.host_journal_keeper_tests.specs.Kept.{last_item, Keeps, IsMade}
+use Rattle.machine_keep_tests.specs.Kept.{last_item, Keeps, IsMade}
 
 last_of_more : (number first : List ℕ) (items : List (List ℕ)) → last_item first (items ++ number ∷ []) ≡ number
 last_of_more number first [] = refl

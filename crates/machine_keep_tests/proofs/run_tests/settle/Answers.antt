@@ -1,5 +1,5 @@
-use Rattle.host_journal_keeper_tests.proofs.RunLemmas.{after_snapshot, after_all}
-use Rattle.host_journal_keeper_tests.proofs.run_tests.settle.Goals as goal
+use Rattle.machine_keep_tests.proofs.RunLemmas.{after_snapshot, after_all}
+use Rattle.machine_keep_tests.proofs.run_tests.settle.Goals as goal
 
 pub returns-in_err-snap_number : goal.returns-in_err-snap_number
 returns-in_err-snap_number g c = record {
