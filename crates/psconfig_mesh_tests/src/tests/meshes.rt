@@ -4,7 +4,7 @@ use ps_time::memory::Memory;
 use psconfig_mesh::mesh::{Mesh, Wanted};
 use psconfig_mesh::read_mesh::read_mesh;
 use psconfig_mesh::wanted::wanted_tasks;
-use std::alloc::Global;
+use std::alloc::{AllocError, Global};
 use std::test::Fail;
 
 /// What a mesh wants, or the text of its fault.
@@ -118,53 +118,61 @@ fn what_is_posted(rt: HostRuntime) -> Result<(), Fail> {
     Ok(())
 }
 
-fn push_part(alloc: Global, text: &mut String, place: u64, part: &str) -> Result<(), Memory> {
+// Between two parts of a list.
+fn add_comma(text: &mut String, place: u64) -> Result<(), AllocError> {
     if place > 0 {
-        text.push_str(",")?;
+        write!(text, ",")?;
     }
-    text.push_str(part)?;
     Ok(())
 }
 
-fn addresses(alloc: Global, hosts: u64) -> Result<String, Memory> {
-    let mut text = String::new(alloc);
+fn add_addresses(text: &mut String, hosts: u64) -> Result<(), AllocError> {
     for host in 0..hosts {
-        let part = format!(in alloc; "\"h{host}\":\"http://h{host}/pscheduler\"")?;
-        push_part(alloc, &mut text, host, part.as_str())?;
+        add_comma(text, host)?;
+        write!(text, "\"h{host}\":\"http://h{host}/pscheduler\"")?;
     }
-    Ok(text)
+    Ok(())
 }
 
-fn names(alloc: Global, hosts: u64) -> Result<String, Memory> {
-    let mut text = String::new(alloc);
+fn add_names(text: &mut String, hosts: u64) -> Result<(), AllocError> {
     for host in 0..hosts {
-        let part = format!(in alloc; "\"h{host}\"")?;
-        push_part(alloc, &mut text, host, part.as_str())?;
+        add_comma(text, host)?;
+        write!(text, "\"h{host}\"")?;
     }
-    Ok(text)
+    Ok(())
 }
 
-fn tasks(alloc: Global, tasks: u64, group: &str) -> Result<String, Memory> {
-    let mut text = String::new(alloc);
+fn add_tasks(text: &mut String, tasks: u64, group: &str) -> Result<(), AllocError> {
     for task in 0..tasks {
-        let part = format!(in alloc; "\"k{task}\":{{\"group\":\"{group}\",\"test\":\"t\"}}")?;
-        push_part(alloc, &mut text, task, part.as_str())?;
+        add_comma(text, task)?;
+        write!(text, "\"k{task}\":{{\"group\":\"{group}\",\"test\":\"t\"}}")?;
     }
-    Ok(text)
+    Ok(())
+}
+
+fn add_groups(text: &mut String, hosts: u64) -> Result<(), AllocError> {
+    write!(
+        text,
+        "}},\"groups\":{{\"all\":{{\"type\":\"mesh\",\"addresses\":["
+    )?;
+    add_names(text, hosts)?;
+    write!(text, "]}},\"list\":{{\"type\":\"list\",\"addresses\":[")?;
+    add_names(text, hosts)
 }
 
 /// A mesh of so many hosts, with so many tasks over one of its two groups.
-fn large(alloc: Global, hosts: u64, tasks_count: u64, group: &str) -> Result<String, Memory> {
-    let addresses = addresses(alloc, hosts)?;
-    let names = names(alloc, hosts)?;
-    let tasks = tasks(alloc, tasks_count, group)?;
-    let head = format!(in alloc; "{{\"mesh\":\"m\",\"addresses\":{{{addresses}}},")?;
-    let groups = format!(in alloc;
-        "\"groups\":{{\"all\":{{\"type\":\"mesh\",\"addresses\":[{names}]}},\"list\":{{\"type\":\"list\",\"addresses\":[{names}]}}}},"
+fn large(alloc: Global, hosts: u64, tasks: u64, group: &str) -> Result<String, AllocError> {
+    let mut text = String::new(alloc);
+    write!(text, "{{\"mesh\":\"m\",\"addresses\":{{")?;
+    add_addresses(&mut text, hosts)?;
+    add_groups(&mut text, hosts)?;
+    write!(
+        text,
+        "]}}}},\"tests\":{{\"t\":{{\"type\":\"idle\",\"spec\":{{\"duration\":\"PT1S\"}}}}}},\"tasks\":{{"
     )?;
-    Ok(format!(in alloc;
-        "{head}{groups}\"tests\":{{\"t\":{{\"type\":\"idle\",\"spec\":{{\"duration\":\"PT1S\"}}}}}},\"tasks\":{{{tasks}}}}}"
-    )?)
+    add_tasks(&mut text, tasks, group)?;
+    write!(text, "}}}}")?;
+    Ok(text)
 }
 
 /// How many tasks such a mesh wants, or the text of its fault.
