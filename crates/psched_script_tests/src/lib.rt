@@ -1,9 +1,2 @@
-//! The tests of psched_script, over its public items.
+//! The tests of psched_script's grammar, as theorems: what scripts say, worked out by hand and computed.
 #![tactic(auto)]
-
-#[cfg(test)]
-mod refusal_tests;
-#[cfg(test)]
-mod shown;
-#[cfg(test)]
-mod worked_tests;

@@ -3,7 +3,6 @@ use ps_ports::memory_sink::MemorySink;
 use ps_ports::memory_source::MemorySource;
 use psched_top::psched::psched;
 use std::alloc::{AllocError, Global};
-use std::process::Abort;
 
 /// What a call answered and did.
 #[derive(Clone, Copy)]
@@ -24,9 +23,6 @@ impl Ran {
             && self.write_faults == u64::from(status == 4)
     }
 }
-
-/// An input, the status that it comes to, and the text that is written.
-pub type Case = (&'static [u8], u8, &'static str);
 
 fn words_of(alloc: Global, words: &str) -> Result<Vec<String>, AllocError> {
     let mut list = Vec::new(alloc);
@@ -78,31 +74,4 @@ pub fn run(
     let writes = failing_writes.to_vec(alloc)?;
     let list = words_of(alloc, words)?;
     Ok(call_over(alloc, list.as_slice(), source, writes, text))
-}
-
-/// A call that answers this status and writes this text, over a source and a sink that don't fail.
-pub fn expect(
-    rt: &impl Abort,
-    alloc: Global,
-    words: &str,
-    input: Vec<u8>,
-    status: u8,
-    text: &str,
-) -> Result<(), AllocError> {
-    let ran = run(alloc, words, input, &[], &[], text)?;
-    assert!(rt; ran.tells(status), "{words}: {text}");
-    Ok(())
-}
-
-/// Calls with these words, one for each case.
-pub fn expect_all(
-    rt: &impl Abort,
-    alloc: Global,
-    words: &str,
-    cases: &[Case],
-) -> Result<(), AllocError> {
-    for (input, status, text) in cases {
-        expect(rt, alloc, words, input.to_vec(alloc)?, *status, text)?;
-    }
-    Ok(())
 }

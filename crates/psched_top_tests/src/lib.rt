@@ -4,6 +4,4 @@
 #[cfg(test)]
 mod calls;
 #[cfg(test)]
-mod limits_tests;
-#[cfg(test)]
-mod tests;
+mod fault_tests;
