@@ -1,45 +1,43 @@
-//! The requests of orders.
+//! That orders can be sent, taken and answered. What they say is told by the theorems of `api_input_tests`.
 ghost use Rattle.api_order.specs.Ordered.{IsOrder};
 
 use crate::tests::given::a_host;
 use crate::tests::orders_given::an_order;
-use crate::tests::told::bytes_text;
+use api_answer::heard::heard;
+use api_input::refusal::Refusal;
+use api_input::understand::read_input;
 use api_order::request::order_request;
 use host_model::config::Config;
+use host_model::input::Input;
 use host_model::order::Order;
-use ps_http::message::Request;
+use ps_http::message::{Request, Response};
+use ps_time::items::Items;
 use ps_time::memory::Memory;
 use std::alloc::Global;
 use std::test::Fail;
 
-static REQUESTS: &str =
-    r#"POST /pscheduler/peer/free 1:secret {"first":1000,"key":"00010000-0001-8001-8000-000000000000","last":2000,"priority":0,"test":{"spec":{"duration":"PT10S"},"type":"idle"}} <- free b
-POST /pscheduler/peer/runs 1:secret {"key":"00010000-0001-8001-8000-000000000000","priority":0,"requester":"10.0.0.9","start":1007,"test":{"spec":{"duration":"PT10S"},"type":"idle"},"tool":"sleep"} <- propose b
-PUT /pscheduler/peer/runs/00010000-0001-8001-8000-000000000000/confirm 1:secret  <- confirm b
-DELETE /pscheduler/peer/runs/00010000-0001-8001-8000-000000000000 1:secret  <- cancel b
-PUT /pscheduler/peer/runs/00010000-0001-8001-8000-000000000000/material 1:secret {"material":"hello"} <- material b
-GET /pscheduler/peer/runs/00010000-0001-8001-8000-000000000000/result 1:secret  <- result b
-PUT /pscheduler/peer/runs/00010000-0001-8001-8000-000000000000/confirm 1:other  <- confirm c
-none <- confirm a
-none <- confirm d"#;
+/// An order by its name, and the body of an answer with status 200.
+static ORDERS: [(&str, &str); 6] = [
+    (
+        "free",
+        r#"{"first-tier":[[1006,1300]],"second-tier":[],"tools":["sleep"]}"#,
+    ),
+    ("propose", r#"{"accepted":1003}"#),
+    ("confirm", r#"{"confirmed":1003}"#),
+    ("cancel", r#"{"dropped":true}"#),
+    ("material", r#"{"heard":true}"#),
+    ("result", r#"{"state":"running"}"#),
+];
 
-fn told_request(alloc: Global, request: &Request) -> Result<String, Memory> {
-    let Some(mark) = &request.peer else {
-        return Ok(String::from_str(alloc, "no mark")?);
-    };
-    let method = &request.method;
-    let path = &request.path;
-    let number = mark.number;
-    let key = &mark.key;
-    let head = format!(in alloc; "{method} {path} {number}:{key}")?;
-    let body = bytes_text(alloc, request.body.as_slice())?;
-    Ok(format!(in alloc; "{head} {body}")?)
+fn is_input(read: Result<Input, Refusal>) -> bool {
+    read.is_ok()
 }
 
-fn told(alloc: Global, request: Option<Request>) -> Result<String, Memory> {
+// Whether the other host takes the request.
+fn is_taken(alloc: Global, other: &Config, request: Option<Request>) -> bool {
     match request {
-        Some(request) => told_request(alloc, &request),
-        None => Ok(String::from_str(alloc, "none")?),
+        Some(request) => is_input(read_input(alloc, other, &request, "10.0.0.9", 1000)),
+        None => false,
     }
 }
 
@@ -49,25 +47,51 @@ fn request_of(alloc: Global, config: &Config, order: Order) -> Result<Option<Req
     order_request(alloc, config, &order)
 }
 
-fn told_line(alloc: Global, config: &Config, line: &str) -> Result<String, Fail> {
-    let order = an_order(alloc, line)?;
-    let request = request_of(alloc, config, order)?;
-    Ok(told(alloc, request)?)
+fn is_sent(alloc: Global, lead: &Config, other: &Config, name: &str) -> Result<bool, Fail> {
+    let order = an_order(alloc, name)?;
+    Ok(is_taken(alloc, other, request_of(alloc, lead, order)?))
 }
 
-fn check(alloc: Global, config: &Config) -> Result<(), Fail> {
-    for case in REQUESTS.split('\n') {
-        let (want, line) = case.split_once(" <- ").ok_or("no case")?;
-        let told = told_line(alloc, config, line)?;
-        if told.as_str() != want {
-            return Err(Fail::new(format_args!("{line} is told {told}")));
+fn a_response(alloc: Global, body: &str) -> Result<Response, Memory> {
+    let body = Items::from_vec(Vec::from_slice(alloc, body.as_bytes())?);
+    Ok(Response {
+        status: 200,
+        allow: None,
+        close: true,
+        body,
+    })
+}
+
+fn is_there(input: Option<Input>) -> bool {
+    input.is_some()
+}
+
+fn is_heard_of(alloc: Global, order: Order, response: &Response) -> Result<bool, Memory> {
+    Ok(is_there(heard(alloc, order, response)?))
+}
+
+fn is_heard(alloc: Global, name: &str, body: &str) -> Result<bool, Fail> {
+    let response = a_response(alloc, body)?;
+    let order = an_order(alloc, name)?;
+    match is_heard_of(alloc, order, &response) {
+        Ok(heard) => Ok(heard),
+        Err(_) => Err(Fail::from("no memory")),
+    }
+}
+
+fn check(alloc: Global, lead: &Config, other: &Config, cases: &[(&str, &str)]) -> Result<(), Fail> {
+    for (name, body) in cases {
+        if !is_sent(alloc, lead, other, name)? || !is_heard(alloc, name, body)? {
+            return Err(Fail::new(format_args!("{name}")));
         }
     }
     Ok(())
 }
 
 #[test]
-fn requests_of_orders(rt: HostRuntime) -> Result<(), Fail> {
-    let config = a_host(rt.alloc())?;
-    check(rt.alloc(), &config)
+fn orders_are_sent_and_answered(rt: HostRuntime) -> Result<(), Fail> {
+    let alloc = rt.alloc();
+    let lead = a_host(alloc, 1, "a", 2, "b")?;
+    let other = a_host(alloc, 2, "b", 1, "a")?;
+    check(alloc, &lead, &other, &ORDERS)
 }

@@ -2,7 +2,7 @@
 ghost use Rattle.std.specs.Prelude.{IfOk};
 ghost use Rattle.api_order.specs.Ordered.{IsOrder};
 
-use crate::tests::given::{a_test, cut_once};
+use crate::tests::given::a_test;
 use host_model::order::{Order, OrderBody};
 use ps_time::asker::Asker;
 use ps_time::interval::Window;
@@ -64,12 +64,11 @@ fn a_body(alloc: Global, name: &str) -> Result<OrderBody, Fail>
     }
 }
 
-/// An order of this name, and behind a blank the name of the host to which it goes.
-pub(crate) fn an_order(alloc: Global, line: &str) -> Result<Order, Fail>
+/// An order of this name to host b.
+pub(crate) fn an_order(alloc: Global, name: &str) -> Result<Order, Fail>
     ensures { IfOk result (λ order. IsOrder order.body) }
 {
-    let (name, to) = cut_once(line, ' ');
-    let to = Text::new(alloc, to)?;
+    let to = Text::new(alloc, "b")?;
     Ok(Order {
         key: KEY,
         place: 1,

@@ -1,0 +1,5 @@
+mod OpenRequests
+mod OrderRequests
+mod PeerAnswers
+mod PeerRequests
+pub mod Told
