@@ -1,7 +1,7 @@
 use Rattle.std.proofs.Common.{◌≡◌, ◌∷◌, ◌++◌, [], rules, tests, sym, subst, All}
 use Rattle.ps_doors.specs.Door.{HasShortAddress}
 use Rattle.ps_doors.proofs.DoorLemmas.{All_more}
-use Rattle.ps_doors_tests.proofs.tests.guests.Goals as goal
+use Rattle.port_tests.proofs.door_tests.guests.Goals as goal
 
 pub loop-byte-preserved : goal.loop-byte-preserved
 loop-byte-preserved c =
