@@ -12,7 +12,7 @@ use Rattle.rehearsal_model.specs.Reaching.{MayMove}
 use Rattle.rehearsal_model.specs.Rehearsal.{Show, first_show}
 use Rattle.rehearsal_model.specs.Seen.{Seen, is_sent}
 use Rattle.rehearsal_model.proofs.LineLemmas.{is_within}
-use Rattle.rehearsal_state.specs.Ready.{IsReady}
+use Rattle.psched_rehearse.specs.Ready.{IsReady}
 use Rattle.psched_rehearse.specs.Playing.{IsPlaying}
 use Rattle.psched_rehearse.proofs.PlayLemmas.{playing}
 use Rattle.generated_work.specs.Draws.{drawn, is_crash, is_loss, next_seed}

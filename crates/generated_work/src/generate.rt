@@ -11,8 +11,8 @@ use crate::tally::Tally;
 use ps_time::memory::Memory;
 use ps_time::text::Text;
 use psched_rehearse::rehearse::open_hosts;
+use psched_rehearse::state::rehearsal::Rehearsal;
 use rehearsal_model::law::{law_first, law_rehearsed};
-use rehearsal_state::rehearsal::Rehearsal;
 use std::alloc::Global;
 
 /// Posts so many drawn tasks to eight hosts, runs these for a while behind each, with losses and crashes, and tells what came of it.

@@ -14,8 +14,8 @@ use crate::post::{draw_post, partner_of};
 use crate::tally::Tally;
 use ps_time::memory::Memory;
 use ps_time::moment::Moment;
+use psched_rehearse::state::rehearsal::Rehearsal;
 use psched_script::script::ScriptHost;
-use rehearsal_state::rehearsal::Rehearsal;
 use std::alloc::Global;
 
 // The moment of the first post.

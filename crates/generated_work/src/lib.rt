@@ -9,3 +9,6 @@ mod moves;
 mod post;
 mod summary;
 mod tally;
+
+/// Rehearsals of scripts.
+pub use psched_rehearse::rehearse;

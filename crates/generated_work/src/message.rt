@@ -10,8 +10,8 @@ use crate::moves::{arrive, crash, lose};
 use crate::tally::Tally;
 use ps_time::memory::Memory;
 use ps_time::moment::Moment;
+use psched_rehearse::state::rehearsal::Rehearsal;
 use psched_script::script::ScriptHost;
-use rehearsal_state::rehearsal::Rehearsal;
 use std::alloc::Global;
 
 fn is_crash(number: u64) -> bool

@@ -9,8 +9,8 @@ ghost use Rattle.rehearsal_model.specs.Moves.{Move.Arrives, Move.Lost, Move.Reop
 ghost use Rattle.rehearsal_model.specs.Reaching.{MayMove};
 ghost use Rattle.rehearsal_model.specs.Requests.{post as reading};
 ghost use Rattle.rehearsal_model.specs.Seen.{config_at, is_sent};
-ghost use Rattle.rehearsal_state.specs.Moved.{with_move};
-ghost use Rattle.rehearsal_state.specs.Ready.{IsReady};
+ghost use Rattle.psched_rehearse.specs.Moved.{with_move};
+ghost use Rattle.psched_rehearse.specs.Ready.{IsReady};
 ghost use Rattle.generated_work.specs.Posts.{body_of};
 ghost use Rattle.generated_work.specs.Work.{posted, posting, shows};
 
@@ -18,10 +18,10 @@ use crate::post::{Post, body_of};
 use ps_time::memory::Memory;
 use ps_time::moment::Moment;
 use psched_rehearse::arrive::receive;
+use psched_rehearse::state::rehearsal::Rehearsal;
+use psched_rehearse::state::request::{self, Asked};
+use psched_rehearse::state::turn::turn;
 use psched_script::script::ScriptHost;
-use rehearsal_state::rehearsal::Rehearsal;
-use rehearsal_state::request::{self, Asked};
-use rehearsal_state::turn::turn;
 use std::alloc::Global;
 
 /// A turn of the host at a place, and what it sends then.

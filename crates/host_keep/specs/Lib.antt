@@ -1,2 +1,3 @@
 pub mod Laws
 pub mod Standing
+pub use Rattle.kept_host.specs.Stands

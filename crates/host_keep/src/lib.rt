@@ -5,3 +5,7 @@ pub mod call;
 pub mod host;
 pub mod open;
 mod parts;
+
+/// The book of a host, and the law that its disks stand for one book alone.
+pub use host_book::book;
+pub use kept_host::law;

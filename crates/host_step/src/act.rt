@@ -5,11 +5,11 @@ ghost use Rattle.host_model.specs.Conditions.{IsConfig, IsInput};
 ghost use Rattle.host_model.specs.Step.{step_book, step_reply};
 
 use crate::decide::decide;
-use host_book::book::HostBook;
 use host_model::config::Config;
 use host_model::input::Input;
 use host_model::law::law_step;
 use host_model::reply::{Outcome, Reply};
+use host_turns::book::HostBook;
 use ps_time::memory::Memory;
 use ps_time::moment::Moment;
 use std::alloc::Global;

@@ -8,14 +8,14 @@ ghost use Rattle.host_model.specs.Lawful.{Lawful};
 ghost use Rattle.host_model.specs.Step.{outcome_of, step};
 ghost use Rattle.host_step.specs.ReadOff.{IsReadOff};
 
-use host_book::book::HostBook;
-use host_draft::draft::Draft;
-use host_inputs::input::answer_input;
 use host_model::config::Config;
 use host_model::input::Input;
 use host_model::reply::Outcome;
+use host_opening::input::answer_input;
 use host_opening::opening::open_host;
-use host_pages::page::show;
+use host_opening::page::show;
+use host_turns::book::HostBook;
+use host_turns::draft::Draft;
 use host_turns::turn::turn;
 use ps_time::memory::Memory;
 use ps_time::moment::Moment;

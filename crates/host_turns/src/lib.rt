@@ -6,3 +6,7 @@ mod exclusive;
 mod groups;
 pub mod turn;
 mod wishes;
+
+/// The book of a host, and the draft of a step over it.
+pub use host_book::book;
+pub use host_draft::draft;

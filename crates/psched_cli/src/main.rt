@@ -1,6 +1,13 @@
 //! psched, a proved scheduler of network measurements: the program over its standard streams.
 #![tactic(auto)]
 
+#[cfg(test)]
+mod calls;
+#[cfg(test)]
+mod disk_tests;
+#[cfg(test)]
+mod fault_tests;
+
 use ps_ports::adapters::{ReaderSource, WriterSink};
 use psched_top::psched::{OUT_OF_MEMORY, psched};
 use std::alloc::Global;

@@ -11,15 +11,15 @@ ghost use Rattle.rehearsal_state.specs.Ready.{IsReady};
 
 use archivers::bitbucket::Bitbucket;
 use archivers::failer::Failer;
-use host_book::book::HostBook;
 use host_model::input::Input;
 use host_model::lead::Due;
-use host_queries::archives::first_due;
-use host_queries::attempt::attempt_of;
 use ps_doors::archiver::{Archiver, Tried};
 use ps_time::memory::Memory;
 use ps_time::moment::Moment;
 use ps_time::text::Text;
+use rehearsal_state::archives::first_due;
+use rehearsal_state::attempt::attempt_of;
+use rehearsal_state::book::HostBook;
 use rehearsal_state::rehearsal::Rehearsal;
 use report_text::line::{add_archive, add_said};
 use report_text::report::ReportText;

@@ -8,3 +8,6 @@ pub mod line;
 pub mod rehearse;
 pub mod request;
 mod stopping;
+
+/// The hosts of a rehearsal as they stand.
+pub use rehearsal_state as state;

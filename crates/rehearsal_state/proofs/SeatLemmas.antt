@@ -14,7 +14,7 @@ use Rattle.host_model.specs.Step.{step_reply}
 use Rattle.host_model.specs.declared.config.Config.{Config}
 use Rattle.host_model.specs.declared.input.Input.{Input}
 use Rattle.host_model.specs.declared.reply.Reply.{Reply}
-use Rattle.kept_host.specs.Stands.{StandsAs, StandsFor as BookStands}
+use Rattle.host_keep.specs.Stands.{StandsAs, StandsFor as BookStands}
 use Rattle.machine_keep.specs.Kept.{StandsEither, StandsFor, after_step, caught}
 use Rattle.ps_disks.specs.declared.rack.TheConstants.{FRESH_FIRST, FRESH_SECOND}
 use Rattle.psched_world.specs.World.{Stage}

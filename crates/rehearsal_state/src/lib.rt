@@ -8,3 +8,7 @@ pub mod request;
 pub mod seat;
 pub mod tell;
 pub mod turn;
+
+/// The book of a host, and what is asked of it about archives.
+pub use host_keep::book;
+pub use host_queries::{archives, attempt};

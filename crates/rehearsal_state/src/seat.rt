@@ -14,14 +14,14 @@ ghost use Rattle.rehearsal_model.specs.Rehearsal.{retooled};
 ghost use Rattle.rehearsal_model.specs.Seen.{acted};
 ghost use Rattle.rehearsal_state.specs.Kept.{IsKeptOn};
 
-use host_book::book::HostBook;
+use host_keep::book::HostBook;
 use host_keep::call::HostCall;
 use host_keep::host::Host;
+use host_keep::law::law_one_book;
 use host_keep::open::open;
 use host_model::config::Config;
 use host_model::input::Input;
 use host_model::reply::Reply;
-use kept_host::law::law_one_book;
 use machine_keep::keep::Keep;
 use ps_disks::disk::Disk;
 use ps_disks::memory_disk::MemoryDisk;
