@@ -20,15 +20,9 @@ use crate::fault::LineFault;
 use crate::given::cut;
 use result_keeper::opening::OpenFault;
 use result_keeper::sqlite_keeper::SqliteKeeper;
+use result_table::keeper::Keeper;
 use std::process::ExitCode;
 use std::{fs, print, println};
-
-fn in_memory(rt: &HostRuntime, behind: &[String]) -> Result<(), LineFault> {
-    match SqliteKeeper::in_memory(rt.alloc()) {
-        Ok(keeper) => run_lines(rt, keeper, behind),
-        Err(_) => Err(LineFault::Failed),
-    }
-}
 
 fn print_refusal(rt: &HostRuntime, fault: OpenFault) -> Result<(), LineFault> {
     let word = match fault {
@@ -40,8 +34,13 @@ fn print_refusal(rt: &HostRuntime, fault: OpenFault) -> Result<(), LineFault> {
     Ok(())
 }
 
-fn in_file(rt: &HostRuntime, path: &str, behind: &[String]) -> Result<(), LineFault> {
-    match SqliteKeeper::open(rt, path) {
+// What was opened does what is asked of it, or it is said why there is no store.
+fn run_opened<Q: Keeper + Drop>(
+    rt: &HostRuntime,
+    opened: Result<Q, OpenFault>,
+    behind: &[String],
+) -> Result<(), LineFault> {
+    match opened {
         Ok(keeper) => run_lines(rt, keeper, behind),
         Err(fault) => print_refusal(rt, fault),
     }
@@ -60,8 +59,8 @@ fn run_from(rt: &HostRuntime, lines: &[String]) -> Result<(), LineFault> {
     };
     let (word, rest) = cut(line.as_str());
     match word {
-        "memory" => in_memory(rt, behind),
-        "file" => in_file(rt, rest, behind),
+        "memory" => run_opened(rt, SqliteKeeper::in_memory(rt.alloc()), behind),
+        "file" => run_opened(rt, SqliteKeeper::open(rt, rest), behind),
         "show" => show(rt, rest),
         _ => Ok(()),
     }
