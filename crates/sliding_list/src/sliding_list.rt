@@ -141,7 +141,11 @@ impl<T: Copy> SlidingList<T> {
         ensures places { self.new.places ≡ self.old.places }
         ensures fits { length self.old.list ≤ self.old.places }
     {
-        if from < self.len() - until {
+        let behind = self.len() - until;
+        if from == until {
+            return;
+        }
+        if from < behind {
             close_front(&mut self.cells, self.first, from, until);
             self.first += until - from;
         } else {
