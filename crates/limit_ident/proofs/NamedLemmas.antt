@@ -1,25 +1,23 @@
 -- The place of a name as entries come.
-use Rattle.std.proofs.Common.{◌≡◌, ℕ, ◌+◌, Bool, true, false, cond, List, [], ◌∷◌, ◌++◌, length, Option, Some, None, bytes_eq, is_some, refl, sym, ap, ◌∙◌, arith}
+use Rattle.std.proofs.Common.{◌≡◌, ℕ, suc, Bool, true, false, cond, List, [], ◌∷◌, ◌++◌, length, Option, Some, None, option_map, bytes_eq, is_some, refl, sym, ap, ◌∙◌}
 use Rattle.std.proofs.lemmas.Slice.Eq.{bytes_eq-Decides}
 use Rattle.limit_ident.specs.declared.named.Named.{Named}
-use Rattle.limit_ident.specs.Named.{place_from, place_of, first_place}
+use Rattle.limit_ident.specs.Named.{place_of, first_place}
 
-module _ {T : Type 0} where
-  place_from-push : (place : ℕ) (name : List ℕ) (es : List (Named T)) (e : Named T)
-      → place_from place name (es ++ e ∷ []) ≡ first_place (place_from place name es) (cond (bytes_eq e.name name) (Some (place + length es)) None)
-  place_from-push place name [] e = let here : place ≡ place + 0 = omega arith in ap (λ n. cond (bytes_eq e.name name) (Some n) None) here
-  place_from-push place name (x ∷ es) e =
-      let shifted : (place + 1) + length es ≡ place + length (x ∷ es) = omega arith in
-      elim (bytes_eq x.name name) as (λ b. cond b (Some place) (place_from (place + 1) name (es ++ e ∷ [])) ≡ first_place (cond b (Some place) (place_from (place + 1) name es)) (cond (bytes_eq e.name name) (Some (place + length (x ∷ es))) None)) [
-        | true ↦ refl
-        | false ↦ place_from-push (place + 1) name es e ∙ ap (λ n. first_place (place_from (place + 1) name es) (cond (bytes_eq e.name name) (Some n) None)) shifted
-      ]
+-- the place of the last one is one more behind another entry
+one_more : (o : Option ℕ) (b : Bool) (n : ℕ) → option_map suc (first_place o (cond b (Some n) None)) ≡ first_place (option_map suc o) (cond b (Some (suc n)) None)
+one_more (Some place) b n = refl
+one_more None true n = refl
+one_more None false n = refl
 
-  -- behind the others an entry is found by its name, unless an earlier one is
-  pub place_of-push : (name : List ℕ) (es : List (Named T)) (e : Named T) → place_of name (es ++ e ∷ []) ≡ first_place (place_of name es) (cond (bytes_eq e.name name) (Some (length es)) None)
-  place_of-push name es e =
-      let all : 0 + length es ≡ length es = omega arith in
-      place_from-push 0 name es e ∙ ap (λ n. first_place (place_of name es) (cond (bytes_eq e.name name) (Some n) None)) all
+-- behind the others an entry is found by its name, unless an earlier one is
+pub place_of-push : {T : Type 0} (name : List ℕ) (es : List (Named T)) (e : Named T) → place_of name (es ++ e ∷ []) ≡ first_place (place_of name es) (cond (bytes_eq e.name name) (Some (length es)) None)
+place_of-push name [] e = refl
+place_of-push name (x ∷ es) e =
+    elim (bytes_eq x.name name) as (λ b. cond b (Some 0) (option_map suc (place_of name (es ++ e ∷ []))) ≡ first_place (cond b (Some 0) (option_map suc (place_of name es))) (cond (bytes_eq e.name name) (Some (length (x ∷ es))) None)) [
+      | true ↦ refl
+      | false ↦ ap (option_map suc) (place_of-push name es e) ∙ one_more (place_of name es) (bytes_eq e.name name) (length es)
+    ]
 
 -- ---- an index of places, seen by what it finds
 

@@ -1,5 +1,5 @@
 -- Entries that others name: the first with a name, a name that is new, a name that stands for an entry.
-use Rattle.std.specs.Prelude.{ℕ, ◌+◌, List, [], ◌∷◌, ◌++◌, Option, Some, None, Result, Ok, Err, if◌then◌else◌, bytes_eq, codes}
+use Rattle.std.specs.Prelude.{ℕ, suc, List, [], ◌∷◌, ◌++◌, Option, Some, None, option_map, Result, Ok, Err, if◌then◌else◌, bytes_eq, codes}
 use Rattle.serde_json.specs.Data.{Data, Members}
 use Rattle.ps_json.specs.Answer.{then_with}
 use Rattle.ps_json.specs.Member.{required, member_then}
@@ -9,13 +9,10 @@ use Rattle.limit_ident.specs.declared.named.Named.{Named}
 use Rattle.limit_ident.specs.Fault.{wrapped}
 use Rattle.limit_ident.specs.Member.{text_in, object_in, some_in}
 
--- the first place of that name, where the list begins at `place`
-abbrev pub place_from : {T : Type 0} → ℕ → List ℕ → List (Named T) → Option ℕ
-place_from place name [] = None
-place_from place name (e ∷ es) = if bytes_eq e.name name then Some place else place_from (place + 1) name es
-
+-- the first place of that name
 abbrev pub place_of : {T : Type 0} → List ℕ → List (Named T) → Option ℕ
-place_of name es = place_from 0 name es
+place_of name [] = None
+place_of name (e ∷ es) = if bytes_eq e.name name then Some 0 else option_map suc (place_of name es)
 
 -- the first of two places that are there
 abbrev pub first_place : Option ℕ → Option ℕ → Option ℕ
