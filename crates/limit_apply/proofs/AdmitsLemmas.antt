@@ -4,7 +4,7 @@ use Rattle.std.specs.Option.{unwrap_or}
 use Rattle.ps_time.specs.Span.{Span}
 use Rattle.ps_time.specs.declared.asker.Asker.{Asker}
 use Rattle.ps_time.specs.declared.asker.Verdict.{Verdict}
-use Rattle.ps_time.specs.declared.asker.Verdict.TheVariants.{Permitted, Stopped, Exhausted, AboveCeiling}
+use Rattle.ps_time.specs.declared.asker.Verdict.TheVariants.{Permitted, Stopped, AboveCeiling}
 use Rattle.plugin_core.specs.declared.test_spec.TestSpec.{TestSpec}
 use Rattle.limit_apply.specs.Application.{cites_run, passes, decided}
 use Rattle.limit_apply.specs.Limits.{Config, holds_at, written_from, first_verdict, admits_of}

@@ -1,5 +1,5 @@
 -- A configuration that is read has whole numbers alone and is flat, and a refusal hides no want of memory.
-use Rattle.std.proofs.Common.{◌≡◌, ◌≢◌, ◌≤◌, ℕ, ℤ, zero, suc, max, pos, negsuc, Bool, true, false, ◌||◌, List, [], Option, Some, None, Result, Ok, Err, IfErr, OnOk, refl, sym, ap, ◌∙◌, subst, codes, arith}
+use Rattle.std.proofs.Common.{◌≡◌, ◌≢◌, ◌≤◌, ℕ, ℤ, zero, suc, max, pos, negsuc, Bool, true, false, ◌||◌, List, [], Some, Result, Ok, Err, IfErr, OnOk, refl, sym, ap, ◌∙◌, subst, codes, arith}
 use Rattle.serde_json.specs.Data.{Data, null, boolean, number, string, array, object, Items, no_items, item, Members, no_members, member, depth, items_depth, members_depth}
 use Rattle.serde_json.specs.Written.{has_float, items_have_float, members_have_float}
 use Rattle.ps_json.specs.Answer.{GivesUnless, then_with}
@@ -9,7 +9,7 @@ use Rattle.ps_json.specs.Member.{required, optional, member_then}
 use Rattle.ps_json.specs.declared.fault.JsonFault.{JsonFault}
 use Rattle.ps_json.specs.declared.fault.JsonFault.TheVariants.{Syntax, TooDeep, NotUtf8, Missing, WrongKind, Unknown, Memory}
 use Rattle.limit_ident.specs.Fault.{wrapped}
-use Rattle.limit_ident.specs.Member.{object_in, whole_in, described, flag_in}
+use Rattle.limit_ident.specs.Member.{whole_in, described, flag_in}
 use Rattle.limit_ident.specs.Named.{place_in}
 use Rattle.limit_ident.specs.Plain.{IsPlain, ArePlain, IsFlat, AreFlatItems, AreFlat, IsTold, Gives}
 use Rattle.limit_ident.specs.ReadClassifiers.{require_in, places_in}
@@ -19,13 +19,13 @@ use Rattle.limit_ident.specs.declared.fault.LimitFault.TheVariants.{Memory as ou
 use Rattle.limit_ident.specs.declared.identifier.Identifier.{Identifier}
 use Rattle.limit_ident.specs.declared.named.Named.{Named}
 use Rattle.limit_ident.specs.declared.require.Require.{Require}
-use Rattle.limit_ident.proofs.PlainLemmas.{gives_then, gives_more, gives_to, gives_object, gives_required, gives_optional, gives_flag, gives_each, gives_some, gives_list, gives_described, ends_described, all_of, plain_without}
+use Rattle.limit_ident.proofs.PlainLemmas.{gives_then, gives_more, gives_to, gives_object, gives_required, gives_optional, gives_flag, gives_each, gives_some, gives_list, ends_described, all_of, plain_without}
 use Rattle.limit_ident.proofs.FlatLemmas.{gives_place, gives_places, gives_require, gives_whole, gives_identifiers, gives_classifiers}
 use Rattle.limit_rule.proofs.FlatLemmas.{gives_limits}
 use Rattle.limit_rule.specs.ReadLimits.{limits_in}
 use Rattle.limit_rule.specs.declared.limit.Limit.{Limit}
-use Rattle.limit_apply.specs.Read.{schema_in, schema_of, identifiers_in, classifiers_in, lists_of, after_lists, ended_priorities, parts_of}
-use Rattle.limit_apply.specs.ReadApplications.{group_of, apply_in, told_of, after_told, application_of, applications_in, ceiling_in, ceiling_of, entry_of, entries_in, default_of, ceilings_of, priorities_of}
+use Rattle.limit_apply.specs.Read.{schema_in, identifiers_in, classifiers_in, lists_of, after_lists, ended_priorities, parts_of}
+use Rattle.limit_apply.specs.ReadApplications.{group_of, apply_in, told_of, after_told, application_of, applications_in, ceiling_in, ceiling_of, entry_of, entries_in, priorities_of}
 use Rattle.limit_apply.specs.declared.application.Application.{Application}
 use Rattle.limit_apply.specs.declared.application.Group.{Group}
 use Rattle.limit_apply.specs.declared.limits.Ceiling.{Ceiling}

@@ -23,7 +23,7 @@ use Rattle.limit_ident.specs.declared.fault.LimitFault.TheVariants.{BadRange, Js
 use Rattle.limit_ident.specs.declared.named.Named.{Named}
 use Rattle.limit_apply.specs.Bare.{bare, bare_text}
 use Rattle.limit_apply.specs.Limits.{AreBounded, Config, IsPriority}
-use Rattle.limit_apply.specs.Read.{IsKept, after_lists, config, config_in, config_of, ended_priorities, lists_of, parts_of, schema_of}
+use Rattle.limit_apply.specs.Read.{AreCounted, IsKept, after_lists, config, config_in, config_of, ended_priorities, lists_of, parts_of, schema_of}
 use Rattle.limit_apply.specs.ReadApplications.{ceiling_in, ceiling_of, ceilings_of, default_of, entries_in, entry_of, priorities_of}
 use Rattle.limit_apply.specs.declared.limits.Ceiling.{Ceiling}
 use Rattle.limit_apply.specs.declared.limits.Priorities.{Priorities}
@@ -143,6 +143,17 @@ config_bounded text c e =
     let d = went (in_json (tree_of text)) config_of c e in
     let parts = went (parts_of (bare d.0)) _ c d.2 in
     subst (λ (x : Config). AreBounded x.priorities) (ok_is (config parts.0.0 parts.0.1 (bare_text d.0)) c parts.2) (parts_bounded (bare d.0) parts.0 parts.1)
+
+-- what is made of counted lists, priorities and the text of both
+pub made_kept : (lists : Lists) (priorities : Priorities) (text : List ℕ) → AreCounted lists → config_in text ≡ Ok (config lists priorities text) → IsKept (config lists priorities text)
+made_kept lists priorities text counted again = record {
+  identifiers = counted.identifiers;
+  classifiers = counted.classifiers;
+  limits = counted.limits;
+  applications = counted.applications;
+  priorities = config_bounded text (config lists priorities text) again;
+  again = again;
+}
 
 -- ---- one after another
 pub one_more : (epochs : List Config) (i : ℕ) (l : Config) → i < length epochs → l ≡ get_or epochs i l → All IsKept (take i epochs) → IsKept l → All IsKept (take (i + 1) epochs)

@@ -6,7 +6,7 @@ ghost use Rattle.ps_json.specs.Fields.{without_member};
 ghost use Rattle.ps_json.specs.Member.{required};
 ghost use Rattle.limit_ident.specs.Fault.{wrapped};
 ghost use Rattle.limit_ident.specs.Plain.{IsPlain, IsFlat, IsTold};
-ghost use Rattle.limit_apply.specs.Limits.{Config, AreBounded};
+ghost use Rattle.limit_apply.specs.Limits.{Config};
 ghost use Rattle.limit_apply.specs.ReadApplications.{applications_in};
 ghost use Rattle.limit_rule.specs.ReadLimits.{limits_in};
 ghost use Rattle.limit_apply.specs.Read.{schema_in, schema_of, identifiers_in, classifiers_in, lists_of, after_lists, AreCounted, parts_of, config, ended_priorities, config_of, config_in, of_own, own_config, IsKept, IsLimitsText};
@@ -146,8 +146,7 @@ impl Lists {
 
     /// The configuration. A list of 2^32 entries or more is answered as want of memory.
     fn counted(self, priorities: Priorities, text: Text) -> Result<Limits, LimitFault>
-        requires bounds { AreBounded priorities }
-        requires again { config_in text ≡ Ok (config self priorities text) }
+        requires { config_in text ≡ Ok (config self priorities text) }
         ensures { GivesUnless LimitFault.Memory result (Ok (config self priorities text)) }
     {
         if !self.fit() {
@@ -176,8 +175,7 @@ fn take_priorities(
     mut fields: Fields,
     classifiers: &Entries<Classifier>,
 ) -> Result<Priorities, LimitFault>
-    ensures value { GivesUnless LimitFault.Memory result (ended_priorities classifiers.now fields) }
-    ensures bounds { IfOk result AreBounded }
+    ensures { GivesUnless LimitFault.Memory result (ended_priorities classifiers.now fields) }
 {
     let priorities = read_priorities(alloc, fields.take("priorities"), classifiers)?;
     end_described(alloc, fields)?;
@@ -187,8 +185,7 @@ fn take_priorities(
 /// The entries and priorities of a tree.
 #[tactic(auto, unfolding(crate::specs::Read::parts_of))]
 fn read_parts(alloc: Global, value: Value) -> Result<(Lists, Priorities), LimitFault>
-    ensures value { GivesUnless LimitFault.Memory result (parts_of (view value)) }
-    ensures bounds { IfOk result (λ parts. AreBounded parts.1) }
+    ensures { GivesUnless LimitFault.Memory result (parts_of (view value)) }
 {
     let mut fields = Fields::open(alloc, value, "limits")?;
     take_schema(alloc, &mut fields)?;
@@ -201,7 +198,6 @@ fn read_parts(alloc: Global, value: Value) -> Result<(Lists, Priorities), LimitF
 fn read_plain(alloc: Global, value: Value) -> Result<(Lists, Priorities), LimitFault>
     requires { IsPlain (view value) }
     ensures value { GivesUnless LimitFault.Memory result (parts_of (view value)) }
-    ensures bounds { IfOk result (λ parts. AreBounded parts.1) }
     ensures flat { OnOk result (IsFlat 64 (view value)) }
     ensures told { IfErr result IsTold }
 {

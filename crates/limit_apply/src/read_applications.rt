@@ -1,23 +1,23 @@
 //! The reader of applications and priorities.
-ghost use Rattle.std.specs.Prelude.{◌≡◌, [], map, option_map, codes, All, IfOk, OnOk};
+ghost use Rattle.std.specs.Prelude.{◌≡◌, [], option_map, codes, IfOk, OnOk};
 ghost use Rattle.serde_json.specs.View.{view};
-ghost use Rattle.ps_json.specs.Each.{read_each};
 ghost use Rattle.ps_json.specs.Answer.{GivesUnless};
 ghost use Rattle.ps_json.specs.Fields.{without_member};
 ghost use Rattle.ps_json.specs.Member.{required};
 ghost use Rattle.limit_ident.specs.Fault.{wrapped};
 ghost use Rattle.limit_ident.specs.ReadClassifiers.{require_in, places_in};
 ghost use Rattle.limit_ident.specs.Named.{place_in};
-ghost use Rattle.limit_apply.specs.Limits.{IsPriority, AreBounded};
-ghost use Rattle.limit_apply.specs.ReadApplications.{group_of, apply_in, told_of, after_told, application_of, applications_in, ceiling_in, ceiling_of, entry_of, default_of, ceilings_of, priorities_of};
+ghost use Rattle.limit_apply.specs.Limits.{IsPriority};
+ghost use Rattle.limit_apply.specs.ReadApplications.{apply_in, told_of, after_told, applications_in, ceiling_in, ceiling_of, default_of, ceilings_of, priorities_of};
 
 use crate::application::{Application, Group};
 use crate::limits::{Ceiling, Priorities};
 use limit_ident::classifier::Classifier;
 use limit_ident::fault::LimitFault;
-use limit_ident::member::{end_described, read_some, read_whole, take_flag};
+use limit_ident::member::{end_described, read_whole, take_flag};
 use limit_ident::named::{Entries, read_place};
 use limit_ident::read_classifiers::{read_places, read_require};
+use limit_ident::read_lists::{ReadItem, read_each_item, read_items};
 use limit_ident::require::Require;
 use limit_rule::limit::Limit;
 use ps_json::fields::Fields;
@@ -47,31 +47,25 @@ fn need_limits(
     read_places(alloc, value, "limits", limits)
 }
 
-fn read_group(alloc: Global, value: Value, limits: &Entries<Limit>) -> Result<Group, LimitFault>
-    ensures { GivesUnless LimitFault.Memory result (group_of limits.now (view value)) }
-{
-    let mut fields = Fields::open(alloc, value, "apply")?;
-    let require = need_require(alloc, &mut fields)?;
-    let places = need_limits(alloc, &mut fields, limits)?;
-    end_described(alloc, fields)?;
-    Ok(Group {
-        require,
-        limits: places,
-    })
+#[derive(Clone, Copy)]
+struct GroupReader<'a> {
+    limits: &'a Entries<Limit>,
 }
 
-fn read_groups(
-    alloc: Global,
-    values: Vec<Value>,
-    limits: &Entries<Limit>,
-) -> Result<Items<Group>, LimitFault>
-    ensures { GivesUnless LimitFault.Memory result (read_each (group_of limits.now) (map view values.items)) }
-{
-    let mut groups = Items::new(alloc);
-    for value in values {
-        groups.push(read_group(alloc, value, limits)?)?;
+impl<'a> ReadItem for GroupReader<'a> {
+    type Item = Group;
+
+    ghost use Rattle.limit_apply.specs.ReadApplications.{group_of};
+
+    ghost item = { λ r d. group_of r.limits.now d };
+
+    fn read_item(&self, alloc: Global, value: Value) -> Result<Group, LimitFault> {
+        let mut fields = Fields::open(alloc, value, "apply")?;
+        let require = need_require(alloc, &mut fields)?;
+        let limits = need_limits(alloc, &mut fields, self.limits)?;
+        end_described(alloc, fields)?;
+        Ok(Group { require, limits })
     }
-    Ok(groups)
 }
 
 fn need_apply(
@@ -84,8 +78,7 @@ fn need_apply(
     ensures rest { fields.new ≡ without_member (codes "apply") fields.old }
 {
     let value = fields.need(alloc, "apply")?;
-    let values = read_some(alloc, value, "apply")?;
-    read_groups(alloc, values, limits)
+    read_items(alloc, value, "apply", &GroupReader { limits })
 }
 
 fn need_classifier(
@@ -123,34 +116,25 @@ fn take_application(
     })
 }
 
-fn read_application(
-    alloc: Global,
-    value: Value,
-    classifiers: &Entries<Classifier>,
-    limits: &Entries<Limit>,
-) -> Result<Application, LimitFault>
-    ensures { GivesUnless LimitFault.Memory result (application_of classifiers.now limits.now (view value)) }
-{
-    let mut fields = Fields::open(alloc, value, "applications")?;
-    let application = take_application(alloc, &mut fields, classifiers, limits)?;
-    end_described(alloc, fields)?;
-    Ok(application)
+#[derive(Clone, Copy)]
+struct ApplicationReader<'a> {
+    classifiers: &'a Entries<Classifier>,
+    limits: &'a Entries<Limit>,
 }
 
-fn read_entries(
-    alloc: Global,
-    values: Vec<Value>,
-    classifiers: &Entries<Classifier>,
-    limits: &Entries<Limit>,
-) -> Result<Items<Application>, LimitFault>
-    ensures { GivesUnless LimitFault.Memory result
-        (read_each (application_of classifiers.now limits.now) (map view values.items)) }
-{
-    let mut entries = Items::new(alloc);
-    for value in values {
-        entries.push(read_application(alloc, value, classifiers, limits)?)?;
+impl<'a> ReadItem for ApplicationReader<'a> {
+    type Item = Application;
+
+    ghost use Rattle.limit_apply.specs.ReadApplications.{application_of};
+
+    ghost item = { λ r d. application_of r.classifiers.now r.limits.now d };
+
+    fn read_item(&self, alloc: Global, value: Value) -> Result<Application, LimitFault> {
+        let mut fields = Fields::open(alloc, value, "applications")?;
+        let application = take_application(alloc, &mut fields, self.classifiers, self.limits)?;
+        end_described(alloc, fields)?;
+        Ok(application)
     }
-    Ok(entries)
 }
 
 /// The applications that the member `applications` is: a list that isn't empty.
@@ -163,8 +147,11 @@ pub(crate) fn read_applications(
     ensures { GivesUnless LimitFault.Memory result
         (applications_in classifiers.now limits.now (codes "applications") (view value)) }
 {
-    let values = read_some(alloc, value, "applications")?;
-    read_entries(alloc, values, classifiers, limits)
+    let reader = ApplicationReader {
+        classifiers,
+        limits,
+    };
+    read_items(alloc, value, "applications", &reader)
 }
 
 fn read_ceiling(alloc: Global, value: Value, name: &str) -> Result<i16, LimitFault>
@@ -192,7 +179,6 @@ fn take_entry(
     classifiers: &Entries<Classifier>,
 ) -> Result<Ceiling, LimitFault>
     ensures value { GivesUnless LimitFault.Memory result (ceiling_of classifiers.now fields.old) }
-    ensures bound { IfOk result (λ c. IsPriority c.ceiling) }
     ensures rest { OnOk result (fields.new ≡ without_member (codes "ceiling") (without_member (codes "classifier") fields.old)) }
 {
     let classifier = need_classifier(alloc, fields, classifiers)?;
@@ -203,33 +189,24 @@ fn take_entry(
     })
 }
 
-fn read_entry(
-    alloc: Global,
-    value: Value,
-    classifiers: &Entries<Classifier>,
-) -> Result<Ceiling, LimitFault>
-    ensures value { GivesUnless LimitFault.Memory result (entry_of classifiers.now (view value)) }
-    ensures bound { IfOk result (λ c. IsPriority c.ceiling) }
-{
-    let mut fields = Fields::open(alloc, value, "classifiers")?;
-    let entry = take_entry(alloc, &mut fields, classifiers)?;
-    end_described(alloc, fields)?;
-    Ok(entry)
+#[derive(Clone, Copy)]
+struct CeilingReader<'a> {
+    classifiers: &'a Entries<Classifier>,
 }
 
-fn read_ceilings(
-    alloc: Global,
-    values: Vec<Value>,
-    classifiers: &Entries<Classifier>,
-) -> Result<Items<Ceiling>, LimitFault>
-    ensures value { GivesUnless LimitFault.Memory result (read_each (entry_of classifiers.now) (map view values.items)) }
-    ensures bounds { IfOk result (λ cs. All (λ c. IsPriority c.ceiling) cs) }
-{
-    let mut entries = Items::new(alloc);
-    for value in values {
-        entries.push(read_entry(alloc, value, classifiers)?)?;
+impl<'a> ReadItem for CeilingReader<'a> {
+    type Item = Ceiling;
+
+    ghost use Rattle.limit_apply.specs.ReadApplications.{entry_of};
+
+    ghost item = { λ r d. entry_of r.classifiers.now d };
+
+    fn read_item(&self, alloc: Global, value: Value) -> Result<Ceiling, LimitFault> {
+        let mut fields = Fields::open(alloc, value, "classifiers")?;
+        let entry = take_entry(alloc, &mut fields, self.classifiers)?;
+        end_described(alloc, fields)?;
+        Ok(entry)
     }
-    Ok(entries)
 }
 
 fn take_default(alloc: Global, fields: &mut Fields) -> Result<i16, LimitFault>
@@ -249,14 +226,13 @@ fn take_ceilings(
     classifiers: &Entries<Classifier>,
 ) -> Result<Items<Ceiling>, LimitFault>
     ensures value { GivesUnless LimitFault.Memory result (ceilings_of classifiers.now fields.old) }
-    ensures bounds { IfOk result (λ cs. All (λ c. IsPriority c.ceiling) cs) }
     ensures rest { fields.new ≡ without_member (codes "classifiers") fields.old }
 {
     match fields.take("classifiers") {
         None => Ok(Items::new(alloc)),
         Some(value) => {
             let values = read_list(alloc, value, "classifiers")?;
-            read_ceilings(alloc, values, classifiers)
+            read_each_item(alloc, values, &CeilingReader { classifiers })
         }
     }
 }
@@ -268,8 +244,7 @@ pub(crate) fn read_priorities(
     value: Option<Value>,
     classifiers: &Entries<Classifier>,
 ) -> Result<Priorities, LimitFault>
-    ensures value { GivesUnless LimitFault.Memory result (priorities_of classifiers.now (option_map view value)) }
-    ensures bounds { IfOk result AreBounded }
+    ensures { GivesUnless LimitFault.Memory result (priorities_of classifiers.now (option_map view value)) }
 {
     let Some(value) = value else {
         return Ok(Priorities {

@@ -1,7 +1,6 @@
 -- Identifiers and classifiers that are read have whole numbers alone and are flat, and a refusal hides no want of memory.
-use Rattle.std.proofs.Common.{◌≡◌, ℕ, ℤ, suc, ◌^◌, pos, nat_lt, int_le, ◌&&◌, Bool, true, false, cond, List, [], ◌∷◌, ◌++◌, Option, Some, None, Result, Ok, Err, bytes_eq, refl, sym, ap, ◌∙◌, subst, codes}
+use Rattle.std.proofs.Common.{◌≡◌, ℕ, ℤ, suc, ◌^◌, pos, nat_lt, int_le, ◌&&◌, Bool, true, false, List, [], ◌∷◌, ◌++◌, Option, Some, None, Result, Ok, Err, bytes_eq, refl, sym, ap, ◌∙◌, subst, codes}
 use Rattle.serde_json.specs.Data.{Data, null, boolean, number, string, array, object, Items, no_items, item, Members, unsigned, negative, float}
-use Rattle.serde_json.specs.Find.{get_member}
 use Rattle.ps_json.specs.Answer.{then_with}
 use Rattle.ps_json.specs.Each.{read_each}
 use Rattle.ps_json.specs.Fields.{without_member}
@@ -9,8 +8,8 @@ use Rattle.ps_json.specs.Kinds.{items_list}
 use Rattle.ps_json.specs.Member.{required, optional, member_then}
 use Rattle.limit_ident.specs.Address.{block_of}
 use Rattle.limit_ident.specs.Fault.{wrapped}
-use Rattle.limit_ident.specs.Member.{object_in, whole_in, ended, described, text_in, flag_in}
-use Rattle.limit_ident.specs.Named.{place_of, head_in, entry_in, entries_from, entries_in, new_in, place_in}
+use Rattle.limit_ident.specs.Member.{whole_in, ended, described, text_in, flag_in}
+use Rattle.limit_ident.specs.Named.{place_of, entry_in, entries_from, entries_in, new_in, place_in}
 use Rattle.limit_ident.specs.Plain.{IsPlain, ArePlainItems, ArePlain, IsFlat, AreFlatItems, AreFlat, Gives}
 use Rattle.limit_ident.specs.ReadClassifiers.{require_of, require_in, places_in, classifier_of, classifiers_of}
 use Rattle.limit_ident.specs.ReadIdentifiers.{kind_of, kind_in, hint_in, style_in, match_in, hinted_in, block_in, blocks_in, cidr_list_in, always_of, condition_of, told_of, after_told, rest_of, identifier_of, identifiers_of}
@@ -19,14 +18,13 @@ use Rattle.limit_ident.specs.declared.identifier.Condition.{Condition}
 use Rattle.limit_ident.specs.declared.identifier.Condition.TheVariants.{Always as always, CidrList as cidr_list, Hint as hinted}
 use Rattle.limit_ident.specs.declared.identifier.Hint.{Hint}
 use Rattle.limit_ident.specs.declared.identifier.Identifier.{Identifier}
-use Rattle.limit_ident.specs.declared.identifier.Style.{Style}
 use Rattle.limit_ident.specs.declared.named.Named.{Named}
 use Rattle.limit_ident.specs.declared.address.Block.{Block}
 use Rattle.limit_ident.specs.declared.read_identifiers.Kind.{Kind}
 use Rattle.limit_ident.specs.declared.read_identifiers.Kind.TheVariants.{Always, CidrList, Hint as hint}
 use Rattle.limit_ident.specs.declared.require.Require.{Require}
 use Rattle.limit_ident.specs.declared.require.Require.TheVariants.{Any as any}
-use Rattle.limit_ident.proofs.PlainLemmas.{gives_then, gives_more, gives_to, gives_object, gives_required, gives_optional, gives_ended, gives_text, gives_flag, gives_each, gives_some, ends, ends_described, by_text, all_of, plain_without}
+use Rattle.limit_ident.proofs.PlainLemmas.{gives_then, gives_more, gives_to, gives_object, gives_required, gives_optional, gives_text, gives_flag, gives_each, gives_some, ends, ends_described, by_text, all_of, plain_without}
 
 -- ---- members
 

@@ -1,8 +1,8 @@
 -- What one outcome leaves of a requirement.
-use Rattle.std.proofs.Common.{◌≡◌, ◌≤◌, ◌==◌, nat_le, Bool, true, false, List, [], ◌∷◌, length, refl, arith}
+use Rattle.std.proofs.Common.{◌≡◌, ◌≤◌, Bool, true, false, List, [], ◌∷◌, length, arith}
 use Rattle.std.proofs.lemmas.Bool.Decides.{nat_tests}
 use Rattle.limit_ident.specs.declared.require.Require.{Require}
-use Rattle.limit_ident.specs.declared.require.Require.TheVariants.{All, Any, One, None as no_one}
+use Rattle.limit_ident.specs.declared.require.Require.TheVariants.{All}
 use Rattle.limit_ident.specs.Require.{trues, met}
 
 trues_few : (outcomes : List Bool) → trues outcomes ≤ length outcomes

@@ -1,5 +1,5 @@
 -- Which classifiers a JSON tree is.
-use Rattle.std.specs.Prelude.{ℕ, List, [], ◌∷◌, ◌++◌, Option, Some, None, Result, Ok, Err, if◌then◌else◌, bytes_eq, codes}
+use Rattle.std.specs.Prelude.{ℕ, List, Option, Some, None, Result, Ok, Err, if◌then◌else◌, bytes_eq, codes}
 use Rattle.serde_json.specs.Data.{Data, Members}
 use Rattle.ps_json.specs.Each.{read_each}
 use Rattle.ps_json.specs.Answer.{then_with}
@@ -12,7 +12,7 @@ use Rattle.limit_ident.specs.declared.named.Named.{Named}
 use Rattle.limit_ident.specs.declared.require.Require.{Require}
 use Rattle.limit_ident.specs.declared.require.Require.TheVariants.{All as all, Any as any, One as one, None as no_one}
 use Rattle.ps_json.specs.Member.{required, optional, member_then}
-use Rattle.limit_ident.specs.Member.{text_in, object_in, some_in, described}
+use Rattle.limit_ident.specs.Member.{text_in, some_in, described}
 use Rattle.limit_ident.specs.Fault.{wrapped}
 use Rattle.limit_ident.specs.Named.{place_in, entries_in}
 

@@ -10,4 +10,5 @@ pub mod member;
 pub mod named;
 pub mod read_classifiers;
 pub mod read_identifiers;
+pub mod read_lists;
 pub mod require;

@@ -16,7 +16,7 @@ use serde_json::Value;
 use std::alloc::Global;
 
 /// The items of a list that isn't empty.
-pub fn read_some(alloc: Global, value: Value, name: &str) -> Result<Vec<Value>, LimitFault>
+pub(crate) fn read_some(alloc: Global, value: Value, name: &str) -> Result<Vec<Value>, LimitFault>
     ensures { GivesUnless LimitFault.Memory (seen_as (λ v. map view v.items) result) (some_in name.now (view value)) }
 {
     let items = read_list(alloc, value, name)?;

@@ -75,7 +75,7 @@ fn with_place(
 }
 
 impl<T> Entries<T> {
-    pub fn new(alloc: Global) -> Entries<T>
+    pub(crate) fn new(alloc: Global) -> Entries<T>
         ensures { result ≡ [] }
     {
         Entries {
@@ -107,7 +107,7 @@ impl<T> Entries<T> {
 
 impl<T: Drop> Entries<T> {
     /// The same entries, and one more behind them.
-    pub fn with(self, alloc: Global, entry: Named<T>) -> Result<Entries<T>, Memory>
+    pub(crate) fn with(self, alloc: Global, entry: Named<T>) -> Result<Entries<T>, Memory>
         ensures { IfOk result (λ made. made ≡ self ++ entry ∷ []) }
     {
         let Entries { mut list, places } = self;
@@ -150,7 +150,7 @@ pub fn read_place<T>(
 }
 
 /// The name of an entry of the list `list`, and what stands behind it.
-pub fn read_head<T>(
+pub(crate) fn read_head<T>(
     alloc: Global,
     value: Value,
     list: &str,

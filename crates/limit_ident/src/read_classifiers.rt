@@ -1,20 +1,19 @@
 //! The reader of classifiers.
-ghost use Rattle.std.specs.Prelude.{◌≡◌, [], map, codes};
+ghost use Rattle.std.specs.Prelude.{◌≡◌, codes};
 ghost use Rattle.serde_json.specs.View.{view};
-ghost use Rattle.ps_json.specs.Each.{read_each};
 ghost use Rattle.ps_json.specs.Answer.{GivesUnless};
 ghost use Rattle.ps_json.specs.Fields.{without_member};
 ghost use Rattle.ps_json.specs.Member.{required, optional};
 ghost use Rattle.limit_ident.specs.Fault.{wrapped};
 ghost use Rattle.limit_ident.specs.declared.require.Require.TheVariants.{Any as any};
-ghost use Rattle.limit_ident.specs.Named.{place_in, entry_in, entries_from};
-ghost use Rattle.limit_ident.specs.ReadClassifiers.{require_of, require_in, places_in, classifier_of, classifiers_of};
+ghost use Rattle.limit_ident.specs.ReadClassifiers.{require_of, require_in, places_in, classifiers_of};
 
 use crate::classifier::Classifier;
 use crate::fault::LimitFault;
 use crate::identifier::Identifier;
-use crate::member::{end_described, read_some};
-use crate::named::{Entries, Named, read_head, read_place};
+use crate::member::end_described;
+use crate::named::{Entries, read_place};
+use crate::read_lists::{ReadEntry, ReadItem, read_entries, read_items};
 use crate::require::Require;
 use ps_json::fault::JsonFault;
 use ps_json::fields::Fields;
@@ -56,19 +55,23 @@ fn take_require(alloc: Global, fields: &mut Fields) -> Result<Require, LimitFaul
     }
 }
 
-fn read_listed<T>(
-    alloc: Global,
-    values: Vec<Value>,
-    name: &str,
-    entries: &Entries<T>,
-) -> Result<Items<usize>, LimitFault>
-    ensures { GivesUnless LimitFault.Memory result (read_each (place_in entries.now name.now) (map view values.items)) }
-{
-    let mut places = Items::new(alloc);
-    for value in values {
-        places.push(read_place(alloc, value, name, entries)?)?;
+/// Reads the names of entries, which stand in the member `member`.
+#[derive(Clone, Copy)]
+struct PlaceReader<'a, T> {
+    member: &'a str,
+    entries: &'a Entries<T>,
+}
+
+impl<'a, T> ReadItem for PlaceReader<'a, T> {
+    type Item = usize;
+
+    ghost use Rattle.limit_ident.specs.Named.{place_in};
+
+    ghost item = { λ r d. place_in r.entries.now r.member.now d };
+
+    fn read_item(&self, alloc: Global, value: Value) -> Result<usize, LimitFault> {
+        read_place(alloc, value, self.member, self.entries)
     }
-    Ok(places)
 }
 
 /// The places of the entries that a list names, which isn't empty.
@@ -80,8 +83,11 @@ pub fn read_places<T>(
 ) -> Result<Items<usize>, LimitFault>
     ensures { GivesUnless LimitFault.Memory result (places_in entries.now name.now (view value)) }
 {
-    let values = read_some(alloc, value, name)?;
-    read_listed(alloc, values, name, entries)
+    let reader = PlaceReader {
+        member: name,
+        entries,
+    };
+    read_items(alloc, value, name, &reader)
 }
 
 fn need_identifiers(
@@ -97,51 +103,27 @@ fn need_identifiers(
     read_places(alloc, value, "identifiers", identifiers)
 }
 
-/// What stands behind the name.
-fn read_rest(
-    alloc: Global,
-    mut fields: Fields,
-    identifiers: &Entries<Identifier>,
-) -> Result<Classifier, LimitFault>
-    ensures { GivesUnless LimitFault.Memory result (classifier_of identifiers.now fields) }
-{
-    let places = need_identifiers(alloc, &mut fields, identifiers)?;
-    let require = take_require(alloc, &mut fields)?;
-    end_described(alloc, fields)?;
-    Ok(Classifier {
-        identifiers: places,
-        require,
-    })
+#[derive(Clone, Copy)]
+struct ClassifierReader<'a> {
+    identifiers: &'a Entries<Identifier>,
 }
 
-fn read_classifier(
-    alloc: Global,
-    value: Value,
-    identifiers: &Entries<Identifier>,
-    before: &Entries<Classifier>,
-) -> Result<Named<Classifier>, LimitFault>
-    ensures { GivesUnless LimitFault.Memory result
-        (entry_in (codes "classifiers") (classifier_of identifiers.now) before.now (view value)) }
-{
-    let (name, fields) = read_head(alloc, value, "classifiers", before)?;
-    let value = read_rest(alloc, fields, identifiers)?;
-    Ok(Named { name, value })
-}
+impl<'a> ReadEntry for ClassifierReader<'a> {
+    type Entry = Classifier;
 
-fn read_entries(
-    alloc: Global,
-    values: Vec<Value>,
-    identifiers: &Entries<Identifier>,
-) -> Result<Entries<Classifier>, LimitFault>
-    ensures { GivesUnless LimitFault.Memory result
-        (entries_from (codes "classifiers") (classifier_of identifiers.now) [] (map view values.items)) }
-{
-    let mut entries = Entries::new(alloc);
-    for value in values {
-        let entry = read_classifier(alloc, value, identifiers, &entries)?;
-        entries = entries.with(alloc, entry)?;
+    ghost use Rattle.limit_ident.specs.ReadClassifiers.{classifier_of};
+
+    ghost rest = { λ r ms. classifier_of r.identifiers.now ms };
+
+    fn read_rest(&self, alloc: Global, mut fields: Fields) -> Result<Classifier, LimitFault> {
+        let places = need_identifiers(alloc, &mut fields, self.identifiers)?;
+        let require = take_require(alloc, &mut fields)?;
+        end_described(alloc, fields)?;
+        Ok(Classifier {
+            identifiers: places,
+            require,
+        })
     }
-    Ok(entries)
 }
 
 /// The classifiers that the member `classifiers` of a configuration is, over its identifiers: a list
@@ -154,6 +136,10 @@ pub fn read_classifiers(
 ) -> Result<Entries<Classifier>, LimitFault>
     ensures { GivesUnless LimitFault.Memory result (classifiers_of identifiers.now (view value)) }
 {
-    let values = read_some(alloc, value, "classifiers")?;
-    read_entries(alloc, values, identifiers)
+    read_entries(
+        alloc,
+        value,
+        "classifiers",
+        &ClassifierReader { identifiers },
+    )
 }

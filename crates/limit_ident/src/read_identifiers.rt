@@ -1,23 +1,21 @@
 //! The reader of identifiers.
-ghost use Rattle.std.specs.Prelude.{◌≡◌, [], map, option_map, codes, OnOk};
+ghost use Rattle.std.specs.Prelude.{◌≡◌, option_map, codes, OnOk};
 ghost use Rattle.serde_json.specs.View.{view};
-ghost use Rattle.ps_json.specs.Each.{read_each};
 ghost use Rattle.ps_json.specs.Answer.{GivesUnless};
 ghost use Rattle.ps_json.specs.Fields.{without_member};
 ghost use Rattle.ps_json.specs.Member.{required};
 ghost use Rattle.limit_ident.specs.Fault.{wrapped};
-ghost use Rattle.limit_ident.specs.ReadIdentifiers.{kind_of, kind_in, hint_in, style_in, match_in, hinted_in, block_in, cidr_list_in, always_of, condition_of, told_of, after_told, rest_of, identifier_of, identifiers_of};
-ghost use Rattle.limit_ident.specs.Named.{entry_in, entries_from};
+ghost use Rattle.limit_ident.specs.ReadIdentifiers.{kind_of, kind_in, hint_in, style_in, match_in, hinted_in, cidr_list_in, always_of, condition_of, told_of, after_told, rest_of, identifiers_of};
 
 use crate::address::{Block, read_block};
 use crate::fault::LimitFault;
 use crate::identifier::{Condition, Hint, Identifier, Style};
-use crate::member::{end_described, need_text, read_some, take_flag};
-use crate::named::{Entries, Named, read_head};
+use crate::member::{end_described, need_text, take_flag};
+use crate::named::Entries;
+use crate::read_lists::{ReadEntry, ReadItem, read_entries, read_items};
 use ps_json::fault::JsonFault;
 use ps_json::fields::Fields;
 use ps_json::kinds::read_text;
-use ps_time::items::Items;
 use ps_time::text::Text;
 use serde_json::Value;
 use std::alloc::Global;
@@ -97,32 +95,30 @@ fn read_hint_data(alloc: Global, value: Value) -> Result<Condition, LimitFault>
     Ok(Condition::Hint { hint, style, text })
 }
 
-fn read_block_in(alloc: Global, value: Value) -> Result<Block, LimitFault>
-    ensures { GivesUnless LimitFault.Memory result (block_in (view value)) }
-{
-    let text = Text::from_string(read_text(alloc, value, "cidrs")?);
-    match read_block(text.as_str()) {
-        Some(block) => Ok(block),
-        None => Err(LimitFault::BadCidr(text)),
-    }
-}
+#[derive(Clone, Copy)]
+struct BlockReader;
 
-fn read_blocks(alloc: Global, values: Vec<Value>) -> Result<Items<Block>, LimitFault>
-    ensures { GivesUnless LimitFault.Memory result (read_each block_in (map view values.items)) }
-{
-    let mut blocks = Items::new(alloc);
-    for value in values {
-        blocks.push(read_block_in(alloc, value)?)?;
+impl ReadItem for BlockReader {
+    type Item = Block;
+
+    ghost use Rattle.limit_ident.specs.ReadIdentifiers.{block_in};
+
+    ghost item = { λ r d. block_in d };
+
+    fn read_item(&self, alloc: Global, value: Value) -> Result<Block, LimitFault> {
+        let text = Text::from_string(read_text(alloc, value, "cidrs")?);
+        match read_block(text.as_str()) {
+            Some(block) => Ok(block),
+            None => Err(LimitFault::BadCidr(text)),
+        }
     }
-    Ok(blocks)
 }
 
 fn read_cidr_data(alloc: Global, value: Value) -> Result<Condition, LimitFault>
     ensures { GivesUnless LimitFault.Memory result (cidr_list_in (codes "data") (view value)) }
 {
     let mut fields = Fields::open(alloc, value, "data")?;
-    let values = read_some(alloc, fields.need(alloc, "cidrs")?, "cidrs")?;
-    let blocks = read_blocks(alloc, values)?;
+    let blocks = read_items(alloc, fields.need(alloc, "cidrs")?, "cidrs", &BlockReader)?;
     fields.end(alloc)?;
     Ok(Condition::CidrList(blocks))
 }
@@ -162,7 +158,7 @@ fn take_identifier(alloc: Global, fields: &mut Fields, kind: Kind) -> Result<Ide
 }
 
 /// What stands behind the type.
-fn read_rest(alloc: Global, mut fields: Fields, kind: Kind) -> Result<Identifier, LimitFault>
+fn read_typed(alloc: Global, mut fields: Fields, kind: Kind) -> Result<Identifier, LimitFault>
     ensures { GivesUnless LimitFault.Memory result (rest_of kind fields) }
 {
     let identifier = take_identifier(alloc, &mut fields, kind)?;
@@ -170,28 +166,20 @@ fn read_rest(alloc: Global, mut fields: Fields, kind: Kind) -> Result<Identifier
     Ok(identifier)
 }
 
-fn read_identifier(
-    alloc: Global,
-    value: Value,
-    before: &Entries<Identifier>,
-) -> Result<Named<Identifier>, LimitFault>
-    ensures { GivesUnless LimitFault.Memory result (entry_in (codes "identifiers") identifier_of before.now (view value)) }
-{
-    let (name, mut fields) = read_head(alloc, value, "identifiers", before)?;
-    let kind = need_kind(alloc, &mut fields)?;
-    let value = read_rest(alloc, fields, kind)?;
-    Ok(Named { name, value })
-}
+#[derive(Clone, Copy)]
+struct IdentifierReader;
 
-fn read_entries(alloc: Global, values: Vec<Value>) -> Result<Entries<Identifier>, LimitFault>
-    ensures { GivesUnless LimitFault.Memory result (entries_from (codes "identifiers") identifier_of [] (map view values.items)) }
-{
-    let mut entries = Entries::new(alloc);
-    for value in values {
-        let entry = read_identifier(alloc, value, &entries)?;
-        entries = entries.with(alloc, entry)?;
+impl ReadEntry for IdentifierReader {
+    type Entry = Identifier;
+
+    ghost use Rattle.limit_ident.specs.ReadIdentifiers.{identifier_of};
+
+    ghost rest = { λ r ms. identifier_of ms };
+
+    fn read_rest(&self, alloc: Global, mut fields: Fields) -> Result<Identifier, LimitFault> {
+        let kind = need_kind(alloc, &mut fields)?;
+        read_typed(alloc, fields, kind)
     }
-    Ok(entries)
 }
 
 /// The identifiers that the member `identifiers` of a configuration is: a list that isn't empty. The first
@@ -199,6 +187,5 @@ fn read_entries(alloc: Global, values: Vec<Value>) -> Result<Entries<Identifier>
 pub fn read_identifiers(alloc: Global, value: Value) -> Result<Entries<Identifier>, LimitFault>
     ensures { GivesUnless LimitFault.Memory result (identifiers_of (view value)) }
 {
-    let values = read_some(alloc, value, "identifiers")?;
-    read_entries(alloc, values)
+    read_entries(alloc, value, "identifiers", &IdentifierReader)
 }

@@ -1,5 +1,5 @@
 -- Limits that are read have whole numbers alone and are flat, and a refusal hides no want of memory.
-use Rattle.std.proofs.Common.{◌≡◌, ℕ, ℤ, suc, pos, nat_lt, if◌then◌else◌, Bool, true, false, List, [], Option, Some, None, Result, Ok, Err, is_some, refl, sym, ap, ◌∙◌, subst, unsigned_abs, codes}
+use Rattle.std.proofs.Common.{◌≡◌, ℕ, suc, pos, nat_lt, if◌then◌else◌, false, List, [], Option, Some, None, Result, Ok, Err, refl, sym, ap, ◌∙◌, subst, unsigned_abs, codes}
 use Rattle.serde_json.specs.Data.{Data, null, boolean, number, string, array, object, Members}
 use Rattle.ps_json.specs.Answer.{then_with}
 use Rattle.ps_json.specs.Each.{read_each}
@@ -13,11 +13,11 @@ use Rattle.ps_time.specs.declared.moment.TimeFault.{TimeFault}
 use Rattle.plugin_core.specs.Kind.{kind_of_text}
 use Rattle.plugin_core.specs.declared.kind.TestKind.{TestKind}
 use Rattle.limit_ident.specs.Fault.{wrapped}
-use Rattle.limit_ident.specs.Member.{object_in, whole_in, ended, described, text_in, flag_in}
+use Rattle.limit_ident.specs.Member.{whole_in, ended, described, flag_in}
 use Rattle.limit_ident.specs.Plain.{IsPlain, ArePlain, IsFlat, AreFlat, Gives}
 use Rattle.limit_ident.specs.declared.fault.LimitFault.{LimitFault}
 use Rattle.limit_ident.specs.declared.fault.LimitFault.TheVariants.{BadRange}
-use Rattle.limit_ident.proofs.PlainLemmas.{gives_then, gives_more, gives_to, gives_unless, gives_object, gives_required, gives_optional, gives_text, gives_flag, gives_each, gives_some, gives_ended, ends, ends_described, by_text, all_of, plain_without}
+use Rattle.limit_ident.proofs.PlainLemmas.{gives_then, gives_more, gives_to, gives_unless, gives_object, gives_required, gives_optional, gives_flag, gives_each, gives_some, ends, ends_described, by_text, all_of, plain_without}
 use Rattle.limit_ident.proofs.FlatLemmas.{gives_whole, gives_entries}
 use Rattle.limit_rule.specs.ReadLimits.{kind_of, kind_in, length_in, moment_in, test_name_in, test_names_in, range_in, bounds_in, some_bounds_in, lengths_in, pass_of, test_type_in, test_in, dates_of, dates_in, times_in, rule_of, told_of, after_told, rest_of, limit_of, limits_in}
 use Rattle.limit_rule.specs.ReadSchedule as schedules

@@ -1,20 +1,19 @@
 //! The reader of limits.
-ghost use Rattle.std.specs.Prelude.{◌≡◌, [], map, option_map, codes, OnOk};
+ghost use Rattle.std.specs.Prelude.{◌≡◌, option_map, codes, OnOk};
 ghost use Rattle.serde_json.specs.View.{view};
-ghost use Rattle.ps_json.specs.Each.{read_each};
 ghost use Rattle.ps_json.specs.Answer.{GivesUnless};
 ghost use Rattle.ps_json.specs.Fields.{without_member};
 ghost use Rattle.ps_json.specs.Member.{required, optional};
 ghost use Rattle.limit_ident.specs.Fault.{wrapped};
-ghost use Rattle.limit_rule.specs.ReadLimits.{kind_of, kind_in, test_name_in, pass_of, test_type_in, length_in, moment_in, range_in, bounds_in, some_bounds_in, lengths_in, test_in, dates_in, dates_of, times_in, rule_of, told_of, after_told, rest_of, limit_of, limits_in};
-ghost use Rattle.limit_ident.specs.Named.{entry_in, entries_from};
+ghost use Rattle.limit_rule.specs.ReadLimits.{kind_of, kind_in, test_name_in, pass_of, test_type_in, length_in, moment_in, range_in, bounds_in, some_bounds_in, lengths_in, test_in, dates_in, dates_of, times_in, rule_of, told_of, after_told, rest_of, limits_in};
 
 use crate::bounds::Bounds;
 use crate::limit::{DateRange, Lengths, Limit, Rule};
 use crate::read_schedule::read_schedule;
 use limit_ident::fault::LimitFault;
-use limit_ident::member::{end_described, need_text, read_some, take_flag};
-use limit_ident::named::{Entries, Named, read_head};
+use limit_ident::member::{end_described, need_text, take_flag};
+use limit_ident::named::Entries;
+use limit_ident::read_lists::{ReadEntry, ReadItem, read_entries, read_items};
 use plugin_core::kind::{self, TestKind};
 use ps_json::fault::JsonFault;
 use ps_json::fields::Fields;
@@ -86,26 +85,28 @@ fn read_test_name(alloc: Global, value: Value, name: &str) -> Result<TestKind, L
     }
 }
 
-fn read_test_names(
-    alloc: Global,
-    values: Vec<Value>,
-    name: &str,
-) -> Result<Items<TestKind>, LimitFault>
-    ensures { GivesUnless LimitFault.Memory result (read_each (test_name_in name.now) (map view values.items)) }
-{
-    let mut kinds = Items::new(alloc);
-    for value in values {
-        kinds.push(read_test_name(alloc, value, name)?)?;
+/// Reads the items of `types`.
+#[derive(Clone, Copy)]
+struct TypeReader;
+
+impl ReadItem for TypeReader {
+    type Item = TestKind;
+
+    ghost use Rattle.std.specs.Prelude.{codes};
+    ghost use Rattle.limit_rule.specs.ReadLimits.{test_name_in};
+
+    ghost item = { λ r d. test_name_in (codes "types") d };
+
+    fn read_item(&self, alloc: Global, value: Value) -> Result<TestKind, LimitFault> {
+        read_test_name(alloc, value, "types")
     }
-    Ok(kinds)
 }
 
 fn read_type_data(alloc: Global, value: Value) -> Result<Rule, LimitFault>
     ensures { GivesUnless LimitFault.Memory result (test_type_in (codes "data") (view value)) }
 {
     let mut fields = Fields::open(alloc, value, "data")?;
-    let values = read_some(alloc, fields.need(alloc, "types")?, "types")?;
-    let kinds = read_test_names(alloc, values, "types")?;
+    let kinds = read_items(alloc, fields.need(alloc, "types")?, "types", &TypeReader)?;
     fields.end(alloc)?;
     Ok(Rule::TestType(kinds))
 }
@@ -257,7 +258,7 @@ fn take_limit(alloc: Global, fields: &mut Fields, kind: Kind) -> Result<Limit, L
 }
 
 /// What stands behind the type.
-fn read_rest(alloc: Global, mut fields: Fields, kind: Kind) -> Result<Limit, LimitFault>
+fn read_typed(alloc: Global, mut fields: Fields, kind: Kind) -> Result<Limit, LimitFault>
     ensures { GivesUnless LimitFault.Memory result (rest_of kind fields) }
 {
     let limit = take_limit(alloc, &mut fields, kind)?;
@@ -265,34 +266,25 @@ fn read_rest(alloc: Global, mut fields: Fields, kind: Kind) -> Result<Limit, Lim
     Ok(limit)
 }
 
-fn read_limit(
-    alloc: Global,
-    value: Value,
-    before: &Entries<Limit>,
-) -> Result<Named<Limit>, LimitFault>
-    ensures { GivesUnless LimitFault.Memory result (entry_in (codes "limits") limit_of before.now (view value)) }
-{
-    let (name, mut fields) = read_head(alloc, value, "limits", before)?;
-    let kind = need_kind(alloc, &mut fields)?;
-    let value = read_rest(alloc, fields, kind)?;
-    Ok(Named { name, value })
-}
+#[derive(Clone, Copy)]
+struct LimitReader;
 
-fn read_entries(alloc: Global, values: Vec<Value>) -> Result<Entries<Limit>, LimitFault>
-    ensures { GivesUnless LimitFault.Memory result (entries_from (codes "limits") limit_of [] (map view values.items)) }
-{
-    let mut entries = Entries::new(alloc);
-    for value in values {
-        let entry = read_limit(alloc, value, &entries)?;
-        entries = entries.with(alloc, entry)?;
+impl ReadEntry for LimitReader {
+    type Entry = Limit;
+
+    ghost use Rattle.limit_rule.specs.ReadLimits.{limit_of};
+
+    ghost rest = { λ r ms. limit_of ms };
+
+    fn read_rest(&self, alloc: Global, mut fields: Fields) -> Result<Limit, LimitFault> {
+        let kind = need_kind(alloc, &mut fields)?;
+        read_typed(alloc, fields, kind)
     }
-    Ok(entries)
 }
 
 /// The limits that the member `limits` is: a list that isn't empty.
 pub fn read_limits(alloc: Global, value: Value) -> Result<Entries<Limit>, LimitFault>
     ensures { GivesUnless LimitFault.Memory result (limits_in (codes "limits") (view value)) }
 {
-    let values = read_some(alloc, value, "limits")?;
-    read_entries(alloc, values)
+    read_entries(alloc, value, "limits", &LimitReader)
 }

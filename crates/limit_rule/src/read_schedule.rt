@@ -1,17 +1,17 @@
 //! The reader of schedules.
-ghost use Rattle.std.specs.Prelude.{◌≡◌, [], map, codes, OnOk};
+ghost use Rattle.std.specs.Prelude.{◌≡◌, [], codes, OnOk};
 ghost use Rattle.serde_json.specs.View.{view};
-ghost use Rattle.ps_json.specs.Each.{read_each};
 ghost use Rattle.ps_json.specs.Answer.{GivesUnless};
 ghost use Rattle.ps_json.specs.Fields.{without_member};
 ghost use Rattle.ps_json.specs.Member.{required, optional};
 ghost use Rattle.limit_ident.specs.Fault.{wrapped};
-ghost use Rattle.limit_rule.specs.ReadSchedule.{number_in, range_in, item_of, numbers_in, schedule_of, after_schedule, schedule_in};
+ghost use Rattle.limit_rule.specs.ReadSchedule.{number_in, range_in, numbers_in, schedule_of, after_schedule, schedule_in};
 
 use crate::bounds::Bounds;
 use crate::schedule::Schedule;
 use limit_ident::fault::LimitFault;
-use limit_ident::member::{read_some, read_whole, take_flag};
+use limit_ident::member::{read_whole, take_flag};
+use limit_ident::read_lists::{ReadItem, read_items};
 use ps_json::fields::Fields;
 use ps_time::items::Items;
 use serde_json::Value;
@@ -68,40 +68,31 @@ fn read_range(
     Ok(Bounds { lower, upper })
 }
 
-/// A number, or a range of numbers.
-fn read_item(
-    alloc: Global,
-    value: Value,
-    place: &str,
+/// Reads the items of the member `place`, each a number or a range of numbers.
+#[derive(Clone, Copy)]
+struct BoundsReader<'a> {
+    place: &'a str,
     least: u8,
     most: u8,
-) -> Result<Bounds, LimitFault>
-    ensures { GivesUnless LimitFault.Memory result (item_of least most place.now (view value)) }
-{
-    if value.is_object() {
-        return read_range(alloc, value, place, least, most);
-    }
-    let number = read_number(alloc, value, place, place, least, most)?;
-    Ok(Bounds {
-        lower: number,
-        upper: number,
-    })
 }
 
-fn read_items(
-    alloc: Global,
-    values: Vec<Value>,
-    place: &str,
-    least: u8,
-    most: u8,
-) -> Result<Items<Bounds>, LimitFault>
-    ensures { GivesUnless LimitFault.Memory result (read_each (item_of least most place.now) (map view values.items)) }
-{
-    let mut items = Items::new(alloc);
-    for value in values {
-        items.push(read_item(alloc, value, place, least, most)?)?;
+impl<'a> ReadItem for BoundsReader<'a> {
+    type Item = Bounds;
+
+    ghost use Rattle.limit_rule.specs.ReadSchedule.{item_of};
+
+    ghost item = { λ r d. item_of r.least r.most r.place.now d };
+
+    fn read_item(&self, alloc: Global, value: Value) -> Result<Bounds, LimitFault> {
+        if value.is_object() {
+            return read_range(alloc, value, self.place, self.least, self.most);
+        }
+        let number = read_number(alloc, value, self.place, self.place, self.least, self.most)?;
+        Ok(Bounds {
+            lower: number,
+            upper: number,
+        })
     }
-    Ok(items)
 }
 
 /// The ranges that the member is, or none where it is left out.
@@ -119,8 +110,8 @@ fn take_numbers(
     match fields.take(place) {
         None => Ok(Items::new(alloc)),
         Some(value) => {
-            let values = read_some(alloc, value, place)?;
-            read_items(alloc, values, place, least, most)
+            let reader = BoundsReader { place, least, most };
+            read_items(alloc, value, place, &reader)
         }
     }
 }

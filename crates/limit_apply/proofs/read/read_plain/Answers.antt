@@ -5,7 +5,7 @@ use Rattle.limit_apply.proofs.FlatLemmas.{gives_parts, answer_told, answer_flat}
 use Rattle.limit_apply.proofs.read.read_plain.Goals as goal
 
 pub returns-clause-flat : goal.returns-clause-flat
-returns-clause-flat c = answer_flat (IsFlat 64 (view c.args.value)) _ (parts_of (view c.args.value)) c.read_parts.ensures.value (gives_parts (view c.args.value) c.requires)
+returns-clause-flat c = answer_flat (IsFlat 64 (view c.args.value)) _ (parts_of (view c.args.value)) c.read_parts.ensures (gives_parts (view c.args.value) c.requires)
 
 pub returns-clause-told : goal.returns-clause-told
-returns-clause-told c = answer_told (IsFlat 64 (view c.args.value)) _ (parts_of (view c.args.value)) c.read_parts.ensures.value (gives_parts (view c.args.value) c.requires)
+returns-clause-told c = answer_told (IsFlat 64 (view c.args.value)) _ (parts_of (view c.args.value)) c.read_parts.ensures (gives_parts (view c.args.value) c.requires)
