@@ -29,9 +29,3 @@ module _ (r : RunRow) (rest : List RunRow) where
   pub front_up : (xs : List RunRow) → IsAscendingRows (xs ++ r ∷ rest) → IsAscendingRows xs
   front_up [] up = tt
   front_up (x ∷ xs) up = (before_seam (λ y. key_cmp x.key y.key ≡ Less) xs up.0, front_up xs up.1)
-
--- as far as a loop over the rows that come has put them
-pub one_put : (r : RunRow) (left xs news items : List RunRow) → news ≡ put_row xs r → items ≡ r ∷ left → IsAscendingRows (xs ++ items) → news ++ left ≡ xs ++ items
-one_put r left xs news items put is up =
-    let here : put_row xs r ≡ xs ++ r ∷ [] = put_last r left xs (subst (λ l. IsAscendingRows (xs ++ l)) is up) in
-    ap (λ l. l ++ left) (put ∙ here) ∙ (append_assoc xs (r ∷ []) left ∙ ap (λ l. xs ++ l) (sym is))

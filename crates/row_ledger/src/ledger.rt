@@ -14,7 +14,6 @@ ghost use Rattle.row_ledger.specs.Ledger.{bytes_at, fact_bytes, is_live_at, most
 ghost use Rattle.row_ledger.specs.Closing.{closed_each};
 
 use crate::deadlines::{Deadlines, deadline_at, file_each, lapse_at};
-use crate::restore::restored_rows;
 use crate::staying::{newest_beside, next_purge, sooner};
 use host_timeline::booking::Booking;
 use host_timeline::timeline::Timeline;
@@ -95,7 +94,7 @@ impl Ledger {
         live.reserve(rows.len())?;
         let mut deadlines = Deadlines::new(alloc);
         deadlines.reserve(rows.len())?;
-        let rows = restored_rows(alloc, rows)?;
+        let rows = Rows::of(rows);
         let bytes = counted_bytes(rows.list())?;
         file_each(&mut deadlines, rows.list());
         let next_purge = next_purge(&rows, number);

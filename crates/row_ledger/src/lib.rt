@@ -4,5 +4,4 @@
 
 pub mod deadlines;
 pub mod ledger;
-mod restore;
 mod staying;

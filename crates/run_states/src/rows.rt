@@ -14,6 +14,7 @@ use crate::fact::Fact;
 use crate::life::LifeStep;
 use crate::row::RunRow;
 use crate::why::Closing;
+use ps_time::items::Items;
 use ps_time::key::RunKey;
 use ps_time::memory::Memory;
 use ps_time::moment::Moment;
@@ -44,6 +45,16 @@ impl Rows {
     {
         Rows {
             rows: Vec::new(alloc),
+        }
+    }
+
+    /// These rows, where they are; nothing is copied, and no place is reserved anew.
+    pub fn of(rows: Items<RunRow>) -> Rows
+        requires { IsAscendingRows rows }
+        ensures { result.list ≡ rows }
+    {
+        Rows {
+            rows: rows.into_vec(),
         }
     }
 
