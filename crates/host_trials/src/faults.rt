@@ -5,7 +5,7 @@ ghost use Rattle.ps_time.specs.declared.moment.TheConstants.{MAX_MOMENT};
 use crate::booking::{a_booking, later};
 use crate::fault::TableFault;
 use crate::given::{asked_of, clock_of};
-use crate::host::{KeptHost, Outcome};
+use crate::host::{Disks, KeptHost, Outcome};
 use crate::inputs::an_input;
 use ps_time::moment::Moment;
 use std::alloc::Global;
@@ -20,13 +20,13 @@ pub(crate) struct Step<'a> {
 /// What is left without a step, and with it.
 #[derive(Drop)]
 pub(crate) struct Books {
-    without: Vec<u8>,
-    with: Vec<u8>,
+    pub(crate) without: Vec<u8>,
+    pub(crate) with: Vec<u8>,
 }
 
 impl Books {
     /// The letter of what was found.
-    fn letter(&self, found: &[u8]) -> char {
+    pub(crate) fn letter(&self, found: &[u8]) -> char {
         let without = found == self.without.as_slice();
         let with = found == self.with.as_slice();
         match (without, with) {
@@ -47,8 +47,8 @@ fn make(alloc: Global, host: &mut KeptHost, line: &str) -> Result<Outcome, Table
     Ok(host.act(alloc, clock, input)?)
 }
 
-// All is deterministic, so the steps before lead to the same disks each time.
-fn host_before(alloc: Global, step: &Step) -> Result<KeptHost, TableFault> {
+/// The host after the steps before. All is deterministic, so these lead to the same disks each time.
+pub(crate) fn host_before(alloc: Global, step: &Step) -> Result<KeptHost, TableFault> {
     let mut host = KeptHost::fresh(alloc, 0)?;
     for line in step.before {
         make(alloc, &mut host, line.as_str())?;
@@ -73,12 +73,12 @@ pub(crate) fn calls_in(alloc: Global, step: &Step) -> Result<(u64, u64), TableFa
     Ok((first, second))
 }
 
-// The book that an opening of the host's disks gives.
-fn book_again(alloc: Global, clock: Moment, host: KeptHost) -> Result<Vec<u8>, TableFault>
+/// The book that an opening of the disks gives at a clock, in seconds since 1970 UTC.
+pub(crate) fn book_of(alloc: Global, clock: Moment, disks: Disks) -> Result<Vec<u8>, TableFault>
     requires { clock ≤ MAX_MOMENT }
 {
-    let again = KeptHost::on(alloc, clock, host.into_disks())?;
-    Ok(again.book_bytes(alloc)?)
+    let host = KeptHost::on(alloc, clock, disks)?;
+    Ok(host.book_bytes(alloc)?)
 }
 
 // The book after one booking more, and then the one that an opening gives.
@@ -88,7 +88,7 @@ fn book_after_next(alloc: Global, clock: Moment, host: KeptHost) -> Result<Vec<u
     let mut host = host;
     host.act(alloc, clock, a_booking(later(clock, NEXT_START)))?;
     let mut bytes = host.book_bytes(alloc)?;
-    let again = book_again(alloc, clock, host)?;
+    let again = book_of(alloc, clock, host.into_disks())?;
     bytes.extend_from_slice(again.as_slice())?;
     Ok(bytes)
 }

@@ -8,7 +8,7 @@ use crate::fault::TableFault;
 use host_journal::image::SnapshotImage;
 use host_keep::call::HostCall;
 use host_keep::host::Host;
-use host_keep::open::open;
+use host_keep::open::{KeepFault, KeepReason, open};
 use host_model::config::Config;
 use host_model::input::Input;
 use machine_keep::fault::StepFault;
@@ -66,10 +66,34 @@ impl KeptHost {
     pub(crate) fn on(alloc: Global, clock: Moment, disks: Disks) -> Result<KeptHost, TableFault>
         requires { clock ≤ MAX_MOMENT }
     {
+        match KeptHost::unless_fault(alloc, clock, disks)? {
+            Ok(host) => Ok(host),
+            Err(disks) => {
+                drop(disks);
+                Err(TableFault::NotOpened)
+            }
+        }
+    }
+
+    /// The same, or both disks where one of them failed.
+    pub(crate) fn unless_fault(
+        alloc: Global,
+        clock: Moment,
+        disks: Disks,
+    ) -> Result<Result<KeptHost, Disks>, TableFault>
+        requires { clock ≤ MAX_MOMENT }
+    {
         let config = config(alloc)?;
         let (first, second) = disks;
         match open(alloc, config, clock, first, second) {
-            Ok(keep) => Ok(KeptHost { keep }),
+            Ok(keep) => Ok(Ok(KeptHost { keep })),
+            Err(
+                KeepFault {
+                    first,
+                    second,
+                    reason: KeepReason::DiskFault,
+                },
+            ) => Ok(Err((first, second))),
             Err(fault) => {
                 drop(fault);
                 Err(TableFault::NotOpened)

@@ -2,9 +2,10 @@
 
 use crate::fault::TableFault;
 use crate::faults::{Step, calls_in, fault_letters, next_books};
-use crate::given::name_of;
+use crate::given::{asked_of, name_of};
 use crate::host::KeptHost;
 use crate::openings::cut_letters;
+use crate::reopenings::{calls_of, opening_letters};
 use std::println;
 
 fn print_host(rt: &HostRuntime, word: &str, host: &KeptHost) -> Result<(), TableFault> {
@@ -39,8 +40,18 @@ fn print_step(
     Ok(())
 }
 
-/// The line of a step.
+// The line of an opening that ends runs.
+fn tell_opening(rt: &HostRuntime, step: &Step) -> Result<(), TableFault> {
+    let calls = calls_of(rt.alloc(), step)?;
+    let letters = opening_letters(rt.alloc(), step, calls)?;
+    print_step(rt, name_of(step.line), calls, letters.as_str())
+}
+
+/// The line of a step, or of an opening.
 pub(crate) fn tell_step(rt: &HostRuntime, step: &Step) -> Result<(), TableFault> {
+    if asked_of(step.line) == "open" {
+        return tell_opening(rt, step);
+    }
     let calls = calls_in(rt.alloc(), step)?;
     let books = next_books(rt.alloc(), step)?;
     let letters = fault_letters(rt.alloc(), step, calls.0.max(calls.1), &books)?;
