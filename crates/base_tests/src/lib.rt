@@ -1,5 +1,5 @@
 //! The tests of ps_time, schedule_rule, slot_search and host_timeline, over their public items. What ps_time reads from texts
-//! is in reader_tests.
+//! is in text_reader_tests.
 #![tactic(auto)]
 
 #[cfg(test)]

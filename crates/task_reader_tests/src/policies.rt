@@ -4,11 +4,8 @@ ghost use Rattle.std.specs.Option.{ForSome};
 ghost use Rattle.archive_retry.specs.Bounds.{IsPolicy};
 ghost use Rattle.archive_retry.specs.Merge.{IsMergeable};
 
-use crate::reader::after_number;
-use crate::specs::tell_task_fault;
-use crate::times::tell_text;
-use crate::trees::tell_fault;
-use archive_retry::fault::PolicyFault;
+use crate::reader::cut;
+use crate::told::tell_fault;
 use archive_retry::merge::{is_result, merge};
 use archive_retry::policy::Policy;
 use archive_retry::read_policy::read_policy;
@@ -19,15 +16,16 @@ use ps_json::tree::read_tree;
 use ps_time::items::Items;
 use ps_time::memory::Memory;
 use ps_time::text::Text;
-use serde_json::Value;
 use std::alloc::Global;
 use std::{io, print, println};
 use task_spec::archive::fails_by;
 use task_spec::fault::TaskFault;
 
-// The fault as a task would tell it.
-fn tell_policy_fault(rt: &HostRuntime, fault: PolicyFault) -> io::Result<()> {
-    tell_task_fault(rt, &TaskFault::from(fault))
+fn policy_in(alloc: Global, text: &str) -> Result<Policy, TaskFault>
+    ensures { IfOk result IsPolicy }
+{
+    let value = read_tree(alloc, text.as_bytes())?;
+    Ok(read_policy(alloc, value)?)
 }
 
 // The attempts and waits of a policy.
@@ -38,33 +36,17 @@ fn tell_entries(rt: &HostRuntime, policy: &Policy) -> io::Result<()> {
     println!(rt; "end")
 }
 
-fn tell_policy_tree(rt: &HostRuntime, value: Value) -> io::Result<()> {
-    match read_policy(rt.alloc(), value) {
-        Ok(policy) => tell_entries(rt, &policy),
-        Err(fault) => tell_policy_fault(rt, fault),
-    }
-}
-
 pub(crate) fn tell_policy(rt: &HostRuntime, text: &str) -> io::Result<()> {
-    match read_tree(rt.alloc(), text.as_bytes()) {
-        Ok(value) => tell_policy_tree(rt, value),
-        Err(fault) => tell_fault(rt, &fault),
-    }
-}
-
-fn tell_attempts_tree(rt: &HostRuntime, value: Value) -> io::Result<()> {
-    match read_policy(rt.alloc(), value) {
-        Ok(policy) => println!(rt; "{}", policy.attempts()),
-        Err(fault) => tell_policy_fault(rt, fault),
+    match policy_in(rt.alloc(), text) {
+        Ok(policy) => tell_entries(rt, &policy),
+        Err(fault) => tell_fault(rt, fault),
     }
 }
 
 /// How many attempts a policy has.
-pub(crate) fn tell_attempts(rt: &HostRuntime, text: &str) -> io::Result<()> {
-    match read_tree(rt.alloc(), text.as_bytes()) {
-        Ok(value) => tell_attempts_tree(rt, value),
-        Err(fault) => tell_fault(rt, &fault),
-    }
+pub(crate) fn attempts(alloc: Global, text: &str) -> Result<u32, TaskFault> {
+    let policy = policy_in(alloc, text)?;
+    Ok(policy.attempts())
 }
 
 // Whether the state is due from this moment on, and not before.
@@ -104,15 +86,6 @@ fn tell_moments(rt: &HostRuntime, policy: &Policy, retry: Option<u64>) -> io::Re
     println!(rt; "no end")
 }
 
-fn tell_walk_tree(rt: &HostRuntime, value: Value, retry: Option<u64>) -> io::Result<()>
-    requires { ForSome retry (λ r. r ≤ 100) }
-{
-    match read_policy(rt.alloc(), value) {
-        Ok(policy) => tell_moments(rt, &policy, retry),
-        Err(fault) => tell_policy_fault(rt, fault),
-    }
-}
-
 fn at_most(retry: Option<u64>) -> Option<u64>
     ensures { ForSome result (λ r. r ≤ 100) }
 {
@@ -124,27 +97,21 @@ fn at_most(retry: Option<u64>) -> Option<u64>
 
 /// The archiver's retry in seconds or `none`, and a policy.
 pub(crate) fn tell_walk(rt: &HostRuntime, text: &str) -> io::Result<()> {
-    let (retry, text) = after_number(text);
-    match read_tree(rt.alloc(), text.as_bytes()) {
-        Ok(value) => tell_walk_tree(rt, value, at_most(retry)),
-        Err(fault) => tell_fault(rt, &fault),
+    let (retry, text) = cut(text);
+    match policy_in(rt.alloc(), text) {
+        Ok(policy) => tell_moments(rt, &policy, at_most(retry.parse().ok())),
+        Err(fault) => tell_fault(rt, fault),
     }
 }
 
 /// Whether a text may be a result.
-pub(crate) fn tell_result(rt: &HostRuntime, text: &str) -> io::Result<()> {
-    match is_result(rt.alloc(), text) {
-        Ok(is) => println!(rt; "{is}"),
-        Err(_) => println!(rt; "out of memory"),
-    }
+pub(crate) fn may_be_result(alloc: Global, text: &str) -> Result<bool, TaskFault> {
+    Ok(is_result(alloc, text)?)
 }
 
 /// How many attempts fail by the settings of an archive.
-pub(crate) fn tell_fails(rt: &HostRuntime, text: &str) -> io::Result<()> {
-    match fails_by(rt.alloc(), text) {
-        Ok(count) => println!(rt; "{count}"),
-        Err(_) => println!(rt; "out of memory"),
-    }
+pub(crate) fn fails(alloc: Global, text: &str) -> Result<u64, TaskFault> {
+    Ok(fails_by(alloc, text)?)
 }
 
 // A result that was heard; null stands for none.
@@ -179,18 +146,14 @@ fn hosts(alloc: Global, text: &str) -> Result<Items<Text>, Memory> {
     Ok(hosts)
 }
 
-fn merged(alloc: Global, text: &str) -> Result<Text, Memory> {
+/// Hosts and results, `=` between them, and ` & ` between the pairs: the merged result.
+pub(crate) fn merged(alloc: Global, text: &str) -> Result<Text, TaskFault> {
     let hosts = hosts(alloc, text)?;
     let results = results(alloc, text)?;
     if hosts.len() != results.len() {
-        return Text::new(alloc, "not alike");
+        return Ok(Text::new(alloc, "not alike")?);
     }
-    merge(alloc, hosts.as_slice(), results.as_slice())
-}
-
-/// Hosts and results, `=` between them, and ` & ` between the pairs: the merged result.
-pub(crate) fn tell_merge(rt: &HostRuntime, text: &str) -> io::Result<()> {
-    tell_text(rt, merged(rt.alloc(), text))
+    Ok(merge(alloc, hosts.as_slice(), results.as_slice())?)
 }
 
 pub(crate) fn tell_archivers(rt: &HostRuntime, names: &[&str]) -> io::Result<()> {

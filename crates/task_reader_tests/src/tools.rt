@@ -1,19 +1,17 @@
 //! Participants, choices of tools, results and outcomes.
-ghost use Rattle.std.specs.Prelude.{◌≡◌, IfSome};
+ghost use Rattle.std.specs.Prelude.{◌≡◌};
 ghost use Rattle.plugin_core.specs.Bounds.{IsTest};
 
-use crate::reader::after_number;
-use crate::specs::expanded;
-use crate::times::tell_text;
+use crate::reader::{cut, found};
+use crate::specs::{expanded, test_in};
+use crate::told::tell_fault;
 use plugin_core::kind::{TestKind, class_of_kind, kind_name};
 use plugin_core::participants::{is_participant, participants_of};
-use plugin_core::read_test::read_test;
 use plugin_core::test_spec::{TestSpec, class_of, length_of};
 use plugin_tool::choice::{choose_tool, tools_for};
 use plugin_tool::result::result_text;
 use plugin_tool::run::{Outcome, Role, ToolView, done, role_of};
 use plugin_tool::tool::{Tool, tool_name};
-use ps_json::tree::read_tree;
 use ps_time::class::class_name;
 use ps_time::items::Items;
 use ps_time::memory::Memory;
@@ -21,6 +19,7 @@ use ps_time::same::Same;
 use ps_time::text::Text;
 use std::alloc::Global;
 use std::{io, print, println};
+use task_spec::fault::TaskFault;
 
 // The names that stand in a text, with blanks between them.
 fn names(alloc: Global, text: &str) -> Result<Items<Text>, Memory> {
@@ -49,15 +48,6 @@ pub(crate) fn tell_choice(rt: &HostRuntime, text: &str) -> io::Result<()> {
         Ok(Some(tool)) => println!(rt; "{tool}"),
         Ok(None) => println!(rt; "none"),
         Err(Memory) => println!(rt; "out of memory"),
-    }
-}
-
-fn read(alloc: Global, text: &str) -> Option<TestSpec>
-    ensures { IfSome result IsTest }
-{
-    match read_tree(alloc, text.as_bytes()) {
-        Ok(value) => read_test(alloc, value).ok(),
-        Err(_) => None,
     }
 }
 
@@ -91,10 +81,10 @@ fn tell_parts_of(rt: &HostRuntime, test: &TestSpec, lead: &str) -> io::Result<()
 
 /// The lead and a test: the tools for the test, the participants, the parts of `a` and `b`, and whether `c` takes part.
 pub(crate) fn tell_parts(rt: &HostRuntime, text: &str) -> io::Result<()> {
-    let (lead, text) = text.split_once(' ').unwrap_or((text, ""));
-    match read(rt.alloc(), text) {
-        Some(test) => tell_parts_of(rt, &test, lead),
-        None => println!(rt; "no test"),
+    let (lead, text) = cut(text);
+    match test_in(rt.alloc(), text) {
+        Ok(test) => tell_parts_of(rt, &test, lead),
+        Err(fault) => tell_fault(rt, fault),
     }
 }
 
@@ -104,30 +94,12 @@ static ROLES: [(&str, Role); 3] = [
     ("dest", Role::Dest),
 ];
 
-fn role(roles: &[(&str, Role)], word: &str) -> Role {
-    for (name, role) in roles {
-        if *name == word {
-            return *role;
-        }
-    }
-    Role::Only
-}
-
 static OUTCOMES: [(&str, Outcome); 4] = [
     ("good", Outcome::Good),
     ("timed-out", Outcome::TimedOut),
     ("not-taken", Outcome::NotTaken),
     ("restarted", Outcome::Restarted),
 ];
-
-fn outcome(outcomes: &[(&str, Outcome)], word: &str) -> Outcome {
-    for (name, outcome) in outcomes {
-        if *name == word {
-            return *outcome;
-        }
-    }
-    Outcome::Good
-}
 
 fn outcome_word(outcomes: &[(&'static str, Outcome)], wanted: Outcome) -> &'static str {
     for (name, outcome) in outcomes {
@@ -158,21 +130,13 @@ fn result_of(alloc: Global, test: &TestSpec, role: Role, outcome: Outcome) -> Re
 }
 
 /// The part in a test, an outcome and a test: the result.
-pub(crate) fn tell_result(rt: &HostRuntime, text: &str) -> io::Result<()> {
-    let (part, rest) = text.split_once(' ').unwrap_or((text, ""));
-    let (word, text) = rest.split_once(' ').unwrap_or((rest, ""));
-    match read(rt.alloc(), text) {
-        Some(test) => tell_text(
-            rt,
-            result_of(
-                rt.alloc(),
-                &test,
-                role(&ROLES, part),
-                outcome(&OUTCOMES, word),
-            ),
-        ),
-        None => println!(rt; "no test"),
-    }
+pub(crate) fn tool_result(alloc: Global, text: &str) -> Result<Text, TaskFault> {
+    let (part, rest) = cut(text);
+    let (word, text) = cut(rest);
+    let role = found(&ROLES, part, Role::Only);
+    let outcome = found(&OUTCOMES, word, Outcome::Good);
+    let test = test_in(alloc, text)?;
+    Ok(result_of(alloc, &test, role, outcome)?)
 }
 
 #[tactic(auto, using(plugin_core::proofs::BoundLemmas::length_within))]
@@ -182,54 +146,29 @@ fn outcome_of(test: &TestSpec, role: Role, material: bool, moment: u64) -> Optio
     done(test, &tool(role, material), moment)
 }
 
-fn tell_outcome_of(rt: &HostRuntime, test: &TestSpec, part: &str, moment: u64) -> io::Result<()>
-    requires { IsTest test.now }
-{
-    let material = part.ends_with('+');
-    match outcome_of(
-        test,
-        role(&ROLES, part.trim_end_matches('+')),
-        material,
-        moment,
-    ) {
-        Some(outcome) => println!(rt; "{}", outcome_word(&OUTCOMES, outcome)),
-        None => println!(rt; "none"),
-    }
-}
-
 /// The part in a test, with `+` where the material is there, a moment and a test: the outcome by then.
-pub(crate) fn tell_outcome(rt: &HostRuntime, text: &str) -> io::Result<()> {
-    let (part, rest) = text.split_once(' ').unwrap_or((text, ""));
-    let (moment, text) = after_number(rest);
-    match read(rt.alloc(), text) {
-        Some(test) => tell_outcome_of(rt, &test, part, moment.unwrap_or(0)),
-        None => println!(rt; "no test"),
+pub(crate) fn outcome(alloc: Global, text: &str) -> Result<&'static str, TaskFault> {
+    let (part, rest) = cut(text);
+    let (moment, text) = cut(rest);
+    let role = found(&ROLES, part.trim_end_matches('+'), Role::Only);
+    let moment = moment.parse().unwrap_or(0);
+    let test = test_in(alloc, text)?;
+    match outcome_of(&test, role, part.ends_with('+'), moment) {
+        Some(outcome) => Ok(outcome_word(&OUTCOMES, outcome)),
+        None => Ok("none"),
     }
 }
 
-fn tell_bytes(rt: &HostRuntime, text: Result<Text, Memory>) -> io::Result<()> {
-    match text {
-        Ok(text) => println!(rt; "{}", text.len()),
-        Err(Memory) => println!(rt; "out of memory"),
-    }
-}
-
-fn tell_result_bytes_of(rt: &HostRuntime, text: &str) -> io::Result<()> {
-    match read(rt.alloc(), text) {
-        Some(test) => tell_bytes(
-            rt,
-            result_of(rt.alloc(), &test, Role::Source, Outcome::Good),
-        ),
-        None => println!(rt; "no test"),
-    }
+fn source_bytes(alloc: Global, text: &str) -> Result<usize, TaskFault> {
+    let test = test_in(alloc, text)?;
+    let result = result_of(alloc, &test, Role::Source, Outcome::Good)?;
+    Ok(result.len())
 }
 
 /// A test in which words are repeated: how many bytes the good result of its source has.
-pub(crate) fn tell_result_bytes(rt: &HostRuntime, text: &str) -> io::Result<()> {
-    match expanded(rt.alloc(), text) {
-        Ok(text) => tell_result_bytes_of(rt, text.as_str()),
-        Err(Memory) => println!(rt; "out of memory"),
-    }
+pub(crate) fn result_bytes(alloc: Global, text: &str) -> Result<usize, TaskFault> {
+    let text = expanded(alloc, text)?;
+    source_bytes(alloc, text.as_str())
 }
 
 pub(crate) static TOOLS: [Tool; 4] = [
@@ -266,9 +205,9 @@ fn tell_measure_of(rt: &HostRuntime, test: &TestSpec) -> io::Result<()>
 
 /// The class of a test, and its length in seconds.
 pub(crate) fn tell_measure(rt: &HostRuntime, text: &str) -> io::Result<()> {
-    match read(rt.alloc(), text) {
-        Some(test) => tell_measure_of(rt, &test),
-        None => println!(rt; "no test"),
+    match test_in(rt.alloc(), text) {
+        Ok(test) => tell_measure_of(rt, &test),
+        Err(fault) => tell_fault(rt, fault),
     }
 }
 
@@ -280,17 +219,17 @@ fn tell_whether_same(rt: &HostRuntime, first: &TestSpec, second: &TestSpec) -> i
 }
 
 fn tell_same_as(rt: &HostRuntime, first: &TestSpec, text: &str) -> io::Result<()> {
-    match read(rt.alloc(), text) {
-        Some(second) => tell_whether_same(rt, first, &second),
-        None => println!(rt; "no test"),
+    match test_in(rt.alloc(), text) {
+        Ok(second) => tell_whether_same(rt, first, &second),
+        Err(fault) => tell_fault(rt, fault),
     }
 }
 
 /// Two tests, ` & ` between them: whether the copy of the first is the same as the first, and as the second.
 pub(crate) fn tell_same(rt: &HostRuntime, text: &str) -> io::Result<()> {
     let (first, second) = text.split_once(" & ").unwrap_or((text, ""));
-    match read(rt.alloc(), first) {
-        Some(test) => tell_same_as(rt, &test, second),
-        None => println!(rt; "no test"),
+    match test_in(rt.alloc(), first) {
+        Ok(test) => tell_same_as(rt, &test, second),
+        Err(fault) => tell_fault(rt, fault),
     }
 }

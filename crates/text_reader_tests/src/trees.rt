@@ -17,8 +17,56 @@ use std::alloc::Global;
 use std::fmt::Display;
 use std::{io, print, println};
 
-pub(crate) fn tell_fault(rt: &HostRuntime, fault: &JsonFault) -> io::Result<()> {
-    println!(rt; "{fault}")
+/// Writes a line, and lets go what it shows: a call, where the drop of a fault would be a case for each variant.
+pub(crate) fn tell_shown<T: Display + Drop>(rt: &HostRuntime, shown: T) -> io::Result<()> {
+    println!(rt; "{shown}")
+}
+
+fn tell_answer<T: Display + Drop>(
+    rt: &HostRuntime,
+    answer: Result<T, JsonFault>,
+) -> io::Result<()> {
+    match answer {
+        Ok(value) => tell_shown(rt, value),
+        Err(fault) => tell_shown(rt, fault),
+    }
+}
+
+// What is shown between others on a line.
+fn print_part<T: Display + Drop>(rt: &HostRuntime, shown: T) -> io::Result<()> {
+    print!(rt; "{shown}; ")
+}
+
+fn print_answer<T: Display + Drop>(
+    rt: &HostRuntime,
+    answer: Result<T, JsonFault>,
+) -> io::Result<()> {
+    match answer {
+        Ok(value) => print_part(rt, value),
+        Err(fault) => print_part(rt, fault),
+    }
+}
+
+fn print_shown<T: Display + Drop>(rt: &HostRuntime, shown: T) -> io::Result<()> {
+    print!(rt; "{shown} ")
+}
+
+fn print_member<T: Display + Drop>(
+    rt: &HostRuntime,
+    name: &str,
+    answer: Result<T, JsonFault>,
+) -> io::Result<()> {
+    print!(rt; "{name}")?;
+    match answer {
+        Ok(value) => {
+            print!(rt; "=")?;
+            print_shown(rt, value)
+        }
+        Err(fault) => {
+            print!(rt; ": ")?;
+            print_shown(rt, fault)
+        }
+    }
 }
 
 fn written(alloc: Global, value: &Value) -> Result<Text, Memory>
@@ -41,7 +89,7 @@ fn tell_value(rt: &HostRuntime, value: &Value) -> io::Result<()> {
 pub(crate) fn tell_tree(rt: &HostRuntime, bytes: &[u8]) -> io::Result<()> {
     match read_tree(rt.alloc(), bytes) {
         Ok(value) => tell_value(rt, &value),
-        Err(fault) => tell_fault(rt, &fault),
+        Err(fault) => tell_shown(rt, fault),
     }
 }
 
@@ -79,7 +127,7 @@ fn opened(alloc: Global, text: &str) -> Result<Fields, JsonFault> {
 fn tell_end(rt: &HostRuntime, fields: Fields) -> io::Result<()> {
     match fields.end(rt.alloc()) {
         Ok(()) => println!(rt; "end"),
-        Err(fault) => tell_fault(rt, &fault),
+        Err(fault) => tell_shown(rt, fault),
     }
 }
 
@@ -87,15 +135,12 @@ fn tell_end(rt: &HostRuntime, fields: Fields) -> io::Result<()> {
 pub(crate) fn tell_end_of(rt: &HostRuntime, text: &str) -> io::Result<()> {
     match opened(rt.alloc(), text) {
         Ok(fields) => tell_end(rt, fields),
-        Err(fault) => tell_fault(rt, &fault),
+        Err(fault) => tell_shown(rt, fault),
     }
 }
 
 fn tell_member(rt: &HostRuntime, name: &str, value: Value) -> io::Result<()> {
-    match read_count(rt.alloc(), value, "n", 0, 9) {
-        Ok(count) => print!(rt; "{name}={count} "),
-        Err(fault) => print!(rt; "{name}: {fault} "),
-    }
+    print_member(rt, name, read_count(rt.alloc(), value, "n", 0, 9))
 }
 
 fn tell_next(rt: &HostRuntime, fields: &mut Fields) -> Option<io::Result<()>> {
@@ -120,21 +165,18 @@ pub(crate) fn tell_members_of(rt: &HostRuntime, text: &str) -> io::Result<()> {
             Ok(()) => tell_end(rt, fields),
             Err(fault) => Err(fault),
         },
-        Err(fault) => tell_fault(rt, &fault),
+        Err(fault) => tell_shown(rt, fault),
     }
 }
 
 fn tell_count(rt: &HostRuntime, name: &str, value: Value) -> io::Result<()> {
-    match read_count(rt.alloc(), value, name, 0, 9) {
-        Ok(count) => print!(rt; "{count}; "),
-        Err(fault) => print!(rt; "{fault}; "),
-    }
+    print_answer(rt, read_count(rt.alloc(), value, name, 0, 9))
 }
 
 fn tell_needed(rt: &HostRuntime, fields: &mut Fields, name: &str) -> io::Result<()> {
     match fields.need(rt.alloc(), name) {
         Ok(value) => tell_count(rt, name, value),
-        Err(fault) => print!(rt; "{fault}; "),
+        Err(fault) => print_part(rt, fault),
     }
 }
 
@@ -163,7 +205,7 @@ pub(crate) fn tell_taken_of(rt: &HostRuntime, text: &str) -> io::Result<()> {
             Ok(()) => tell_end(rt, fields),
             Err(fault) => Err(fault),
         },
-        Err(fault) => tell_fault(rt, &fault),
+        Err(fault) => tell_shown(rt, fault),
     }
 }
 
@@ -180,7 +222,7 @@ fn levels(value: &Value) -> usize {
 pub(crate) fn tell_levels(rt: &HostRuntime, text: &str) -> io::Result<()> {
     match read_tree(rt.alloc(), text.as_bytes()) {
         Ok(value) => println!(rt; "{}", levels(&value)),
-        Err(fault) => tell_fault(rt, &fault),
+        Err(fault) => tell_shown(rt, fault),
     }
 }
 
@@ -202,16 +244,6 @@ pub(crate) fn tell_kept(rt: &HostRuntime, text: &str) -> io::Result<()> {
     }
 }
 
-fn tell_answer<T: Display + Drop>(
-    rt: &HostRuntime,
-    answer: Result<T, JsonFault>,
-) -> io::Result<()> {
-    match answer {
-        Ok(value) => println!(rt; "{value}"),
-        Err(fault) => tell_fault(rt, &fault),
-    }
-}
-
 // A count from 1 to 1000, an integer from -5 to 5, a text, a boolean, or of a list its length.
 fn tell_kind(rt: &HostRuntime, reader: Reader, value: Value) -> io::Result<()> {
     let alloc = rt.alloc();
@@ -227,6 +259,6 @@ fn tell_kind(rt: &HostRuntime, reader: Reader, value: Value) -> io::Result<()> {
 pub(crate) fn tell_kind_of(rt: &HostRuntime, reader: Reader, text: &str) -> io::Result<()> {
     match read_tree(rt.alloc(), text.as_bytes()) {
         Ok(value) => tell_kind(rt, reader, value),
-        Err(fault) => tell_fault(rt, &fault),
+        Err(fault) => tell_shown(rt, fault),
     }
 }

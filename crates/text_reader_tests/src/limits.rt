@@ -1,4 +1,5 @@
 //! Addresses and blocks, identifiers and classifiers.
+use crate::trees::tell_shown;
 use limit_ident::address::{Address, read_address, read_block};
 use limit_ident::classifier::{Classifier, Classifiers};
 use limit_ident::fault::LimitFault;
@@ -52,10 +53,6 @@ fn classifiers_of(
     read_classifiers(alloc, read_tree(alloc, text.as_bytes())?, identifiers)
 }
 
-fn tell_limit_fault(rt: &HostRuntime, fault: &LimitFault) -> io::Result<()> {
-    println!(rt; "{fault}")
-}
-
 fn tell_classifiers(
     rt: &HostRuntime,
     identifiers: &Entries<Identifier>,
@@ -63,7 +60,7 @@ fn tell_classifiers(
 ) -> io::Result<()> {
     match classifiers_of(rt.alloc(), identifiers, text) {
         Ok(_) => println!(rt; "none"),
-        Err(fault) => tell_limit_fault(rt, &fault),
+        Err(fault) => tell_shown(rt, fault),
     }
 }
 
@@ -72,7 +69,7 @@ pub(crate) fn tell_limits(rt: &HostRuntime, text: &str) -> io::Result<()> {
     let (identifiers, classifiers) = text.split_once(" & ").unwrap_or((text, ""));
     match identifiers_of(rt.alloc(), identifiers) {
         Ok(identifiers) => tell_classifiers(rt, &identifiers, classifiers),
-        Err(fault) => tell_limit_fault(rt, &fault),
+        Err(fault) => tell_shown(rt, fault),
     }
 }
 
@@ -174,7 +171,7 @@ fn tell_read(rt: &HostRuntime, identifiers: Entries<Identifier>, text: &str) -> 
                 text,
             )
         }
-        Err(fault) => tell_limit_fault(rt, &fault),
+        Err(fault) => tell_shown(rt, fault),
     }
 }
 
@@ -183,6 +180,6 @@ fn tell_read(rt: &HostRuntime, identifiers: Entries<Identifier>, text: &str) -> 
 pub(crate) fn tell_asker(rt: &HostRuntime, text: &str) -> io::Result<()> {
     match identifiers_of(rt.alloc(), IDENTIFIERS) {
         Ok(identifiers) => tell_read(rt, identifiers, text),
-        Err(fault) => tell_limit_fault(rt, &fault),
+        Err(fault) => tell_shown(rt, fault),
     }
 }

@@ -1,20 +1,15 @@
-//! What the lower crates read: texts of times, JSON, tests, tools, policies, tasks and limits. Standard input has a line for
-//! each case: a word that says as what the rest of the line is read, a blank, and the text. For each the program writes a
-//! line: what was read, as it is written again, or why it is refused. A line that begins with `#` is written as it is.
-//! The status is 1 where standard input or output fails.
+//! What the lowest crates read: texts of times, JSON, addresses, identifiers and classifiers. Standard input has a line for each
+//! case: a word that says as what the rest of the line is read, a blank, and the text. For each the program writes a line:
+//! what was read, as it is written again, or why it is refused. A line that begins with `#` is written as it is. The status is
+//! 1 where standard input or output fails.
 #![tactic(auto)]
 
 mod limits;
-mod policies;
 mod reader;
-mod specs;
 mod times;
-mod tools;
 mod trees;
 
 use crate::reader::{Reader, reader_of};
-use plugin_core::kind::kinds;
-use plugin_tool::choice::tools as all_tools;
 use ps_json::fault::JsonFault;
 use ps_json::fields::is_comment;
 use ps_time::memory::Memory;
@@ -23,7 +18,6 @@ use ps_time::name::is_host_name;
 use ps_time::read_length::read_length;
 use ps_time::read_moment::read_moment;
 use std::{io, println};
-use task_spec::archive::archivers;
 
 fn tell_time_of(rt: &HostRuntime, reader: Reader, text: &str) -> io::Result<()> {
     match reader {
@@ -52,43 +46,16 @@ fn tell_tree_of(rt: &HostRuntime, reader: Reader, text: &str) -> io::Result<()> 
         Reader::Taken => trees::tell_taken_of(rt, text),
         Reader::Levels => trees::tell_levels(rt, text),
         Reader::Comment => println!(rt; "{}", is_comment(text)),
-        Reader::Memory => trees::tell_fault(rt, &JsonFault::from(Memory)),
+        Reader::Memory => trees::tell_shown(rt, JsonFault::from(Memory)),
         Reader::Count | Reader::Integer | Reader::Text | Reader::Boolean | Reader::List => {
             trees::tell_kind_of(rt, reader, text)
         }
-        _ => tell_spec_of(rt, reader, text),
+        _ => tell_limit_of(rt, reader, text),
     }
 }
 
-fn tell_spec_of(rt: &HostRuntime, reader: Reader, text: &str) -> io::Result<()> {
+fn tell_limit_of(rt: &HostRuntime, reader: Reader, text: &str) -> io::Result<()> {
     match reader {
-        Reader::Test => specs::tell_test(rt, text),
-        Reader::Bound => specs::tell_bound(rt, text),
-        Reader::Task => specs::tell_task(rt, text),
-        Reader::Held => specs::tell_held(rt, text),
-        Reader::Measure => tools::tell_measure(rt, text),
-        Reader::Same => tools::tell_same(rt, text),
-        Reader::Kinds => tools::tell_kinds(rt, kinds()),
-        Reader::Fails => policies::tell_fails(rt, text),
-        Reader::Policy => policies::tell_policy(rt, text),
-        Reader::Attempts => policies::tell_attempts(rt, text),
-        Reader::Walk => policies::tell_walk(rt, text),
-        Reader::Result => policies::tell_result(rt, text),
-        Reader::Merge => policies::tell_merge(rt, text),
-        Reader::Archivers => policies::tell_archivers(rt, archivers()),
-        _ => tell_other(rt, reader, text),
-    }
-}
-
-fn tell_other(rt: &HostRuntime, reader: Reader, text: &str) -> io::Result<()> {
-    match reader {
-        Reader::Parts => tools::tell_parts(rt, text),
-        Reader::Tool => tools::tell_result(rt, text),
-        Reader::Outcome => tools::tell_outcome(rt, text),
-        Reader::Choice => tools::tell_choice(rt, text),
-        Reader::ToolBytes => tools::tell_result_bytes(rt, text),
-        Reader::ToolNames => tools::tell_names_of(rt, &tools::TOOLS),
-        Reader::Tools => tools::tell_names_of(rt, all_tools()),
         Reader::Address => limits::tell_address(rt, text),
         Reader::Block => limits::tell_block(rt, text),
         Reader::Limits => limits::tell_limits(rt, text),
