@@ -1,13 +1,13 @@
 //! The results of runs.
-ghost use Rattle.std.specs.Prelude.{◌≡◌, ◌≤◌, ◌+◌, ◌*◌, ◌/◌, Ok, length, map, IfOk};
-ghost use Rattle.serde_json.specs.Data.{array, depth};
+ghost use Rattle.std.specs.Prelude.{◌≡◌, ◌≤◌, ◌+◌, ◌*◌, ◌/◌, Ok, codes, length, map, true, IfOk};
+ghost use Rattle.serde_json.specs.Data.{array, depth, member, object, string};
 ghost use Rattle.serde_json.specs.View.{view, items_of};
 ghost use Rattle.serde_json.specs.Written.{compact_text};
 ghost use Rattle.ps_json.specs.Tree.{IsWhole, tree_of};
 ghost use Rattle.ps_time.specs.Numbers.{most_result_bytes};
 ghost use Rattle.ps_time.specs.declared.moment.TheConstants.{MAX_LENGTH, MAX_MOMENT};
 ghost use Rattle.plugin_core.specs.Bounds.{IsTest};
-ghost use Rattle.plugin_tool.specs.ResultText.{failed, slept, tick, ticks, ticked, streamed, good_result, result_data, TicksFit};
+ghost use Rattle.plugin_tool.specs.ResultText.{ending, failed, slept, tick, ticks, ticked, streamed, good_result, result_data, TicksFit};
 
 use crate::run::{Outcome, Role, ToolView};
 use plugin_core::test_spec::TestSpec;
@@ -61,6 +61,15 @@ fn write_ticks(
     Ok(Value::Array(values))
 }
 
+fn write_listed(alloc: Global, duration: &str, ticks: Value) -> Result<Value, Memory>
+    ensures { IfOk result (λ value. view value
+        ≡ object (member (codes "duration") (string duration.now) (member (codes "results") (view ticks) (ending true)))) }
+{
+    Ok(
+        json!(in alloc; {"duration": duration, "results": ticks, "schema": 1u64, "succeeded": true})?,
+    )
+}
+
 fn write_ticked(
     alloc: Global,
     started: Moment,
@@ -72,22 +81,29 @@ fn write_ticked(
     requires fits { started + duration ≤ MAX_MOMENT }
     ensures { IfOk result (λ value. view value ≡ ticked started duration interval) }
 {
-    let ticks = write_ticks(alloc, started, interval, duration / interval)?;
     let text = length_text(alloc, duration)?;
-    Ok(
-        json!(in alloc; {"duration": text.as_str(), "results": ticks, "schema": 1u64, "succeeded": true})?,
-    )
+    let ticks = write_ticks(alloc, started, interval, duration / interval)?;
+    write_listed(alloc, text.as_str(), ticks)
+}
+
+fn write_received(alloc: Global, material: &str) -> Result<Value, Memory>
+    ensures { IfOk result (λ value. view value ≡ streamed material.now Role.Dest) }
+{
+    Ok(json!(in alloc; {"received": material, "schema": 1u64, "succeeded": true})?)
+}
+
+fn write_sent(alloc: Global, material: &str) -> Result<Value, Memory>
+    ensures { IfOk result (λ value. view value ≡ streamed material.now Role.Source) }
+{
+    Ok(json!(in alloc; {"schema": 1u64, "sent": material, "succeeded": true})?)
 }
 
 fn write_streamed(alloc: Global, material: &Text, role: Role) -> Result<Value, Memory>
     ensures { IfOk result (λ value. view value ≡ streamed material.now role) }
 {
-    let material = material.as_str();
     match role {
-        Role::Dest => Ok(
-            json!(in alloc; {"received": material, "schema": 1u64, "succeeded": true})?,
-        ),
-        _ => Ok(json!(in alloc; {"schema": 1u64, "sent": material, "succeeded": true})?),
+        Role::Dest => write_received(alloc, material.as_str()),
+        _ => write_sent(alloc, material.as_str()),
     }
 }
 
