@@ -10,7 +10,8 @@ use Rattle.std.specs.Net.Grammar.{IsIpv4Text, IsIpv6Text}
 use Rattle.std.specs.Net.Reader.{Read, read_ipv4, read_ipv6, whole_value}
 use Rattle.std.proofs.NetLemmas.Ipv4.{read_ipv4_complete, read_ipv4_sound}
 use Rattle.std.proofs.NetLemmas.Ipv6.{read_ipv6_complete, read_ipv6_sound, EndsGroups-nil}
-use Rattle.limit_ident.specs.Address.{ipv4_of, ipv6_of, agree}
+use Rattle.limit_ident.specs.Address.{ipv4_of, ipv6_of, agree, IsReading, Writes, WritesIpv4, WritesIpv6}
+use Rattle.limit_ident.specs.declared.address.Address.TheVariants.{V4, V6}
 use Rattle.std.proofs.lemmas.Bool.Decides.{nat_tests}
 use Rattle.std.proofs.lemmas.Nat.{div_below}
 use Rattle.std.proofs.Math.Pow.{pow_mono}
@@ -47,6 +48,11 @@ ipv6_refused bs no_dot unspelled = rw no_dot (none (read_ipv6 bs) refl)
     none (Some (segments, [])) is = let sound = read_ipv6_sound bs segments [] is in
         absurd (unspelled (record { segments = segments }) (rw (sound.1 ∙ append-nil sound.0) sound.2))
     none (Some (segments, b ∷ rest)) is = grind (arith, nat_tests)
+
+-- a text that writes an address of neither kind writes none
+pub none_written : (bs : List ℕ) → IsReading (WritesIpv4 bs) None → IsReading (WritesIpv6 bs) None → IsReading (Writes bs) None
+none_written bs no_four no_six (V4 n) written = no_four n written
+none_written bs no_four no_six (V6 n) written = no_six n written
 
 pub split : (bs : List ℕ) (r : Option (Bor (List ℕ) × Bor (List ℕ))) → IsSplitOnceResult 47 bs r → MatchOption r (position_or_len (λ b. eqb b 47) bs ≡ length bs) (λ x. (position_or_len (λ b. eqb b 47) bs < length bs) × (x.0.now ≡ before_first (λ b. eqb b 47) bs) × (x.1.now ≡ after_first (λ b. eqb b 47) bs))
 split bs r is = split_once_first 47 bs r is (lit≤ tt)

@@ -1,9 +1,12 @@
 -- Addresses of the internet protocol: which texts write them, and which lie in a block.
-use Rattle.std.specs.Prelude.{ℕ, ◌-◌, ◌/◌, ◌^◌, ◌==◌, ◌&&◌, Bool, false, nat_lt, eqb, List, length, slice_index, Option, Some, None, option_map, if◌then◌else◌}
+use Rattle.std.specs.Prelude.{◌≡◌, ℕ, ◌-◌, ◌/◌, ◌^◌, ◌==◌, ◌&&◌, Bool, false, nat_lt, eqb, List, length, slice_index, Option, Some, None, option_map, if◌then◌else◌}
 use Rattle.std.specs.Int.{w32, w128, from_be_bytes}
 use Rattle.std.specs.List.{list_any, position_or_len, before_first, after_first}
-use Rattle.std.specs.Net.Addr.{octets_of}
+use Rattle.std.specs.Net.Addr.{ipv4_bits, ipv6_bits, octets_of}
+use Rattle.std.specs.Net.Grammar.{IsIpv4Text, IsIpv6Text}
 use Rattle.std.specs.Net.Reader.{read_ipv4, read_ipv6, whole_value}
+use Rattle.std.specs.declared.net.ipv4_addr.Ipv4Addr.{Ipv4Addr}
+use Rattle.std.specs.declared.net.ipv6_addr.Ipv6Addr.{Ipv6Addr}
 use Rattle.ps_time.specs.Number.{decimal_of}
 use Rattle.limit_ident.specs.declared.address.Address.{Address}
 use Rattle.limit_ident.specs.declared.address.Address.TheVariants.{V4, V6}
@@ -26,6 +29,24 @@ address_of bs = first (ipv4_of bs) (ipv6_of bs)
     first (Some a) other = Some (V4 a)
     first None (Some a) = Some (V6 a)
     first None None = None
+
+-- ---- the grammar, as std states it: which texts write an address
+-- `IsDotted`: four decimals below 256, without leading zeros, with dots between them
+abbrev pub WritesIpv4 : List ℕ → ℕ → Type 0
+WritesIpv4 bs n = (a : Ipv4Addr) × IsIpv4Text bs a × (n ≡ ipv4_bits a)
+
+-- `IsColonHex`: groups with colons between them, where `::` may stand for one zero group or more (RFC 4291, 2.2); no dot among them
+abbrev pub WritesIpv6 : List ℕ → ℕ → Type 0
+WritesIpv6 bs n = (a : Ipv6Addr) × IsIpv6Text bs a × (list_any (λ b. b == 46) bs ≡ false) × (n ≡ ipv6_bits a)
+
+abbrev pub Writes : List ℕ → Address → Type 0
+Writes bs (V4 n) = WritesIpv4 bs n
+Writes bs (V6 n) = WritesIpv6 bs n
+
+-- what was read is written; where nothing was read, nothing is
+abbrev pub IsReading : {A : Type 0} → (A → Type 0) → Option A → Type 0
+IsReading {A} writes None = (a : A) → writes a → ⊥
+IsReading writes (Some a) = writes a
 
 -- ---- blocks
 

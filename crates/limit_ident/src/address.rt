@@ -1,7 +1,7 @@
 //! Addresses of the internet protocol, and blocks of them.
 ghost use Rattle.std.specs.Prelude.{◌≡◌, ◌==◌};
 ghost use Rattle.std.specs.List.{list_any};
-ghost use Rattle.limit_ident.specs.Address.{ipv4_of, ipv6_of, address_of, width, block_length, block_of, is_within, agree};
+ghost use Rattle.limit_ident.specs.Address.{ipv4_of, ipv6_of, address_of, width, block_length, block_of, is_within, agree, IsReading, Writes, WritesIpv4, WritesIpv6};
 
 use ps_time::duplicate::Duplicate;
 use ps_time::memory::Memory;
@@ -42,7 +42,8 @@ fn has_dot(bytes: &[u8]) -> bool
 }
 
 fn read_ipv4(text: &str) -> Option<u32>
-    ensures { result ≡ ipv4_of text.now }
+    ensures value { result ≡ ipv4_of text.now }
+    ensures grammar { IsReading (WritesIpv4 text.now) result }
 {
     match text.parse::<Ipv4Addr>() {
         Ok(address) => Some(address.to_bits()),
@@ -51,7 +52,8 @@ fn read_ipv4(text: &str) -> Option<u32>
 }
 
 fn read_ipv6(text: &str) -> Option<u128>
-    ensures { result ≡ ipv6_of text.now }
+    ensures value { result ≡ ipv6_of text.now }
+    ensures grammar { IsReading (WritesIpv6 text.now) result }
 {
     if has_dot(text.as_bytes()) {
         return None;
@@ -65,7 +67,8 @@ fn read_ipv6(text: &str) -> Option<u128>
 /// The address that a text writes: of IPv4 four decimals, of IPv6 (RFC 4291, 2.2) groups alone, without an
 /// IPv4 address at their end and without a zone. `None` exactly for every other text.
 pub fn read_address(text: &str) -> Option<Address>
-    ensures { result ≡ address_of text.now }
+    ensures value { result ≡ address_of text.now }
+    ensures grammar { IsReading (Writes text.now) result }
 {
     if let Some(address) = read_ipv4(text) {
         return Some(Address::V4(address));
