@@ -9,5 +9,6 @@ pub mod rehearse;
 pub mod request;
 mod stopping;
 
-/// The hosts of a rehearsal as they stand.
+/// The requests that lines of a script make, and the hosts of a rehearsal as they stand.
+pub use rehearsal_requests as requests;
 pub use rehearsal_state as state;

@@ -21,9 +21,9 @@ use limit_apply::limits::Limits;
 use ps_time::memory::Memory;
 use ps_time::moment::Moment;
 use psched_script::script::{ScriptHost, ScriptLine, Stop};
+use rehearsal_requests::request::{self, Asked};
 use rehearsal_state::hosts::place_of;
 use rehearsal_state::rehearsal::Rehearsal;
-use rehearsal_state::request::{self, Asked};
 use std::alloc::Global;
 
 /// A step that is to stop.

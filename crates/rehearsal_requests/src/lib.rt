@@ -1,0 +1,4 @@
+//! The requests that the lines of a script make.
+#![tactic(auto)]
+
+pub mod request;
