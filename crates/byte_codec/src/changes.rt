@@ -6,7 +6,7 @@ ghost use Rattle.byte_codec.specs.Reading.{made_at};
 ghost use Rattle.host_model.specs.declared.change.Change.{Change};
 
 use crate::coded::{
-    Coded, write_three, write_variant, write_variant_2, write_variant_3, write_variant_4,
+    Coded, write_three, write_two, write_variant, write_variant_2, write_variant_3, write_variant_4,
 };
 use crate::fault::CodeFault;
 use archive_retry::state::ArchiveState;
@@ -51,8 +51,7 @@ fn write_accepted_parts(
         participants,
         out,
     )?;
-    proposal.asker.write(alloc, out)?;
-    epoch.write(alloc, out)
+    write_two(alloc, &proposal.asker, &epoch, out)
 }
 
 fn write_accepted(
@@ -302,8 +301,7 @@ impl Coded for Changes {
     ghost codec = { changes };
 
     fn write(&self, alloc: Global, out: &mut Vec<u8>) -> Result<(), Memory> {
-        self.moment.write(alloc, out)?;
-        self.list.write(alloc, out)
+        write_two(alloc, &self.moment, &self.list, out)
     }
 
     fn read(alloc: Global, bytes: &[u8]) -> Result<(Changes, &[u8]), CodeFault> {

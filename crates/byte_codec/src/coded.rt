@@ -35,8 +35,7 @@ impl<A: Coded, B: Coded> Coded for (A, B) {
     ghost codec = { A.codec & B.codec };
 
     fn write(&self, alloc: Global, out: &mut Vec<u8>) -> Result<(), Memory> {
-        self.0.write(alloc, out)?;
-        self.1.write(alloc, out)
+        write_two(alloc, &self.0, &self.1, out)
     }
 
     fn read(alloc: Global, bytes: &[u8]) -> Result<((A, B), &[u8]), CodeFault> {
@@ -56,10 +55,7 @@ impl<T: Coded> Coded for Option<T> {
 
     fn write(&self, alloc: Global, out: &mut Vec<u8>) -> Result<(), Memory> {
         match self {
-            None => {
-                out.push(0)?;
-                Ok(())
-            }
+            None => 0u8.write(alloc, out),
             Some(value) => {
                 out.push(1)?;
                 value.write(alloc, out)
@@ -81,6 +77,21 @@ impl<T: Coded> Coded for Option<T> {
     ghost laws = { option_is T.codec T.laws };
 }
 
+/// Adds the bytes of two values, one behind the other.
+pub fn write_two<A: Coded, B: Coded>(
+    alloc: Global,
+    a: &A,
+    b: &B,
+    out: &mut Vec<u8>,
+) -> Result<(), Memory>
+    requires { (A.codec & B.codec).Writable (a.now, b.now) }
+    ensures code { OnOk result (out.new.items ≡ out.old.items ++ (A.codec & B.codec).code (a.now, b.now)) }
+    ensures fits { OnOk result ((A.codec & B.codec).Fits (a.now, b.now)) }
+{
+    a.write(alloc, out)?;
+    b.write(alloc, out)
+}
+
 /// Adds the bytes of three values, one behind the other.
 pub fn write_three<A: Coded, B: Coded, C: Coded>(
     alloc: Global,
@@ -94,8 +105,24 @@ pub fn write_three<A: Coded, B: Coded, C: Coded>(
     ensures fits { OnOk result ((A.codec & (B.codec & C.codec)).Fits (a.now, (b.now, c.now))) }
 {
     a.write(alloc, out)?;
-    b.write(alloc, out)?;
-    c.write(alloc, out)
+    write_two(alloc, b, c, out)
+}
+
+/// Adds the bytes of four values, one behind the other.
+pub fn write_four<A: Coded, B: Coded, C: Coded, D: Coded>(
+    alloc: Global,
+    a: &A,
+    b: &B,
+    c: &C,
+    d: &D,
+    out: &mut Vec<u8>,
+) -> Result<(), Memory>
+    requires { (A.codec & (B.codec & (C.codec & D.codec))).Writable (a.now, (b.now, (c.now, d.now))) }
+    ensures code { OnOk result (out.new.items ≡ out.old.items ++ (A.codec & (B.codec & (C.codec & D.codec))).code (a.now, (b.now, (c.now, d.now)))) }
+    ensures fits { OnOk result ((A.codec & (B.codec & (C.codec & D.codec))).Fits (a.now, (b.now, (c.now, d.now)))) }
+{
+    a.write(alloc, out)?;
+    write_three(alloc, b, c, d, out)
 }
 
 /// Adds the bytes of a variant of one field: its number, and the bytes of its fields.
@@ -126,8 +153,7 @@ pub fn write_variant_2<A: Coded, B: Coded>(
     ensures fits { OnOk result ((A.codec & B.codec).Fits (a.now, b.now)) }
 {
     out.push(number)?;
-    a.write(alloc, out)?;
-    b.write(alloc, out)
+    write_two(alloc, a, b, out)
 }
 
 /// Adds the bytes of a variant of three fields: its number, and the bytes of its fields.
@@ -162,8 +188,5 @@ pub fn write_variant_4<A: Coded, B: Coded, C: Coded, D: Coded>(
     ensures fits { OnOk result ((A.codec & (B.codec & (C.codec & D.codec))).Fits (a.now, (b.now, (c.now, d.now)))) }
 {
     out.push(number)?;
-    a.write(alloc, out)?;
-    b.write(alloc, out)?;
-    c.write(alloc, out)?;
-    d.write(alloc, out)
+    write_four(alloc, a, b, c, d, out)
 }

@@ -1,6 +1,6 @@
 //! Keys of runs, askers, intervals and windows as bytes.
 
-use crate::coded::Coded;
+use crate::coded::{Coded, write_four, write_two};
 use crate::fault::CodeFault;
 use ps_time::asker::Asker;
 use ps_time::interval::{Interval, Window};
@@ -17,10 +17,14 @@ impl Coded for RunKey {
     ghost codec = { key };
 
     fn write(&self, alloc: Global, out: &mut Vec<u8>) -> Result<(), Memory> {
-        self.lead.write(alloc, out)?;
-        self.task.write(alloc, out)?;
-        self.number.write(alloc, out)?;
-        self.attempt.write(alloc, out)
+        write_four(
+            alloc,
+            &self.lead,
+            &self.task,
+            &self.number,
+            &self.attempt,
+            out,
+        )
     }
 
     fn read(alloc: Global, bytes: &[u8]) -> Result<(RunKey, &[u8]), CodeFault> {
@@ -45,8 +49,7 @@ impl Coded for Asker {
     ghost codec = { asker };
 
     fn write(&self, alloc: Global, out: &mut Vec<u8>) -> Result<(), Memory> {
-        self.requester.write(alloc, out)?;
-        self.server.write(alloc, out)
+        write_two(alloc, &self.requester, &self.server, out)
     }
 
     fn read(alloc: Global, bytes: &[u8]) -> Result<(Asker, &[u8]), CodeFault> {
@@ -63,8 +66,7 @@ impl Coded for Interval {
     ghost codec = { interval };
 
     fn write(&self, alloc: Global, out: &mut Vec<u8>) -> Result<(), Memory> {
-        self.start.write(alloc, out)?;
-        self.end.write(alloc, out)
+        write_two(alloc, &self.start, &self.end, out)
     }
 
     fn read(alloc: Global, bytes: &[u8]) -> Result<(Interval, &[u8]), CodeFault> {
@@ -85,8 +87,7 @@ impl Coded for Window {
     ghost codec = { window };
 
     fn write(&self, alloc: Global, out: &mut Vec<u8>) -> Result<(), Memory> {
-        self.first.write(alloc, out)?;
-        self.last.write(alloc, out)
+        write_two(alloc, &self.first, &self.last, out)
     }
 
     fn read(alloc: Global, bytes: &[u8]) -> Result<(Window, &[u8]), CodeFault> {
@@ -107,8 +108,7 @@ impl Coded for Tiers {
     ghost codec = { tiers };
 
     fn write(&self, alloc: Global, out: &mut Vec<u8>) -> Result<(), Memory> {
-        self.first.write(alloc, out)?;
-        self.second.write(alloc, out)
+        write_two(alloc, &self.first, &self.second, out)
     }
 
     fn read(alloc: Global, bytes: &[u8]) -> Result<(Tiers, &[u8]), CodeFault> {

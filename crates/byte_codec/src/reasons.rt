@@ -3,7 +3,7 @@ ghost use Rattle.std.specs.Prelude.{IfOk};
 ghost use Rattle.byte_codec.specs.Gives.{Gives};
 ghost use Rattle.byte_codec.specs.Reasons.{FitsCause, FitsDenial, FitsWhy, cause_cases, denial_cases, why_cases};
 
-use crate::coded::{Coded, write_three, write_variant, write_variant_2};
+use crate::coded::{Coded, write_three, write_two, write_variant, write_variant_2};
 use crate::fault::CodeFault;
 use plugin_core::test_spec::TestSpec;
 use ps_time::asker::{Asker, Verdict};
@@ -100,10 +100,7 @@ impl Coded for Denial {
                 write_variant_2(alloc, 5, kept.proposal(), sent.proposal(), out)
             }
             Denial::Closed(name) => write_variant(alloc, 6, name, out),
-            Denial::NotParticipant => {
-                out.push(7)?;
-                Ok(())
-            }
+            Denial::NotParticipant => 7u8.write(alloc, out),
             Denial::NoTool(tool) => write_variant(alloc, 8, tool, out),
         }
     }
@@ -140,23 +137,11 @@ impl Coded for Cause {
 
     fn write(&self, alloc: Global, out: &mut Vec<u8>) -> Result<(), Memory> {
         match self {
-            Cause::NoSlot => {
-                out.push(0)?;
-                Ok(())
-            }
-            Cause::NoTool => {
-                out.push(1)?;
-                Ok(())
-            }
+            Cause::NoSlot => 0u8.write(alloc, out),
+            Cause::NoTool => 1u8.write(alloc, out),
             Cause::Denied(host, answer) => write_variant_2(alloc, 2, host, answer, out),
-            Cause::Silent => {
-                out.push(3)?;
-                Ok(())
-            }
-            Cause::HoldEnded => {
-                out.push(4)?;
-                Ok(())
-            }
+            Cause::Silent => 3u8.write(alloc, out),
+            Cause::HoldEnded => 4u8.write(alloc, out),
         }
     }
 
@@ -194,16 +179,10 @@ impl Coded for Why {
 
     fn write(&self, alloc: Global, out: &mut Vec<u8>) -> Result<(), Memory> {
         match self {
-            Why::Missed => {
-                out.push(0)?;
-                Ok(())
-            }
+            Why::Missed => 0u8.write(alloc, out),
             Why::Preempted(run) => write_variant(alloc, 1, run, out),
             Why::Nonstart(because) => write_variant(alloc, 2, because, out),
-            Why::Canceled => {
-                out.push(3)?;
-                Ok(())
-            }
+            Why::Canceled => 3u8.write(alloc, out),
         }
     }
 
@@ -221,8 +200,7 @@ impl Coded for Closing {
     ghost codec = { closing };
 
     fn write(&self, alloc: Global, out: &mut Vec<u8>) -> Result<(), Memory> {
-        self.moment.write(alloc, out)?;
-        self.why.write(alloc, out)
+        write_two(alloc, &self.moment, &self.why, out)
     }
 
     fn read(alloc: Global, bytes: &[u8]) -> Result<(Closing, &[u8]), CodeFault> {

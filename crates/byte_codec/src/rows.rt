@@ -2,7 +2,7 @@
 ghost use Rattle.std.specs.Prelude.{◌++◌, ◌≡◌, OnOk};
 ghost use Rattle.byte_codec.specs.Rows.{ends, ends_of_row, lead, lead_of_row, row_of, steps, steps_of_row, work, work_of_row};
 
-use crate::coded::Coded;
+use crate::coded::{Coded, write_four, write_three, write_two};
 use crate::fault::CodeFault;
 use archive_retry::state::ArchiveState;
 use plugin_core::test_spec::TestSpec;
@@ -24,8 +24,7 @@ impl Coded for FreeAnswer {
     ghost codec = { answer };
 
     fn write(&self, alloc: Global, out: &mut Vec<u8>) -> Result<(), Memory> {
-        self.tools.write(alloc, out)?;
-        self.tiers.write(alloc, out)
+        write_two(alloc, &self.tools, &self.tiers, out)
     }
 
     fn read(alloc: Global, bytes: &[u8]) -> Result<(FreeAnswer, &[u8]), CodeFault> {
@@ -45,10 +44,14 @@ impl Coded for Other {
     fn write(&self, alloc: Global, out: &mut Vec<u8>) -> Result<(), Memory> {
         self.free.write(alloc, out)?;
         self.accepted.write(alloc, out)?;
-        self.confirm_told.write(alloc, out)?;
-        self.cancel_told.write(alloc, out)?;
-        self.material_told.write(alloc, out)?;
-        self.heard.write(alloc, out)
+        write_four(
+            alloc,
+            &self.confirm_told,
+            &self.cancel_told,
+            &self.material_told,
+            &self.heard,
+            out,
+        )
     }
 
     fn read(alloc: Global, bytes: &[u8]) -> Result<(Other, &[u8]), CodeFault> {
@@ -76,9 +79,7 @@ impl Coded for Ending {
     ghost codec = { ending };
 
     fn write(&self, alloc: Global, out: &mut Vec<u8>) -> Result<(), Memory> {
-        self.moment.write(alloc, out)?;
-        self.good.write(alloc, out)?;
-        self.body.write(alloc, out)
+        write_three(alloc, &self.moment, &self.good, &self.body, out)
     }
 
     fn read(alloc: Global, bytes: &[u8]) -> Result<(Ending, &[u8]), CodeFault> {
@@ -98,10 +99,14 @@ fn write_work(alloc: Global, row: &RunRow, out: &mut Vec<u8>) -> Result<(), Memo
     ensures fits { OnOk result (work.Fits (work_of_row row.now)) }
 {
     row.key.write(alloc, out)?;
-    row.test.write(alloc, out)?;
-    row.tool.write(alloc, out)?;
-    row.interval.write(alloc, out)?;
-    row.priority.write(alloc, out)
+    write_four(
+        alloc,
+        &row.test,
+        &row.tool,
+        &row.interval,
+        &row.priority,
+        out,
+    )
 }
 
 type Steps = (
@@ -115,10 +120,14 @@ fn write_steps(alloc: Global, row: &RunRow, out: &mut Vec<u8>) -> Result<(), Mem
     ensures fits { OnOk result (steps.Fits (steps_of_row row.now)) }
 {
     row.participants.write(alloc, out)?;
-    row.asker.write(alloc, out)?;
-    row.accepted.write(alloc, out)?;
-    row.confirmed.write(alloc, out)?;
-    row.started.write(alloc, out)
+    write_four(
+        alloc,
+        &row.asker,
+        &row.accepted,
+        &row.confirmed,
+        &row.started,
+        out,
+    )
 }
 
 type Ends = (
@@ -135,10 +144,14 @@ fn write_ends(alloc: Global, row: &RunRow, out: &mut Vec<u8>) -> Result<(), Memo
     ensures fits { OnOk result (ends.Fits (ends_of_row row.now)) }
 {
     row.ended.write(alloc, out)?;
-    row.material.write(alloc, out)?;
-    row.closed.write(alloc, out)?;
-    row.question.write(alloc, out)?;
-    row.asked.write(alloc, out)
+    write_four(
+        alloc,
+        &row.material,
+        &row.closed,
+        &row.question,
+        &row.asked,
+        out,
+    )
 }
 
 type Lead = (Items<Other>, (Option<Text>, Items<ArchiveState>));
@@ -148,9 +161,7 @@ fn write_lead(alloc: Global, row: &RunRow, out: &mut Vec<u8>) -> Result<(), Memo
     ensures code { OnOk result (out.new.items ≡ out.old.items ++ lead.code (lead_of_row row.now)) }
     ensures fits { OnOk result (lead.Fits (lead_of_row row.now)) }
 {
-    row.others.write(alloc, out)?;
-    row.merged.write(alloc, out)?;
-    row.archives.write(alloc, out)
+    write_three(alloc, &row.others, &row.merged, &row.archives, out)
 }
 
 impl Coded for RunRow {

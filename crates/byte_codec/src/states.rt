@@ -1,9 +1,9 @@
 //! Verdicts, names of states, acknowledgements and states of archives as bytes.
-ghost use Rattle.std.specs.Prelude.{IfOk};
+ghost use Rattle.std.specs.Prelude.{◌∷◌, ◌≡◌, [], IfOk};
 ghost use Rattle.byte_codec.specs.Gives.{Gives};
-ghost use Rattle.byte_codec.specs.States.{FitsState, FitsTold, FitsVerdict, FitsWhat, state_cases, told_cases, verdict_cases, what_cases};
+ghost use Rattle.byte_codec.specs.States.{FitsState, FitsTold, FitsVerdict, FitsWhat, state_cases, state_code, told_cases, told_code, verdict_cases, what_cases, what_code};
 
-use crate::coded::{Coded, write_variant};
+use crate::coded::{Coded, write_three, write_variant};
 use crate::fault::CodeFault;
 use archive_retry::state::ArchiveState;
 use ps_time::asker::Verdict;
@@ -44,10 +44,7 @@ impl Coded for Verdict {
         match self {
             Verdict::Permitted(place) => write_variant(alloc, 0, place, out),
             Verdict::Stopped(place) => write_variant(alloc, 1, place, out),
-            Verdict::Exhausted => {
-                out.push(2)?;
-                Ok(())
-            }
+            Verdict::Exhausted => 2u8.write(alloc, out),
             Verdict::AboveCeiling(ceiling) => write_variant(alloc, 3, ceiling, out),
         }
     }
@@ -72,26 +69,24 @@ fn read_what(number: u8, bytes: &[u8]) -> Result<(What, &[u8]), CodeFault>
     }
 }
 
+fn what_number(what: What) -> u8
+    ensures code { what_code what ≡ result ∷ [] }
+    ensures fits { FitsWhat what }
+{
+    match what {
+        What::Runs => 0,
+        What::Results => 1,
+        What::Numbers => 2,
+    }
+}
+
 impl Coded for What {
     ghost use Rattle.byte_codec.specs.States.{what, what_is};
 
     ghost codec = { what };
 
     fn write(&self, alloc: Global, out: &mut Vec<u8>) -> Result<(), Memory> {
-        match self {
-            What::Runs => {
-                out.push(0)?;
-                Ok(())
-            }
-            What::Results => {
-                out.push(1)?;
-                Ok(())
-            }
-            What::Numbers => {
-                out.push(2)?;
-                Ok(())
-            }
-        }
+        what_number(*self).write(alloc, out)
     }
 
     fn read(alloc: Global, bytes: &[u8]) -> Result<(What, &[u8]), CodeFault> {
@@ -122,58 +117,32 @@ fn read_state(number: u8, bytes: &[u8]) -> Result<(State, &[u8]), CodeFault>
     }
 }
 
+fn state_number(state: State) -> u8
+    ensures code { state_code state ≡ result ∷ [] }
+    ensures fits { FitsState state }
+{
+    match state {
+        State::Missed => 0,
+        State::Preempted => 1,
+        State::Nonstart => 2,
+        State::Canceled => 3,
+        State::Finished => 4,
+        State::Failed => 5,
+        State::Running => 6,
+        State::Cleanup => 7,
+        State::Overdue => 8,
+        State::OnDeck => 9,
+        State::Pending => 10,
+    }
+}
+
 impl Coded for State {
     ghost use Rattle.byte_codec.specs.States.{state, state_is};
 
     ghost codec = { state };
 
     fn write(&self, alloc: Global, out: &mut Vec<u8>) -> Result<(), Memory> {
-        match self {
-            State::Missed => {
-                out.push(0)?;
-                Ok(())
-            }
-            State::Preempted => {
-                out.push(1)?;
-                Ok(())
-            }
-            State::Nonstart => {
-                out.push(2)?;
-                Ok(())
-            }
-            State::Canceled => {
-                out.push(3)?;
-                Ok(())
-            }
-            State::Finished => {
-                out.push(4)?;
-                Ok(())
-            }
-            State::Failed => {
-                out.push(5)?;
-                Ok(())
-            }
-            State::Running => {
-                out.push(6)?;
-                Ok(())
-            }
-            State::Cleanup => {
-                out.push(7)?;
-                Ok(())
-            }
-            State::Overdue => {
-                out.push(8)?;
-                Ok(())
-            }
-            State::OnDeck => {
-                out.push(9)?;
-                Ok(())
-            }
-            State::Pending => {
-                out.push(10)?;
-                Ok(())
-            }
-        }
+        state_number(*self).write(alloc, out)
     }
 
     fn read(alloc: Global, bytes: &[u8]) -> Result<(State, &[u8]), CodeFault> {
@@ -196,26 +165,24 @@ fn read_told(number: u8, bytes: &[u8]) -> Result<(Told, &[u8]), CodeFault>
     }
 }
 
+fn told_number(told: Told) -> u8
+    ensures code { told_code told ≡ result ∷ [] }
+    ensures fits { FitsTold told }
+{
+    match told {
+        Told::Confirm => 1,
+        Told::Cancel => 2,
+        Told::Material => 3,
+    }
+}
+
 impl Coded for Told {
     ghost use Rattle.byte_codec.specs.States.{told, told_is};
 
     ghost codec = { told };
 
     fn write(&self, alloc: Global, out: &mut Vec<u8>) -> Result<(), Memory> {
-        match self {
-            Told::Confirm => {
-                out.push(1)?;
-                Ok(())
-            }
-            Told::Cancel => {
-                out.push(2)?;
-                Ok(())
-            }
-            Told::Material => {
-                out.push(3)?;
-                Ok(())
-            }
-        }
+        told_number(*self).write(alloc, out)
     }
 
     fn read(alloc: Global, bytes: &[u8]) -> Result<(Told, &[u8]), CodeFault> {
@@ -232,9 +199,7 @@ impl Coded for ArchiveState {
     ghost codec = { archive_state };
 
     fn write(&self, alloc: Global, out: &mut Vec<u8>) -> Result<(), Memory> {
-        self.tried.write(alloc, out)?;
-        self.next.write(alloc, out)?;
-        self.done.write(alloc, out)
+        write_three(alloc, &self.tried, &self.next, &self.done, out)
     }
 
     fn read(alloc: Global, bytes: &[u8]) -> Result<(ArchiveState, &[u8]), CodeFault> {

@@ -9,7 +9,7 @@ ghost use Rattle.byte_codec.specs.Gives.{Gives};
 ghost use Rattle.byte_codec.specs.Tasks.{IsOwnTask, own_task, task_in, task_text};
 ghost use Rattle.byte_codec.specs.Tests.{ok_of};
 
-use crate::coded::Coded;
+use crate::coded::{Coded, write_four};
 use crate::fault::CodeFault;
 use crate::texts::write_str;
 use crate::trees::tree_in;
@@ -33,7 +33,10 @@ fn task_of(alloc: Global, value: Value, host: &str) -> Result<Task, CodeFault>
     match Task::read(alloc, value, 0, host) {
         Ok(task) => Ok(task),
         Err(TaskFault::Memory) => Err(CodeFault::Memory),
-        Err(_) => Err(CodeFault::NoValue),
+        Err(fault) => {
+            drop(fault);
+            Err(CodeFault::NoValue)
+        }
     }
 }
 
@@ -55,10 +58,17 @@ fn own_task(alloc: Global, text: &Text, host: &str, task: Task) -> Result<Task, 
     ensures value { Gives (λ task. task) result (own_task text.now task) }
     ensures own { IfOk result (IsOwnTask host.now text.now) }
 {
-    let own = task_text(alloc, host, &task)?;
+    let own = match task_text(alloc, host, &task) {
+        Ok(own) => own,
+        Err(Memory) => {
+            drop(task);
+            return Err(CodeFault::Memory);
+        }
+    };
     if own.as_str() == text.as_str() {
         Ok(task)
     } else {
+        drop(task);
         Err(CodeFault::NoValue)
     }
 }
@@ -82,10 +92,7 @@ impl Coded for TaskRow {
     fn write(&self, alloc: Global, out: &mut Vec<u8>) -> Result<(), Memory> {
         let text = task_text(alloc, self.asker.server.as_str(), &self.task)?;
         self.serial.write(alloc, out)?;
-        text.write(alloc, out)?;
-        self.asker.write(alloc, out)?;
-        self.posted.write(alloc, out)?;
-        self.closed.write(alloc, out)
+        write_four(alloc, &text, &self.asker, &self.posted, &self.closed, out)
     }
 
     fn read(alloc: Global, bytes: &[u8]) -> Result<(TaskRow, &[u8]), CodeFault> {

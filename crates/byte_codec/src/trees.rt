@@ -29,7 +29,10 @@ pub fn tree_in(alloc: Global, text: &Text) -> Result<Value, CodeFault>
     match read_tree(alloc, text.as_str().as_bytes()) {
         Ok(value) => Ok(value),
         Err(JsonFault::Memory) => Err(CodeFault::Memory),
-        Err(_) => Err(CodeFault::NoValue),
+        Err(fault) => {
+            drop(fault);
+            Err(CodeFault::NoValue)
+        }
     }
 }
 
@@ -40,7 +43,10 @@ fn test_of(alloc: Global, value: Value) -> Result<TestSpec, CodeFault>
     match read_test(alloc, value) {
         Ok(test) => Ok(test),
         Err(SpecFault::Memory) => Err(CodeFault::Memory),
-        Err(_) => Err(CodeFault::NoValue),
+        Err(fault) => {
+            drop(fault);
+            Err(CodeFault::NoValue)
+        }
     }
 }
 
