@@ -1,8 +1,11 @@
 //! The view of a run.
-ghost use Rattle.std.specs.Prelude.{◌≡◌, IfOk, IfSome, map, option_map};
-ghost use Rattle.serde_json.specs.Data.{array};
+ghost use Rattle.std.specs.Prelude.{◌≡◌, IfOk, IfSome, codes, map, option_map};
+ghost use Rattle.serde_json.specs.Data.{array, number, put as with_member, string};
+ghost use Rattle.serde_json.specs.Find.{of_integer};
 ghost use Rattle.serde_json.specs.View.{items_of, view};
 ghost use Rattle.ps_json.specs.TreeText.{kept_tree};
+ghost use Rattle.plugin_core.specs.WriteTest.{names_data};
+ghost use Rattle.run_states.specs.State.{state_text};
 ghost use Rattle.archive_retry.specs.Merge.{IsResultText, IsTreeText};
 ghost use Rattle.api_reply.specs.Bounds.{IsRunShown};
 ghost use Rattle.api_reply.specs.Views.{archiving_data, archiving_state, archivings, run_view, shown_result, some_moment, some_text};
@@ -128,6 +131,32 @@ fn write_result(alloc: Global, number: u16, row: &RunRow) -> Result<Value, Memor
     }
 }
 
+/// With when it starts and ends, and its state.
+fn with_course(object: Object, alloc: Global, row: &RunRow, state: State) -> Result<Object, Memory>
+    ensures { IfOk result (λ made. made ≡ with_member (codes "state") (string (state_text state))
+        (with_member (codes "start-time") (some_moment (option_map (λ i. i.start) row.now.interval))
+        (with_member (codes "end-time") (some_moment (option_map (λ i. i.end) row.now.interval)) object))) }
+{
+    let end = write_end(alloc, &row.interval)?;
+    let object = object.with("end-time", end)?;
+    let start = write_start(alloc, &row.interval)?;
+    object
+        .with("start-time", start)?
+        .text("state", state.name())
+}
+
+/// With who takes part, its priority and its tool.
+fn with_work(object: Object, alloc: Global, row: &RunRow) -> Result<Object, Memory>
+    ensures { IfOk result (λ made. made ≡ with_member (codes "tool") (some_text row.now.tool)
+        (with_member (codes "priority") (number (of_integer row.now.priority))
+        (with_member (codes "participants") (names_data row.now.participants) object))) }
+{
+    let participants = write_names(alloc, row.participants.as_slice())?;
+    let object = object.with("participants", participants)?;
+    let tool = write_tool(alloc, &row.tool)?;
+    object.integer("priority", row.priority)?.with("tool", tool)
+}
+
 /// A run, with the names of its archivers and its state, at the host with this number.
 pub fn write_run(
     alloc: Global,
@@ -141,18 +170,7 @@ pub fn write_run(
 {
     let archivings = write_archivings(alloc, archivers, row.archives.as_slice())?;
     let object = Object::new(alloc).with("archivings", archivings)?;
-    let object = object.with("end-time", write_end(alloc, &row.interval)?)?;
-    let object = object.with(
-        "participants",
-        write_names(alloc, row.participants.as_slice())?,
-    )?;
-    let object = object.integer("priority", row.priority)?;
     let object = object.with("result", write_result(alloc, number, row)?)?;
-    let object = object.with("start-time", write_start(alloc, &row.interval)?)?;
-    let object = object.text("state", state.name())?;
-    Ok(
-        object
-            .with("tool", write_tool(alloc, &row.tool)?)?
-            .into_value(),
-    )
+    let object = with_course(object, alloc, row, state)?;
+    Ok(with_work(object, alloc, row)?.into_value())
 }
