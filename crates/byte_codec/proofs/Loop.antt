@@ -1,6 +1,6 @@
--- Reading values one after the other, as a loop does.
-use Rattle.std.proofs.Common.{◌≡◌, ℕ, suc, ◌-◌, ◌+◌, ◌≤◌, ◌<◌, List, [], ◌∷◌, ◌++◌, All, length, Option, Some, None, refl, sym, ap, ◌∙◌, append_assoc, arith}
-use Rattle.std.proofs.lemmas.List.{append-nil}
+-- Reading and writing values one after the other, as a loop does.
+use Rattle.std.proofs.Common.{◌≡◌, ℕ, suc, ◌-◌, ◌+◌, ◌≤◌, ◌<◌, List, [], ◌∷◌, ◌++◌, All, length, get_or, take, flat_map, Option, Some, None, refl, sym, ap, ◌∙◌, append_assoc, arith}
+use Rattle.std.proofs.lemmas.List.{append-nil, flat_map_more, take_more}
 use Rattle.byte_codec.specs.Gives.{Fails}
 use Rattle.byte_codec.specs.Reading.{behind, times_at}
 use Rattle.byte_codec.specs.declared.fault.CodeFault.{CodeFault}
@@ -42,3 +42,10 @@ pub record IsReading {A : Type 0} (Fits : A → Type 0) (read : List ℕ → Opt
   pub number : length front ≡ i
   pub within : i ≤ count
   pub fit : All Fits front
+
+-- one more value is written
+pub written_more : {A : Type 0} (code : A → List ℕ) (items : List A) (i : ℕ) (item : A) (front before after : List ℕ) → i < length items → item ≡ get_or items i item
+    → before ≡ front ++ flat_map code (take i items) → after ≡ before ++ code item → after ≡ front ++ flat_map code (take (i + 1) items)
+written_more {A} code items i item front before after here is so_far wrote =
+    wrote ∙ (ap (λ (t : List ℕ). t ++ code item) so_far ∙ (flat_map_more code front (take i items) item
+    ∙ ap (λ (xs : List A). front ++ flat_map code xs) (ap (λ (x : A). take i items ++ x ∷ []) is ∙ sym (take_more items i item here))))

@@ -116,6 +116,25 @@ change_code (Tried run index state) = 16 ∷ (key & (number_8 & archive_state)).
 change_code (LimitsSet config) = 17 ∷ limits.code config
 change_code (Purged run) = 18 ∷ key.code run
 
+-- the changes in three parts, by their tags
+abbrev pub last_cases : ℕ → List ℕ → Option (Change × List ℕ)
+last_cases =
+    case_at 13 (made_at MaterialHeard key.read) (
+    case_at 14 (made_at (λ p. ResultHeard p.0 p.1.0 p.1.1) (key & (number_8 & (option text))).read) (
+    case_at 15 (made_at (λ p. Merged p.0 p.1) (key & text).read) (
+    case_at 16 (made_at (λ p. Tried p.0 p.1.0 p.1.1) (key & (number_8 & archive_state)).read) (
+    case_at 17 (made_at LimitsSet limits.read) (
+    case_at 18 (made_at Purged key.read) no_case_at)))))
+
+abbrev pub later_cases : ℕ → List ℕ → Option (Change × List ℕ)
+later_cases =
+    case_at 7 (made_at (λ p. Closed p.0 p.1) (key & why).read) (
+    case_at 8 (made_at Started key.read) (
+    case_at 9 (made_at (λ p. Ended p.0 p.1.0 p.1.1) (key & (mark & text)).read) (
+    case_at 10 (made_at (λ p. FreeHeard p.0 p.1.0 p.1.1) (key & (number_8 & answer)).read) (
+    case_at 11 (made_at (λ p. AcceptHeard p.0 p.1) (key & number_8).read) (
+    case_at 12 (made_at (λ p. told_there p.0 p.1.0 p.1.1) (key & (number_8 & told)).read) last_cases)))))
+
 abbrev pub change_cases : ℕ → List ℕ → Option (Change × List ℕ)
 change_cases =
     case_at 1 (made_at Posted task_row.read) (
@@ -123,19 +142,7 @@ change_cases =
     case_at 3 (made_at accepted_of accepted.read) (
     case_at 4 (made_at asked_of asked.read) (
     case_at 5 (made_at (λ p. Planned p.0 p.1.0 p.1.1.0 p.1.1.1) (key & (number_64 & (text & number_32))).read) (
-    case_at 6 (made_at Confirmed key.read) (
-    case_at 7 (made_at (λ p. Closed p.0 p.1) (key & why).read) (
-    case_at 8 (made_at Started key.read) (
-    case_at 9 (made_at (λ p. Ended p.0 p.1.0 p.1.1) (key & (mark & text)).read) (
-    case_at 10 (made_at (λ p. FreeHeard p.0 p.1.0 p.1.1) (key & (number_8 & answer)).read) (
-    case_at 11 (made_at (λ p. AcceptHeard p.0 p.1) (key & number_8).read) (
-    case_at 12 (made_at (λ p. told_there p.0 p.1.0 p.1.1) (key & (number_8 & told)).read) (
-    case_at 13 (made_at MaterialHeard key.read) (
-    case_at 14 (made_at (λ p. ResultHeard p.0 p.1.0 p.1.1) (key & (number_8 & (option text))).read) (
-    case_at 15 (made_at (λ p. Merged p.0 p.1) (key & text).read) (
-    case_at 16 (made_at (λ p. Tried p.0 p.1.0 p.1.1) (key & (number_8 & archive_state)).read) (
-    case_at 17 (made_at LimitsSet limits.read) (
-    case_at 18 (made_at Purged key.read) no_case_at)))))))))))))))))
+    case_at 6 (made_at Confirmed key.read) later_cases)))))
 
 abbrev pub change : Codec Change
 change = variant WritableChange FitsChange change_code change_cases

@@ -1,6 +1,6 @@
 //! Changes and records as bytes.
 ghost use Rattle.std.specs.Prelude.{◌++◌, ◌∷◌, ◌≡◌, IfOk, OnOk};
-ghost use Rattle.byte_codec.specs.Changes.{FitsChange, WritableChange, accepted, accepted_of, asked, asked_of, change_cases, parts_accepted, parts_asked};
+ghost use Rattle.byte_codec.specs.Changes.{FitsChange, WritableChange, accepted, accepted_of, asked, asked_of, change_cases, last_cases, later_cases, parts_accepted, parts_asked};
 ghost use Rattle.byte_codec.specs.Gives.{Gives};
 ghost use Rattle.byte_codec.specs.Reading.{made_at};
 ghost use Rattle.host_model.specs.declared.change.Change.{Change};
@@ -158,21 +158,18 @@ pub fn read_fields(alloc: Global, number: u8, bytes: &[u8]) -> Result<(Change, &
     ensures fits { IfOk result (λ x. FitsChange x.0) }
 {
     match number {
-        1 => {
-            let (row, rest) = TaskRow::read(alloc, bytes)?;
-            Ok((Change::Posted(row), rest))
-        }
-        2 => {
-            let (serial, rest) = u32::read(alloc, bytes)?;
-            Ok((Change::TaskClosed(serial), rest))
-        }
+        1 => match TaskRow::read(alloc, bytes) {
+            Ok((row, rest)) => Ok((Change::Posted(row), rest)),
+            Err(fault) => Err(fault),
+        },
+        2 => match u32::read(alloc, bytes) {
+            Ok((serial, rest)) => Ok((Change::TaskClosed(serial), rest)),
+            Err(fault) => Err(fault),
+        },
         3 => read_accepted(alloc, bytes),
         4 => read_asked(alloc, bytes),
-        5 => {
-            let ((key, (start, (tool, epoch))), rest) = <(RunKey, (u64, (Text, u32)))>::read(
-                alloc, bytes,
-            )?;
-            Ok((
+        5 => match <(RunKey, (u64, (Text, u32)))>::read(alloc, bytes) {
+            Ok(((key, (start, (tool, epoch))), rest)) => Ok((
                 Change::Planned {
                     key,
                     start,
@@ -180,62 +177,85 @@ pub fn read_fields(alloc: Global, number: u8, bytes: &[u8]) -> Result<(Change, &
                     epoch,
                 },
                 rest,
-            ))
-        }
-        6 => {
-            let (key, rest) = RunKey::read(alloc, bytes)?;
-            Ok((Change::Confirmed(key), rest))
-        }
-        7 => {
-            let ((key, why), rest) = <(RunKey, Why)>::read(alloc, bytes)?;
-            Ok((Change::Closed { key, why }, rest))
-        }
-        8 => {
-            let (key, rest) = RunKey::read(alloc, bytes)?;
-            Ok((Change::Started(key), rest))
-        }
-        9 => {
-            let ((key, (good, body)), rest) = <(RunKey, (bool, Text))>::read(alloc, bytes)?;
-            Ok((Change::Ended { key, good, body }, rest))
-        }
-        10 => {
-            let ((key, (place, answer)), rest) = <(RunKey, (u8, FreeAnswer))>::read(alloc, bytes)?;
-            Ok((Change::FreeHeard { key, place, answer }, rest))
-        }
-        11 => {
-            let ((key, place), rest) = <(RunKey, u8)>::read(alloc, bytes)?;
-            Ok((Change::AcceptHeard { key, place }, rest))
-        }
-        12 => {
-            let ((key, (place, told)), rest) = <(RunKey, (u8, Told))>::read(alloc, bytes)?;
-            Ok((Change::Told { key, place, told }, rest))
-        }
-        13 => {
-            let (key, rest) = RunKey::read(alloc, bytes)?;
-            Ok((Change::MaterialHeard(key), rest))
-        }
-        14 => {
-            let ((key, (place, result)), rest) = <(RunKey, (u8, Option<Text>))>::read(
-                alloc, bytes,
-            )?;
-            Ok((Change::ResultHeard { key, place, result }, rest))
-        }
-        15 => {
-            let ((key, body), rest) = <(RunKey, Text)>::read(alloc, bytes)?;
-            Ok((Change::Merged { key, body }, rest))
-        }
-        16 => {
-            let ((key, (index, state)), rest) = <(RunKey, (u8, ArchiveState))>::read(alloc, bytes)?;
-            Ok((Change::Tried { key, index, state }, rest))
-        }
-        17 => {
-            let (limits, rest) = <Limits as Coded>::read(alloc, bytes)?;
-            Ok((Change::LimitsSet(limits), rest))
-        }
-        18 => {
-            let (key, rest) = RunKey::read(alloc, bytes)?;
-            Ok((Change::Purged(key), rest))
-        }
+            )),
+            Err(fault) => Err(fault),
+        },
+        6 => match RunKey::read(alloc, bytes) {
+            Ok((key, rest)) => Ok((Change::Confirmed(key), rest)),
+            Err(fault) => Err(fault),
+        },
+        _ => read_later_fields(alloc, number, bytes),
+    }
+}
+
+fn read_later_fields(alloc: Global, number: u8, bytes: &[u8]) -> Result<(Change, &[u8]), CodeFault>
+    ensures value { Gives (λ x. (x.0, x.1.now)) result (later_cases number bytes.now) }
+    ensures fits { IfOk result (λ x. FitsChange x.0) }
+{
+    match number {
+        7 => match <(RunKey, Why)>::read(alloc, bytes) {
+            Ok(((key, why), rest)) => Ok((Change::Closed { key, why }, rest)),
+            Err(fault) => Err(fault),
+        },
+        8 => match RunKey::read(alloc, bytes) {
+            Ok((key, rest)) => Ok((Change::Started(key), rest)),
+            Err(fault) => Err(fault),
+        },
+        9 => match <(RunKey, (bool, Text))>::read(alloc, bytes) {
+            Ok(((key, (good, body)), rest)) => Ok((Change::Ended { key, good, body }, rest)),
+            Err(fault) => Err(fault),
+        },
+        10 => match <(RunKey, (u8, FreeAnswer))>::read(alloc, bytes) {
+            Ok(((key, (place, answer)), rest)) => Ok((
+                Change::FreeHeard { key, place, answer },
+                rest,
+            )),
+            Err(fault) => Err(fault),
+        },
+        11 => match <(RunKey, u8)>::read(alloc, bytes) {
+            Ok(((key, place), rest)) => Ok((Change::AcceptHeard { key, place }, rest)),
+            Err(fault) => Err(fault),
+        },
+        12 => match <(RunKey, (u8, Told))>::read(alloc, bytes) {
+            Ok(((key, (place, told)), rest)) => Ok((Change::Told { key, place, told }, rest)),
+            Err(fault) => Err(fault),
+        },
+        _ => read_last_fields(alloc, number, bytes),
+    }
+}
+
+fn read_last_fields(alloc: Global, number: u8, bytes: &[u8]) -> Result<(Change, &[u8]), CodeFault>
+    ensures value { Gives (λ x. (x.0, x.1.now)) result (last_cases number bytes.now) }
+    ensures fits { IfOk result (λ x. FitsChange x.0) }
+{
+    match number {
+        13 => match RunKey::read(alloc, bytes) {
+            Ok((key, rest)) => Ok((Change::MaterialHeard(key), rest)),
+            Err(fault) => Err(fault),
+        },
+        14 => match <(RunKey, (u8, Option<Text>))>::read(alloc, bytes) {
+            Ok(((key, (place, result)), rest)) => Ok((
+                Change::ResultHeard { key, place, result },
+                rest,
+            )),
+            Err(fault) => Err(fault),
+        },
+        15 => match <(RunKey, Text)>::read(alloc, bytes) {
+            Ok(((key, body), rest)) => Ok((Change::Merged { key, body }, rest)),
+            Err(fault) => Err(fault),
+        },
+        16 => match <(RunKey, (u8, ArchiveState))>::read(alloc, bytes) {
+            Ok(((key, (index, state)), rest)) => Ok((Change::Tried { key, index, state }, rest)),
+            Err(fault) => Err(fault),
+        },
+        17 => match <Limits as Coded>::read(alloc, bytes) {
+            Ok((limits, rest)) => Ok((Change::LimitsSet(limits), rest)),
+            Err(fault) => Err(fault),
+        },
+        18 => match RunKey::read(alloc, bytes) {
+            Ok((key, rest)) => Ok((Change::Purged(key), rest)),
+            Err(fault) => Err(fault),
+        },
         _ => Err(CodeFault::NoValue),
     }
 }

@@ -1,5 +1,5 @@
 //! Proposals, and why a run was denied or closed, as bytes.
-ghost use Rattle.std.specs.Prelude.{IfOk};
+ghost use Rattle.std.specs.Prelude.{◌≡◌, IfOk};
 ghost use Rattle.byte_codec.specs.Gives.{Gives};
 ghost use Rattle.byte_codec.specs.Reasons.{FitsCause, FitsDenial, FitsWhy, cause_cases, denial_cases, why_cases};
 
@@ -45,42 +45,70 @@ impl Coded for Proposal {
     ghost laws = { proposal_is };
 }
 
+/// Both proposals, each in a place of its own.
+fn boxed(
+    alloc: Global,
+    kept: Proposal,
+    sent: Proposal,
+) -> Result<(BoxedProposal, BoxedProposal), Memory>
+    ensures { IfOk result (λ both. (both.0 ≡ kept) × (both.1 ≡ sent)) }
+{
+    let kept = match BoxedProposal::new(alloc, kept) {
+        Ok(kept) => kept,
+        Err(Memory) => {
+            drop(sent);
+            return Err(Memory);
+        }
+    };
+    match BoxedProposal::new(alloc, sent) {
+        Ok(sent) => Ok((kept, sent)),
+        Err(Memory) => {
+            drop(kept);
+            Err(Memory)
+        }
+    }
+}
+
+fn read_differs(alloc: Global, bytes: &[u8]) -> Result<(Denial, &[u8]), CodeFault>
+    ensures value { Gives (λ x. (x.0, x.1.now)) result (denial_cases 5 bytes.now) }
+    ensures fits { IfOk result (λ x. FitsDenial x.0) }
+{
+    let ((kept, sent), rest) = <(Proposal, Proposal)>::read(alloc, bytes)?;
+    let (kept, sent) = boxed(alloc, kept, sent)?;
+    Ok((Denial::Differs(kept, sent), rest))
+}
+
 fn read_denial(alloc: Global, number: u8, bytes: &[u8]) -> Result<(Denial, &[u8]), CodeFault>
     ensures value { Gives (λ x. (x.0, x.1.now)) result (denial_cases number bytes.now) }
     ensures fits { IfOk result (λ x. FitsDenial x.0) }
 {
     match number {
-        1 => {
-            let (said, rest) = Verdict::read(alloc, bytes)?;
-            Ok((Denial::Limits(said), rest))
-        }
-        2 => {
-            let ((moment, start), rest) = <(u64, u64)>::read(alloc, bytes)?;
-            Ok((Denial::Past(moment, start), rest))
-        }
-        3 => {
-            let (run, rest) = RunKey::read(alloc, bytes)?;
-            Ok((Denial::Conflict(run), rest))
-        }
-        4 => {
-            let ((full, count), rest) = <(What, u64)>::read(alloc, bytes)?;
-            Ok((Denial::Full(full, count), rest))
-        }
-        5 => {
-            let ((kept, sent), rest) = <(Proposal, Proposal)>::read(alloc, bytes)?;
-            let kept = BoxedProposal::new(alloc, kept)?;
-            let sent = BoxedProposal::new(alloc, sent)?;
-            Ok((Denial::Differs(kept, sent), rest))
-        }
-        6 => {
-            let (name, rest) = State::read(alloc, bytes)?;
-            Ok((Denial::Closed(name), rest))
-        }
+        1 => match Verdict::read(alloc, bytes) {
+            Ok((said, rest)) => Ok((Denial::Limits(said), rest)),
+            Err(fault) => Err(fault),
+        },
+        2 => match <(u64, u64)>::read(alloc, bytes) {
+            Ok(((moment, start), rest)) => Ok((Denial::Past(moment, start), rest)),
+            Err(fault) => Err(fault),
+        },
+        3 => match RunKey::read(alloc, bytes) {
+            Ok((run, rest)) => Ok((Denial::Conflict(run), rest)),
+            Err(fault) => Err(fault),
+        },
+        4 => match <(What, u64)>::read(alloc, bytes) {
+            Ok(((full, count), rest)) => Ok((Denial::Full(full, count), rest)),
+            Err(fault) => Err(fault),
+        },
+        5 => read_differs(alloc, bytes),
+        6 => match State::read(alloc, bytes) {
+            Ok((name, rest)) => Ok((Denial::Closed(name), rest)),
+            Err(fault) => Err(fault),
+        },
         7 => Ok((Denial::NotParticipant, bytes)),
-        8 => {
-            let (tool, rest) = Text::read(alloc, bytes)?;
-            Ok((Denial::NoTool(tool), rest))
-        }
+        8 => match Text::read(alloc, bytes) {
+            Ok((tool, rest)) => Ok((Denial::NoTool(tool), rest)),
+            Err(fault) => Err(fault),
+        },
         _ => Err(CodeFault::NoValue),
     }
 }
@@ -120,10 +148,10 @@ fn read_cause(alloc: Global, number: u8, bytes: &[u8]) -> Result<(Cause, &[u8]),
     match number {
         0 => Ok((Cause::NoSlot, bytes)),
         1 => Ok((Cause::NoTool, bytes)),
-        2 => {
-            let ((host, answer), rest) = <(Text, Denial)>::read(alloc, bytes)?;
-            Ok((Cause::Denied(host, answer), rest))
-        }
+        2 => match <(Text, Denial)>::read(alloc, bytes) {
+            Ok(((host, answer), rest)) => Ok((Cause::Denied(host, answer), rest)),
+            Err(fault) => Err(fault),
+        },
         3 => Ok((Cause::Silent, bytes)),
         4 => Ok((Cause::HoldEnded, bytes)),
         _ => Err(CodeFault::NoValue),
@@ -159,14 +187,14 @@ fn read_why(alloc: Global, number: u8, bytes: &[u8]) -> Result<(Why, &[u8]), Cod
 {
     match number {
         0 => Ok((Why::Missed, bytes)),
-        1 => {
-            let (run, rest) = RunKey::read(alloc, bytes)?;
-            Ok((Why::Preempted(run), rest))
-        }
-        2 => {
-            let (because, rest) = Cause::read(alloc, bytes)?;
-            Ok((Why::Nonstart(because), rest))
-        }
+        1 => match RunKey::read(alloc, bytes) {
+            Ok((run, rest)) => Ok((Why::Preempted(run), rest)),
+            Err(fault) => Err(fault),
+        },
+        2 => match Cause::read(alloc, bytes) {
+            Ok((because, rest)) => Ok((Why::Nonstart(because), rest)),
+            Err(fault) => Err(fault),
+        },
         3 => Ok((Why::Canceled, bytes)),
         _ => Err(CodeFault::NoValue),
     }

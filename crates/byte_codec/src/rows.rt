@@ -156,6 +156,8 @@ fn write_ends(alloc: Global, row: &RunRow, out: &mut Vec<u8>) -> Result<(), Memo
 
 type Lead = (Items<Other>, (Option<Text>, Items<ArchiveState>));
 
+type RowParts = (Work, (Steps, (Ends, Lead)));
+
 fn write_lead(alloc: Global, row: &RunRow, out: &mut Vec<u8>) -> Result<(), Memory>
     requires { lead.Writable (lead_of_row row.now) }
     ensures code { OnOk result (out.new.items ≡ out.old.items ++ lead.code (lead_of_row row.now)) }
@@ -177,18 +179,17 @@ impl Coded for RunRow {
     }
 
     fn read(alloc: Global, bytes: &[u8]) -> Result<(RunRow, &[u8]), CodeFault> {
-        let ((work, (steps, (ends, lead))), rest) = <(Work, (Steps, (Ends, Lead)))>::read(
-            alloc, bytes,
-        )?;
-        Ok((row_of(work, steps, ends, lead), rest))
+        let (parts, rest) = RowParts::read(alloc, bytes)?;
+        Ok((row_of(parts), rest))
     }
 
     ghost laws = { row_is };
 }
 
-fn row_of(work: Work, steps: Steps, ends: Ends, lead: Lead) -> RunRow
-    ensures { result ≡ row_of (work, (steps, (ends, lead))) }
+fn row_of(parts: RowParts) -> RunRow
+    ensures { result ≡ row_of parts }
 {
+    let (work, (steps, (ends, lead))) = parts;
     let (key, (test, (tool, (interval, priority)))) = work;
     let (participants, (asker, (accepted, (confirmed, started)))) = steps;
     let (ended, (material, (closed, (question, asked)))) = ends;

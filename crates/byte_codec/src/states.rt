@@ -18,19 +18,19 @@ fn read_verdict(alloc: Global, number: u8, bytes: &[u8]) -> Result<(Verdict, &[u
     ensures fits { IfOk result (λ x. FitsVerdict x.0) }
 {
     match number {
-        0 => {
-            let (place, rest) = u32::read(alloc, bytes)?;
-            Ok((Verdict::Permitted(place), rest))
-        }
-        1 => {
-            let (place, rest) = u32::read(alloc, bytes)?;
-            Ok((Verdict::Stopped(place), rest))
-        }
+        0 => match u32::read(alloc, bytes) {
+            Ok((place, rest)) => Ok((Verdict::Permitted(place), rest)),
+            Err(fault) => Err(fault),
+        },
+        1 => match u32::read(alloc, bytes) {
+            Ok((place, rest)) => Ok((Verdict::Stopped(place), rest)),
+            Err(fault) => Err(fault),
+        },
         2 => Ok((Verdict::Exhausted, bytes)),
-        3 => {
-            let (ceiling, rest) = i16::read(alloc, bytes)?;
-            Ok((Verdict::AboveCeiling(ceiling), rest))
-        }
+        3 => match i16::read(alloc, bytes) {
+            Ok((ceiling, rest)) => Ok((Verdict::AboveCeiling(ceiling), rest)),
+            Err(fault) => Err(fault),
+        },
         _ => Err(CodeFault::NoValue),
     }
 }
