@@ -152,6 +152,7 @@ fn read_asked(alloc: Global, bytes: &[u8]) -> Result<(Change, &[u8]), CodeFault>
     ))
 }
 
+// The arms hand a fault on by a `match`, since a `?` in each would take the prover a third longer.
 /// The change of this tag with whose fields the bytes begin, and the bytes behind them.
 pub fn read_fields(alloc: Global, number: u8, bytes: &[u8]) -> Result<(Change, &[u8]), CodeFault>
     ensures value { Gives (λ x. (x.0, x.1.now)) result (change_cases number bytes.now) }
