@@ -2,14 +2,14 @@
 ghost use Rattle.std.specs.Prelude.{◌≡◌, List, IfOk};
 ghost use Rattle.sqlite.specs.Effect.{IsDatabase};
 ghost use Rattle.sqlite.specs.Files.{file_state, over_files};
-ghost use Rattle.sqlite.specs.State.{HasCleanDisk};
+ghost use Rattle.sqlite.specs.State.{HasCleanDisk, IsLive};
 ghost use Rattle.result_keeper.specs.Keeper.{store_of};
 ghost use Rattle.result_keeper.specs.Opening.{IsOpenedWith};
 ghost use Rattle.result_rows.specs.Keeps.{IsSound, Keeps};
 ghost use Rattle.result_table.specs.declared.record.Record.{Record as Kept};
 
 use crate::opening::{OpenFault, open_fault_of};
-use crate::sqlite_keeper::SqliteKeeper;
+use crate::sqlite_keeper::{SqliteKeeper, take_files};
 use sqlite::{Connection, FileStore, Options};
 use sqlite_disk::Disk;
 use std::alloc::Global;
@@ -20,18 +20,24 @@ fn reopen_files<D: Disk + Drop>(
     conn: Connection<FileStore<D>>,
     options: Options,
 ) -> Result<Connection<FileStore<D>>, OpenFault>
+    requires { IsLive (file_state conn) }
     ensures begun { IfOk result (λ again. HasCleanDisk (file_state again) → IsOpenedWith (file_state again)) }
     ensures same { IfOk result (λ again. HasCleanDisk (file_state again) → (file_state again).committed.trees ≡ (file_state conn).committed.trees) }
     ensures live { IfOk result (λ again. HasCleanDisk (file_state again) → IsDatabase (file_state conn).now) }
 {
-    let _live = conn.schema();
     let files = match conn.close_files() {
         Ok(files) => files,
-        Err((error, _store)) => return Err(open_fault_of(&error)),
+        Err((error, store)) => {
+            drop(store);
+            return Err(open_fault_of(&error));
+        }
     };
     match Connection::open_files(alloc, files, options) {
         Ok(again) => Ok(again),
-        Err((error, _left)) => Err(open_fault_of(&error)),
+        Err((error, left)) => {
+            drop(left);
+            Err(open_fault_of(&error))
+        }
     }
 }
 
@@ -44,6 +50,8 @@ pub fn reopen<D: Disk + Drop>(
     ensures table { (table : List Kept) → Keeps (store_of over_files keeper) table → IfOk result (λ again. HasCleanDisk (store_of over_files again)
         → IsSound (store_of over_files again) × Keeps (store_of over_files again) table) }
 {
-    let conn = reopen_files(alloc, keeper.into_connection(), options)?;
-    SqliteKeeper::over(alloc, conn)
+    match reopen_files(alloc, keeper.into_connection(), options) {
+        Ok(conn) => take_files(alloc, conn),
+        Err(fault) => Err(fault),
+    }
 }

@@ -1,8 +1,8 @@
 //! A keeper over SQL.
 ghost use Rattle.std.specs.Prelude.{◌≡◌, ◌≤◌, ℕ, List, [], ◌∷◌, Option, IfOk, OnOk, OnErr, IfErr, IfSome, length, All, Ok, Err};
 ghost use Rattle.sqlite.specs.Held.{state};
-ghost use Rattle.sqlite.specs.State.{HasCleanDisk, Executes, Shown};
-ghost use Rattle.sqlite.specs.Files.{over_files};
+ghost use Rattle.sqlite.specs.State.{HasCleanDisk, IsLive, Executes, Shown};
+ghost use Rattle.sqlite.specs.Files.{file_state, over_files};
 ghost use Rattle.sqlite.specs.Steps.{IsEmpty, over_memory};
 ghost use Rattle.sqlite.specs.WalFiles.{image_at};
 ghost use Rattle.sqlite.specs.Order.{Row as Values};
@@ -30,6 +30,7 @@ use result_table::record::{Record, is_good};
 use sqlite::{
     Alter, Connection, Error, ErrorCode, File, FileFrom, FileStore, MemStore, Start, Unknown,
 };
+use sqlite_disk::Disk;
 use std::alloc::Global;
 
 /// A keeper whose records are the rows of a table `result`: the identifier of the run, both moments in seconds, 1 or 0 for
@@ -85,10 +86,27 @@ impl<S: Start> SqliteKeeper<FileStore<FileFrom<S>>> {
             → IsSound (store_of over_files keeper) × (table : List Kept) × Keeps (store_of over_files keeper) table × IsTableIn (image_at S.Start) table) }
     {
         match Connection::open_from(rt, path, false, start) {
-            Ok(conn) => SqliteKeeper::over(rt.alloc(), conn),
-            Err((error, _left)) => Err(open_fault_of(&error)),
+            Ok(conn) => take_files(rt.alloc(), conn),
+            Err((error, left)) => {
+                drop(left);
+                Err(open_fault_of(&error))
+            }
         }
     }
+}
+
+/// Takes the table of files that were just opened. What needs a file's store as an `Alter` takes the prover long, so `over` is called
+/// for files here alone.
+pub(crate) fn take_files<D: Disk + Drop>(
+    alloc: Global,
+    conn: Connection<FileStore<D>>,
+) -> Result<SqliteKeeper<FileStore<D>>, OpenFault>
+    ensures faults { IfOk result (λ keeper. counted keeper.faults ≡ 0) }
+    ensures clean { IfOk result (λ keeper. HasCleanDisk (store_of over_files keeper) → HasCleanDisk (file_state conn)) }
+    ensures table { IsOpenedWith (file_state conn) → IfOk result (λ keeper. HasCleanDisk (store_of over_files keeper)
+        → HasFound (file_state conn) (store_of over_files keeper)) }
+{
+    SqliteKeeper::over(alloc, conn)
 }
 
 impl<S: Alter + Drop> SqliteKeeper<S> {
@@ -111,9 +129,11 @@ impl<S: Alter + Drop> SqliteKeeper<S> {
 
 impl<S: Alter> SqliteKeeper<S> {
     pub(crate) fn into_connection(self) -> Connection<S>
-        ensures { result ≡ self.conn }
+        ensures same { result ≡ self.conn }
+        ensures live { IsLive (state S.Store result) }
     {
         let SqliteKeeper { conn, faults: _ } = self;
+        let _live = conn.schema();
         conn
     }
 }

@@ -12,4 +12,4 @@ pub returns-in-Ok-open_files-clause-same : goal.returns-in-Ok-open_files-clause-
 returns-in-Ok-open_files-clause-same g c clean = finds_again c.args.conn c.in-Ok-open_files.again c.in-Ok.files c.in-Ok.ensures.copied (c.in-Ok-open_files.ensures.found clean)
 
 pub returns-in-Ok-open_files-clause-live : goal.returns-in-Ok-open_files-clause-live
-returns-in-Ok-open_files-clause-live g c clean = (c.schema-live.ensures.live (c.in-Ok.ensures.copied (c.in-Ok-open_files.ensures.found clean).honest).was_open).0
+returns-in-Ok-open_files-clause-live g c clean = (c.requires (c.in-Ok.ensures.copied (c.in-Ok-open_files.ensures.found clean).honest).was_open).0
