@@ -20,7 +20,8 @@ use crate::fault::LineFault;
 use crate::given::cut;
 use result_keeper::opening::OpenFault;
 use result_keeper::sqlite_keeper::SqliteKeeper;
-use result_table::keeper::Keeper;
+use sqlite::{Alter, FileStore};
+use sqlite_disk::Disk;
 use std::process::ExitCode;
 use std::{fs, print, println};
 
@@ -35,15 +36,28 @@ fn print_refusal(rt: &HostRuntime, fault: OpenFault) -> Result<(), LineFault> {
 }
 
 // What was opened does what is asked of it, or it is said why there is no store.
-fn run_opened<Q: Keeper + Drop>(
+fn run_opened<S: Alter + Drop>(
     rt: &HostRuntime,
-    opened: Result<Q, OpenFault>,
+    opened: Result<SqliteKeeper<S>, OpenFault>,
     behind: &[String],
 ) -> Result<(), LineFault> {
     match opened {
         Ok(keeper) => run_lines(rt, keeper, behind),
         Err(fault) => print_refusal(rt, fault),
     }
+}
+
+// The same of files. That their store is an `Alter` is shown here alone, and over any disk, since it takes the prover long.
+fn run_files<D: Disk + Drop>(
+    rt: &HostRuntime,
+    opened: Result<SqliteKeeper<FileStore<D>>, OpenFault>,
+    behind: &[String],
+) -> Result<(), LineFault> {
+    run_opened(rt, opened, behind)
+}
+
+fn run_memory(rt: &HostRuntime, behind: &[String]) -> Result<(), LineFault> {
+    run_opened(rt, SqliteKeeper::in_memory(rt.alloc()), behind)
 }
 
 fn show(rt: &HostRuntime, path: &str) -> Result<(), LineFault> {
@@ -59,8 +73,8 @@ fn run_from(rt: &HostRuntime, lines: &[String]) -> Result<(), LineFault> {
     };
     let (word, rest) = cut(line.as_str());
     match word {
-        "memory" => run_opened(rt, SqliteKeeper::in_memory(rt.alloc()), behind),
-        "file" => run_opened(rt, SqliteKeeper::open(rt, rest), behind),
+        "memory" => run_memory(rt, behind),
+        "file" => run_files(rt, SqliteKeeper::open(rt, rest), behind),
         "show" => show(rt, rest),
         _ => Ok(()),
     }
