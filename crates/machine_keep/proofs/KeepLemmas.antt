@@ -209,6 +209,9 @@ adds_none moment left_since old mid Q same = subst (λ s. Adds moment left_since
   second = record { later = omega arith; each = λ t c le left. inl left };
 })
 
+pub adds_still : {D : Type 0} (moment : D → ℕ) (left_since : D → ℕ → List ℕ → Type 0) (old new : State D) (Q : Bool → List ℕ → Type 0) → new ≡ old → Adds moment left_since old new Q
+adds_still moment left_since old new Q same = adds_none moment left_since old new Q (same ∙ sym (ap (λ s. with_room old s.room) same))
+
 -- what a step may have made
 pub around : {S C R T : Type 0} (stands : List (List ℕ) → S → Type 0) (answers : S → C → R → Option T → Type 0) (after : S → T → S) (s : S) (call : C) (reply : R) (decided : Option T) (from : Result Counted DiskPlace)
     → StandsFor stands s from → answers s call reply decided → (pair : Result Counted DiskPlace) → (pair ≡ from) ⊎ ((step : T) × ((decided ≡ Some step) × IsMade stands from (after s step) pair)) → StandsAround stands answers after s call pair

@@ -3,4 +3,5 @@ pub mod CallLemmas
 mod CourseLemmas
 mod CrashLemmas
 mod KeepLemmas
+pub mod OpeningLemmas
 pub mod StoppedLemmas

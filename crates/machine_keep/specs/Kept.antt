@@ -60,6 +60,10 @@ StandsAround {S} {C} {R} {T} stands answers after s call pair = StandsFor stands
 abbrev pub IsMade : {S : Type 0} → (List (List ℕ) → S → Type 0) → Result Counted DiskPlace → S → Result Counted DiskPlace → Type 0
 IsMade stands from later pair = StandsFor stands later pair × IsNear from pair
 
+-- the same of what a step makes that the call asks for
+abbrev pub IsStepMade : {S C R T : Type 0} → (List (List ℕ) → S → Type 0) → (S → C → R → Option T → Type 0) → (S → T → S) → Result Counted DiskPlace → S → C → Result Counted DiskPlace → Type 0
+IsStepMade {S} {C} {R} {T} stands answers after from s call pair = (reply : R) × ((step : T) × (answers s call reply (Some step) × IsMade stands from (after s step) pair))
+
 -- Of what was left of two disks since they were handed in, each at a moment of its own: one of them could have been left as they
 -- were handed in, or what the two stand for has P.
 abbrev pub EachFrom : {D : Type 0} → (D → List ℕ → Type 0) → (D → ℕ) → (D → ℕ → List ℕ → Type 0) → D → D → D → D → (Result Counted DiskPlace → Type 0) → Type 0

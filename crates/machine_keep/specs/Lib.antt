@@ -3,4 +3,5 @@ pub mod Calls
 pub mod Course
 pub mod Crash
 pub mod Kept
+pub mod Opening
 pub mod Stopped

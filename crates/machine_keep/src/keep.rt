@@ -8,7 +8,7 @@ ghost use Rattle.host_journal.specs.Pair.{pair_of};
 ghost use Rattle.host_journal.specs.State.{append_calls, is_ready, stored, has_record, which, with_record, EachImage, EachSince, IsAt, IsSound, KeepsPlace, SameButRoom, WentOn, first_disk, second_disk};
 ghost use Rattle.machine_keep.specs.Calls.{TellsIn, TellsSomeIn, all_on, image_calls, record_calls, sync_calls};
 ghost use Rattle.machine_keep.specs.Course.{Answered, Breaks, IsFound, IsShortened, Keeps, Unfound, Unkept, Wanting};
-ghost use Rattle.machine_keep.specs.Kept.{HasFew, IsMade, Snapped, StandsAround, StandsBut, StandsFor, after_step, caught, is_many};
+ghost use Rattle.machine_keep.specs.Kept.{HasFew, IsMade, IsStepMade, Snapped, StandsAround, StandsBut, StandsFor, after_step, caught, is_many};
 ghost use Rattle.machine_keep.specs.declared.fault.StepFault.TheVariants.{Disk as disk_fault, Memory as no_memory};
 
 use crate::fault::StepFault;
@@ -143,6 +143,9 @@ impl<M: Machine, D: Disk> Keep<M, D> {
         // At every moment of a call that began with no fault.
         ensures any_moment { D.premise → IsTrue (is_ready self.old.journal.pending) → EachSince D.moment D.left_since self.old.journal self.new.journal
             (StandsAround M.stands_for M.answers M.after (M.state self.old.machine) call) }
+        // What such a call adds to the images of each disk, so that it can be joined with the calls before it.
+        ensures adds { D.premise → IsTrue (is_ready self.old.journal.pending) → Adds D.moment D.left_since self.old.journal self.new.journal
+            (LeftIn (stored D.seen self.old.journal) (IsStepMade M.stands_for M.answers M.after (stored D.seen self.old.journal) (M.state self.old.machine) call)) }
         // Of a call that began after a fault: until it has synced both disks, an image is one that a crash could have left
         // of its disk as the call began.
         ensures recovers { D.premise → is_ready self.old.journal.pending ≡ false

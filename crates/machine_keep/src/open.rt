@@ -10,6 +10,7 @@ ghost use Rattle.machine_keep.specs.declared.fault.StepFault.TheVariants.{Disk a
 ghost use Rattle.machine_keep.specs.Calls.{TellsIn, TellsPair, TellsSome, image_calls, sync_calls};
 ghost use Rattle.machine_keep.specs.Course.{IsRewritten, Opened, Unwritten};
 ghost use Rattle.machine_keep.specs.Kept.{EachFrom, IsMade, IsMigrating, StandsEither, StandsFor};
+ghost use Rattle.machine_keep.specs.Opening.{EachUnlessUndone, IsBegun, StandsAsBefore};
 
 use crate::fault::StepFault;
 use crate::keep::Keep;
@@ -41,6 +42,13 @@ impl<M: Machine + Drop, D: Disk> Keep<M, D> {
             (StandsEither M.stands_for M.stood_for (M.state keep.machine))) }
         ensures any_moment_err { D.premise → IfErr result (λ f. EachFrom D.may_leave D.moment D.left_since first second f.first f.second
             (λ pair. (s : M.State) × (StandsEither M.stands_for M.stood_for s (pair_of (D.seen first) (D.seen second)) × StandsEither M.stands_for M.stood_for s pair))) }
+        // The same, where images that the first syncs undo are left aside, and no others.
+        ensures unless_undone { D.premise → IfOk result (λ keep. EachUnlessUndone D.seen D.may_leave D.moment D.left_since first second (first_disk keep.journal) (second_disk keep.journal)
+            (λ c d. StandsEither M.stands_for M.stood_for (M.state keep.machine) (pair_of c d))) }
+        ensures unless_undone_err { D.premise → IfErr result (λ f. EachUnlessUndone D.seen D.may_leave D.moment D.left_since first second f.first f.second
+            (λ c d. StandsAsBefore M.stands_for M.stood_for (pair_of (D.seen first) (D.seen second)) (pair_of c d))) }
+        // What a caller joins with the call behind it.
+        ensures begun { D.premise → IfOk result (λ keep. IsBegun D.seen D.moment D.left_since M.stands_for first second (M.state keep.machine) keep.journal) }
         // And what a crash leaves then: of both what it could have left before, or what stands for a state for which they stood.
         ensures left { D.premise → IfErr result (λ f. (c d : List ℕ) → D.may_leave f.first c → D.may_leave f.second d → (D.may_leave first c × D.may_leave second d)
             ⊎ ((s : M.State) × (StandsEither M.stands_for M.stood_for s (pair_of (D.seen first) (D.seen second)) × StandsEither M.stands_for M.stood_for s (pair_of c d)))) }

@@ -1,15 +1,17 @@
 use Rattle.std.proofs.Common.{◌≡◌, ◌∙◌, Err, IfSome, Some, ap, inl, inr, option_map, refl, subst, sym, ⊎_elim}
 use Rattle.host_journal.specs.Calls.{IsRead}
+use Rattle.host_journal.specs.Moments.{LeftIn}
 use Rattle.host_journal.specs.Pair.{pair_of}
 use Rattle.host_journal.specs.State.{first_disk, is_ready, second_disk, stored}
 use Rattle.machine_keep.specs.Calls.{MakesPair, TellsIn, kept_calls, sync_calls}
 use Rattle.machine_keep.specs.Course.{IsDue, IsFound, Leaves, Shortens}
-use Rattle.machine_keep.specs.Kept.{IsMade, StandsAround, StandsFor, after_step, caught}
+use Rattle.machine_keep.specs.Kept.{IsMade, IsStepMade, StandsAround, StandsFor, after_step, caught}
 use Rattle.machine_keep.specs.declared.fault.StepFault.TheVariants.{Disk as disk_fault, Memory as no_memory}
 use Rattle.host_journal.proofs.ToldLemmas.{handed_on}
 use Rattle.machine_keep.proofs.CallLemmas.{some_later, tells_both}
 use Rattle.machine_keep.proofs.CourseLemmas.{synced_and_room}
-use Rattle.machine_keep.proofs.KeepLemmas.{around, recovered, since_same}
+use Rattle.machine_keep.proofs.KeepLemmas.{adds_still, around, recovered, since_same}
+use Rattle.machine_keep.proofs.OpeningLemmas.{adds_asked}
 use Rattle.machine_keep.proofs.keep.Keep.apply.Goals as goal
 
 pub returns-in_err-catch_up-clause-any_moment : goal.returns-in_err-catch_up-clause-any_moment
@@ -25,6 +27,32 @@ returns-in_err-decided-clause-any_moment g c p ready =
     c.args.self.now.journal c.self.inside.journal
     (λ pair. (reply : g.row.M-Reply.Denot) × ((step : g.row.M-Step.Denot) × (g.M.Machine.answers (g.M.Machine.state c.args.self.now.machine) c.args.call reply (Some step) × StandsFor g.M.Machine.stands_for (g.M.Machine.after (g.M.Machine.state c.args.self.now.machine) step) pair)))
     (ap (λ k. k.journal) (c.self.view_is ∙ c.catch_up.ensures.still ready)) (c.known.ensures.durable p ready)
+
+pub returns-in_err-catch_up-clause-adds : goal.returns-in_err-catch_up-clause-adds
+returns-in_err-catch_up-clause-adds g c p ready =
+    let from = stored g.D.Disk.seen c.args.self.now.journal in
+    adds_still g.D.Disk.moment g.D.Disk.left_since c.args.self.now.journal c.catch_up.new.self.journal
+    (LeftIn from (IsStepMade g.M.Machine.stands_for g.M.Machine.answers g.M.Machine.after from (g.M.Machine.state c.args.self.now.machine) c.args.call)) (ap (λ k. k.journal) (c.catch_up.ensures.still ready))
+
+pub returns-in_err-decided-clause-adds : goal.returns-in_err-decided-clause-adds
+returns-in_err-decided-clause-adds g c p ready =
+    let from = stored g.D.Disk.seen c.args.self.now.journal in
+    adds_still g.D.Disk.moment g.D.Disk.left_since c.args.self.now.journal c.self.inside.journal
+    (LeftIn from (IsStepMade g.M.Machine.stands_for g.M.Machine.answers g.M.Machine.after from (g.M.Machine.state c.args.self.now.machine) c.args.call)) (ap (λ k. k.journal) (c.self.view_is ∙ c.catch_up.ensures.still ready))
+
+pub returns-in_err-reply-clause-adds : goal.returns-in_err-reply-clause-adds
+returns-in_err-reply-clause-adds g c p ready =
+    let same = c.self.view_is ∙ c.catch_up.ensures.still ready in
+    let answered = subst (λ s. g.M.Machine.answers s c.args.call c.in_ok-decided.decided.reply c.in_ok-decided.decided.step) (sym c.decide.ensures.same) c.in_ok-decided.ensures.answer in
+    adds_asked g.D.Disk.moment g.D.Disk.left_since g.D.Disk.seen g.M.Machine.stands_for g.M.Machine.answers g.M.Machine.after (g.M.Machine.state c.args.self.now.machine) (g.M.Machine.state c.decide.new.self) c.args.call
+    c.in_ok-decided.decided.reply c.in_ok-decided.decided.step answered (c.decide.ensures.same ∙ ap (λ k. g.M.Machine.state k.machine) same) c.args.self.now.journal c.self.inside.journal c.keep_decided.new.self.journal (ap (λ k. k.journal) same) (c.keep_decided.ensures.adds p)
+
+pub returns-clause-adds : goal.returns-clause-adds
+returns-clause-adds g c p ready =
+    let same = c.self.view_is ∙ c.catch_up.ensures.still ready in
+    let answered = subst (λ s. g.M.Machine.answers s c.args.call c.in_ok-decided.decided.reply c.in_ok-decided.decided.step) (sym c.decide.ensures.same) c.in_ok-decided.ensures.answer in
+    adds_asked g.D.Disk.moment g.D.Disk.left_since g.D.Disk.seen g.M.Machine.stands_for g.M.Machine.answers g.M.Machine.after (g.M.Machine.state c.args.self.now.machine) (g.M.Machine.state c.decide.new.self) c.args.call
+    c.in_ok-decided.decided.reply c.in_ok-decided.decided.step answered (c.decide.ensures.same ∙ ap (λ k. g.M.Machine.state k.machine) same) c.args.self.now.journal c.self.inside.journal c.keep_decided.new.self.journal (ap (λ k. k.journal) same) (c.keep_decided.ensures.adds p)
 
 pub returns-in_err-reply-clause-recovers : goal.returns-in_err-reply-clause-recovers
 returns-in_err-reply-clause-recovers g c p failed b d left left_too =

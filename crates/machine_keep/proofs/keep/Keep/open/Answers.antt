@@ -1,14 +1,17 @@
-use Rattle.std.proofs.Common.{◌≡◌, IfErr, List, Option, inl, inr, subst, ℕ}
+use Rattle.std.proofs.Common.{◌≡◌, IfErr, IfOk, List, Option, inl, inr, subst, ℕ}
 use Rattle.std.proofs.lemmas.Result.{IfErr-weaker}
 use Rattle.host_journal.specs.Moments.{Adds, LeftIn}
+use Rattle.host_journal.specs.Pair.{pair_of}
 use Rattle.host_journal.specs.State.{first_disk, second_disk, stored}
 use Rattle.host_journal.specs.declared.fault.OpenReason.{OpenReason}
 use Rattle.host_journal.specs.declared.reading.DiskPlace.{DiskPlace}
 use Rattle.machine_keep.specs.Calls.{TellsIn, image_calls}
 use Rattle.machine_keep.specs.Course.{IsRewritten, Opened}
 use Rattle.machine_keep.specs.Kept.{EachFrom, IsMade, StandsEither}
+use Rattle.machine_keep.specs.Opening.{EachUnlessUndone, IsBegun}
 use Rattle.machine_keep.proofs.CourseLemmas.{ok_more, opened_so, read_at, refused_so, syncs_some, unwritten_so}
 use Rattle.machine_keep.proofs.KeepLemmas.{left_so, not_opened, ok_both, opened}
+use Rattle.machine_keep.proofs.OpeningLemmas.{begun, given, not_given, not_written}
 use Rattle.machine_keep.proofs.keep.Keep.open.Goals as goal
 
 pub returns-in-Ok-clause-nothing : goal.returns-in-Ok-clause-nothing
@@ -32,6 +35,40 @@ returns-in-Ok-clause-any_moment_err g c p =
     (λ f left. not_opened g.D.Disk.seen g.D.Disk.may_leave g.D.Disk.moment g.D.Disk.left_since (λ disk bytes now. g.met.D.Disk.only_now disk bytes p now) g.M.Machine.stands_for g.M.Machine.stood_for
     c.args.first c.args.second c.in-Ok.journal (c.in-Ok.ensures.read_first p) (c.in-Ok.ensures.read_second p) f.first f.second (c.in-Ok.ensures.stored p) left)
     (c.of_list.ensures.left p)
+
+pub returns-in-Ok-clause-begun : goal.returns-in-Ok-clause-begun
+returns-in-Ok-clause-begun g c p =
+    let from = stored g.D.Disk.seen c.in-Ok.journal in
+    ok_both (λ keep. Adds g.D.Disk.moment g.D.Disk.left_since c.in-Ok.journal keep.journal (LeftIn from (IsMade g.M.Machine.stands_for from (g.M.Machine.state keep.machine))))
+    (λ keep. StandsEither g.M.Machine.stands_for g.M.Machine.stood_for (g.M.Machine.state keep.machine) from)
+    (λ keep. IsBegun g.D.Disk.seen g.D.Disk.moment g.D.Disk.left_since g.M.Machine.stands_for c.args.first c.args.second (g.M.Machine.state keep.machine) keep.journal)
+    (λ keep adds either. begun g.D.Disk.seen g.D.Disk.may_leave g.D.Disk.moment g.D.Disk.left_since (λ disk bytes now. g.met.D.Disk.only_now disk bytes p now) g.M.Machine.stands_for g.M.Machine.stood_for
+    c.args.first c.args.second (λ disk. g.met.D.Disk.reads_now disk p) (λ disk t bytes le now. g.met.D.Disk.counts_now disk t bytes p le now) c.in-Ok.journal keep.journal (g.M.Machine.state keep.machine)
+    (c.in-Ok.ensures.read_first p) (c.in-Ok.ensures.read_second p) (c.in-Ok.ensures.stored p) (c.in-Ok.ensures.durable p) either adds)
+    c.of_list.result (c.of_list.ensures.adds p) (c.of_list.ensures.stands p)
+
+pub returns-in-Ok-clause-unless_undone : goal.returns-in-Ok-clause-unless_undone
+returns-in-Ok-clause-unless_undone g c p =
+    let from = pair_of (g.D.Disk.seen c.args.first) (g.D.Disk.seen c.args.second) in
+    ok_both (λ keep. IsBegun g.D.Disk.seen g.D.Disk.moment g.D.Disk.left_since g.M.Machine.stands_for c.args.first c.args.second (g.M.Machine.state keep.machine) keep.journal)
+    (λ keep. StandsEither g.M.Machine.stands_for g.M.Machine.stood_for (g.M.Machine.state keep.machine) from)
+    (λ keep. EachUnlessUndone g.D.Disk.seen g.D.Disk.may_leave g.D.Disk.moment g.D.Disk.left_since c.args.first c.args.second (first_disk keep.journal) (second_disk keep.journal) (λ x y. StandsEither g.M.Machine.stands_for g.M.Machine.stood_for (g.M.Machine.state keep.machine) (pair_of x y)))
+    (λ keep was either. given g.D.Disk.seen g.D.Disk.may_leave g.D.Disk.moment g.D.Disk.left_since (λ disk bytes now. g.met.D.Disk.only_now disk bytes p now) g.M.Machine.stands_for g.M.Machine.stood_for
+    c.args.first c.args.second keep.journal (g.M.Machine.state keep.machine) was either)
+    c.of_list.result (returns-in-Ok-clause-begun g c p)
+    (subst (λ pair. IfOk c.of_list.result (λ keep. StandsEither g.M.Machine.stands_for g.M.Machine.stood_for (g.M.Machine.state keep.machine) pair)) (c.in-Ok.ensures.stored p) (c.of_list.ensures.stands p))
+
+pub returns-in-Ok-clause-unless_undone_err : goal.returns-in-Ok-clause-unless_undone_err
+returns-in-Ok-clause-unless_undone_err g c p =
+    IfErr-weaker c.of_list.result _ _
+    (λ f left. not_written g.D.Disk.seen g.D.Disk.may_leave g.D.Disk.moment g.D.Disk.left_since (λ disk bytes now. g.met.D.Disk.only_now disk bytes p now) g.M.Machine.stands_for g.M.Machine.stood_for
+    c.args.first c.args.second (λ disk t bytes le now. g.met.D.Disk.counts_now disk t bytes p le now) c.in-Ok.journal f.first f.second (c.in-Ok.ensures.read_first p) (c.in-Ok.ensures.read_second p) (c.in-Ok.ensures.stored p) left)
+    (c.of_list.ensures.left p)
+
+pub returns-in-Err-clause-unless_undone_err : goal.returns-in-Err-clause-unless_undone_err
+returns-in-Err-clause-unless_undone_err g c p =
+    not_given g.D.Disk.seen g.D.Disk.may_leave g.D.Disk.moment g.D.Disk.left_since (λ disk bytes now. g.met.D.Disk.only_now disk bytes p now) g.M.Machine.stands_for g.M.Machine.stood_for
+    c.args.first c.args.second (λ disk t bytes le now. g.met.D.Disk.counts_now disk t bytes p le now) c.in-Err.fault.first c.in-Err.fault.second (c.in-Err.ensures.refused_first p) (c.in-Err.ensures.refused_second p)
 
 pub returns-in-Ok-clause-left : goal.returns-in-Ok-clause-left
 returns-in-Ok-clause-left g c p =
