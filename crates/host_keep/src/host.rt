@@ -24,7 +24,6 @@ use std::alloc::Global;
 use std::marker::Model;
 
 /// A host: its configuration, and its book in memory.
-#[derive(Drop)]
 pub struct Host {
     config: Config,
     book: HostBook,
@@ -40,6 +39,13 @@ impl Model for Host {
     ghost view = { λ h. record { standing = record { config = h.config; book = h.book.book }; room = h.book.room } };
 
     ghost invariant = { λ h. h.book.number ≡ h.config.number };
+}
+
+// Written out, so that a drop elsewhere is one call.
+impl Drop for Host {
+    fn drop(self) {
+        let Host { config: _, book: _ } = self;
+    }
 }
 
 impl Host {

@@ -25,7 +25,6 @@ use std::marker::Model;
 const FEW_RECORD_BYTES: u128 = 1_048_576;
 
 /// A machine whose steps are kept on two disks.
-#[derive(Drop)]
 pub struct Keep<M: Machine, D: Disk> {
     pub(crate) machine: M,
     pub(crate) journal: Journal<D>,
@@ -46,6 +45,18 @@ impl<M: Machine, D: Disk> Model for Keep<M, D> {
     ghost invariant = { λ k. (IsTrue (is_ready k.journal.pending) → k.unsure ≡ None)
         × (IfSome k.unsure (λ step. M.follows (M.state k.machine) step × M.has_room k.machine step)
         × (D.premise → StandsBut M.stands_for M.record_of (M.state k.machine) k.journal.pending (stored D.seen k.journal) k.unsure)) };
+}
+
+// Written out, so that a drop elsewhere is one call.
+impl<M: Machine + Drop, D: Disk + Drop> Drop for Keep<M, D> {
+    fn drop(self) {
+        let Keep {
+            machine: _,
+            journal: _,
+            unsure: _,
+            put_off: _,
+        } = self;
+    }
 }
 
 impl<M: Machine, D: Disk> Keep<M, D> {
