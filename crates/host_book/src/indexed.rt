@@ -1,16 +1,15 @@
 //! A host's book in memory, but for when its tasks wake.
-ghost use Rattle.std.specs.Prelude.{◌≡◌, ◌≤◌, ◌<◌, ◌+◌, ◌-◌, ℕ, [], All, IfOk, IsFalse, OnOk, Some, length, map, option_map, vec_capacity};
+ghost use Rattle.std.specs.Prelude.{◌≡◌, ◌≤◌, ◌<◌, ◌+◌, ◌-◌, [], All, IfOk, IsFalse, OnOk, Some, length, map, vec_capacity};
 ghost use Rattle.ps_time.specs.declared.moment.TheConstants.{MAX_MOMENT};
-ghost use Rattle.limit_apply.specs.Limits.{Config as LimitsSeen};
 ghost use Rattle.run_states.specs.Life.{settled_rows, HasMoments};
 ghost use Rattle.run_states.specs.ResultBytes.{bytes_in, result_bytes as bytes_of_rows};
-ghost use Rattle.run_states.specs.Rows.{change_row, find_row, IsAscendingRows};
+ghost use Rattle.run_states.specs.Rows.{find_row};
 ghost use Rattle.part_core.specs.Reservations.{bookings_of};
-ghost use Rattle.host_model.specs.Apply.{apply, apply_all, book_after, close_task, settled};
+ghost use Rattle.host_model.specs.Apply.{apply, close_task, settled};
 ghost use Rattle.host_model.specs.Book.{empty_book, epoch_of, last_limits};
-ghost use Rattle.host_model.specs.Effect.{archives_of, states_due};
+ghost use Rattle.host_model.specs.Effect.{states_due};
 ghost use Rattle.host_model.specs.Lawful.{Lawful};
-ghost use Rattle.host_model.specs.MayFollow.{CanApply, CanApplyAll};
+ghost use Rattle.host_model.specs.MayFollow.{CanApply};
 ghost use Rattle.host_model.specs.declared.change.Change.TheVariants.{AcceptHeard as AcceptHeardChange, Accepted as AcceptedChange, Asked as AskedChange, Closed as ClosedChange, Confirmed as ConfirmedChange, Ended as EndedChange, FreeHeard as FreeHeardChange, LimitsSet as LimitsSetChange, MaterialHeard as MaterialHeardChange, Merged as MergedChange, Planned as PlannedChange, Posted as PostedChange, Purged as PurgedChange, ResultHeard as ResultHeardChange, Started as StartedChange, TaskClosed as TaskClosedChange, Told as ToldChange, Tried as TriedChange};
 ghost use Rattle.run_states.specs.LawfulRow.{BringsResults};
 ghost use Rattle.live_rows.specs.Still.{live_keys, StillStay};
@@ -18,7 +17,7 @@ ghost use Rattle.host_book.specs.Host.{noted};
 ghost use Rattle.row_ledger.specs.Deadlines.{due_keys, IsAscendingDeadlines, Waits};
 ghost use Rattle.row_ledger.specs.Ledger.{fact_bytes, most_counted, IsNoPlan};
 ghost use Rattle.host_model.specs.NewRow.{all_unheard};
-ghost use Rattle.host_book.specs.Ready.{AllFit, all_brought, brought_bytes, changes_of, is_heard, is_merged, most_archives, IsBare, IsReady};
+ghost use Rattle.host_book.specs.Ready.{brought_bytes, is_heard, is_merged, most_archives, IsBare, IsReady};
 ghost use Rattle.host_book.specs.Reservations.{lapses_at, released, without_lapsed};
 
 use crate::merging::states_due;
