@@ -7,3 +7,4 @@ pub mod MergingLemmas
 pub mod MomentLemmas
 pub mod PairLemmas
 pub mod RestoreLemmas
+pub mod WakeLemmas

@@ -3,3 +3,4 @@ pub mod Pairs
 pub mod Ready
 pub mod Reservations
 pub mod Restore
+pub mod Waking

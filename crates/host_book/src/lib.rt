@@ -3,6 +3,7 @@
 #![tactic(auto)]
 
 pub mod book;
+mod indexed;
 pub mod merging;
 mod new_row;
 mod pairs;
@@ -10,3 +11,4 @@ pub mod parts;
 mod preparing;
 pub mod ready;
 mod restore;
+mod waking;

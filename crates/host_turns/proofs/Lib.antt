@@ -1,3 +1,4 @@
+pub mod AwakeLemmas
 pub mod GrantLemmas
 pub mod GroupLemmas
 pub mod KeepLemmas

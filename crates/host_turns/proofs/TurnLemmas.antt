@@ -17,8 +17,11 @@ use Rattle.host_model.proofs.DraftLemmas.{turned_is}
 use Rattle.host_model.proofs.SettledBook.{book_settled}
 use Rattle.live_rows.specs.Still.{live_keys, StillStay}
 use Rattle.live_law.specs.Groups.{going_keys, make_keys, turned_by, turned_most}
+use Rattle.live_law.specs.Waking.{make_asked, turned_awake}
+use Rattle.live_law.proofs.AwakeLemmas.{awake_same}
 use Rattle.live_law.proofs.GroupLemmas.{turned_begun, turned_live}
 use Rattle.host_draft.specs.Draft.{Seen, opened, with_draft}
+use Rattle.host_turns.specs.Awake.{awake_among}
 use Rattle.host_turns.specs.Turns.{IsLiveTurn, exclusive_keys, wish_of}
 use Rattle.host_turns.specs.declared.due.Due.{Due}
 use Rattle.host_turns.specs.declared.due.Due.TheVariants.{End, Merge, Start, Plan}
@@ -55,6 +58,10 @@ module _ (c : Config) (live : List RunKey) where
   stays_asks : Stays asks
   stays_asks m d = moment_each (λ b serial. option_and_then (ask c m b) (find_task b.tasks serial)) m (map (λ t. t.serial) d.book.tasks) d
 
+  -- the same of the tasks that were awake
+  abbrev awake : ℕ → List RunRow → List TaskRow → ℕ → Draft → Draft
+  awake self rows tasks m = make_asked c m (awake_among self rows m tasks)
+
   abbrev two : ℕ → Draft → Draft
   two m d = due Merge m (due End m d)
 
@@ -76,13 +83,13 @@ module _ (c : Config) (live : List RunKey) where
   stays_most : (m : ℕ) (d : Draft) → (turned_most c m live d).book.moment ≡ d.book.moment
   stays_most = stays_both four asks stays_four stays_asks
 
-  pub five : (s0 s1 s2 s3 s4 s5 : Seen) → s1 ≡ after (due End) s0 → s2 ≡ after (due Merge) s1 → s3 ≡ after (due Start) s2 → s4 ≡ after (due Plan) s3 → s5 ≡ after asks s4
-      → s5 ≡ with_draft (turned_most c s0.draft.book.moment live s0.draft) s0
-  five s0 s1 s2 s3 s4 s5 e1 e2 e3 e4 e5 =
+  pub five : (self : ℕ) (rows : List RunRow) (tasks : List TaskRow) (s0 s1 s2 s3 s4 s5 : Seen) → s1 ≡ after (due End) s0 → s2 ≡ after (due Merge) s1 → s3 ≡ after (due Start) s2 → s4 ≡ after (due Plan) s3 → s5 ≡ after (awake self rows tasks) s4
+      → s5 ≡ with_draft (turned_awake c s0.draft.book.moment live (awake_among self rows s0.draft.book.moment tasks) s0.draft) s0
+  five self rows tasks s0 s1 s2 s3 s4 s5 e1 e2 e3 e4 e5 =
       let t2 : s2 ≡ after two s0 = joined (due End) (due Merge) (stays_due End) s0 s1 s2 e1 e2 in
       let t3 : s3 ≡ after three s0 = joined two (due Start) stays_two s0 s2 s3 t2 e3 in
       let t4 : s4 ≡ after four s0 = joined three (due Plan) stays_three s0 s3 s4 t3 e4 in
-      joined four asks stays_four s0 s4 s5 t4 e5
+      joined four (awake self rows tasks) stays_four s0 s4 s5 t4 e5
 
 -- ---- the purging, behind the others
 module _ (c : Config) (number m : ℕ) (b : Book) (same : number ≡ c.number) (lawful : Lawful number b) (live : List RunKey) (s : Seen) (live_are : live ≡ live_keys number b.rows) (made : s.draft ≡ turned_most c m live (fresh (settled m b))) where
@@ -131,8 +138,12 @@ module _ (c : Config) (number m : ℕ) (b : Book) (same : number ≡ c.number) (
       subst (λ ts. IsLiveTurn c ts live exclusive s) (sym tasks_are) own_exclusive
 
   -- the groups before the purging, from there
-  pub begun_most : (t : Seen) → t ≡ with_draft (turned_most c s.draft.book.moment live s.draft) s → t.draft ≡ turned_most c m live (fresh (settled m b))
-  begun_most t is = ap (λ x. x.draft) is ∙ ap (λ x. turned_most c x.draft.book.moment live x.draft) opens
+  pub begun_most : tasks ≡ b.tasks → (t : Seen) → t ≡ with_draft (turned_awake c s.draft.book.moment live (awake_among number b.rows s.draft.book.moment tasks) s.draft) s → t.draft ≡ turned_most c m live (fresh (settled m b))
+  begun_most tasks_are t is =
+      ap (λ x. x.draft) is
+      ∙ (ap (λ x. turned_awake c x.draft.book.moment live (awake_among number b.rows x.draft.book.moment tasks) x.draft) opens
+      ∙ (ap₂ (λ n ts. turned_awake c m live (awake_among n b.rows m ts) (fresh (settled m b))) same tasks_are
+      ∙ awake_same c m live b (subst (λ n. Lawful n b) same lawful)))
 
 -- what a turn ends with are its changes
 pub ended_turn : (c : Config) (m : ℕ) (b : Book) (t : Seen) → t.draft ≡ turned c m (fresh (settled m b)) → t.draft.changes ≡ turn_changes c m (settled m b)

@@ -4,17 +4,20 @@ ghost use Rattle.ps_time.specs.Name.{is_name};
 ghost use Rattle.run_states.specs.Rows.{find_row};
 ghost use Rattle.run_states.specs.Purging.{is_long_past};
 ghost use Rattle.live_law.specs.Groups.{going_keys, make_keys};
+ghost use Rattle.live_law.specs.Waking.{make_asked};
 ghost use Rattle.live_rows.specs.LiveKeys.{find_own};
 ghost use Rattle.live_rows.specs.Still.{is_live};
 ghost use Rattle.host_model.specs.Book.{find_task};
-ghost use Rattle.host_model.specs.Draft.{make, make_tasks};
+ghost use Rattle.host_model.specs.Draft.{make};
 ghost use Rattle.host_model.specs.NextAttempt.{ask};
 ghost use Rattle.host_model.specs.Purging.{purge_run};
 ghost use Rattle.host_draft.specs.Draft.{with_draft};
+ghost use Rattle.host_turns.specs.Awake.{awake_among};
 ghost use Rattle.host_turns.specs.Turns.{IsLiveTurn, IsTurn, MayMake, wish_of};
 
 use crate::due::Due;
 use crate::wishes::{Turn, purge_at};
+use host_book::book::HostBook;
 use host_draft::draft::Draft;
 use host_model::change::Change;
 use host_model::config::Config;
@@ -77,22 +80,46 @@ fn grant(alloc: Global, draft: &mut Draft<'_>, wish: Option<Change>) -> Result<(
     }
 }
 
-// Asks about the next attempt of each task.
+// Asks about the next attempt of each task that was awake before the turn: no other has one.
 pub(crate) fn make_asks(
     alloc: Global,
     draft: &mut Draft<'_>,
     config: &Config,
     tasks: &[TaskRow],
+    host: &HostBook,
 ) -> Result<(), Memory>
     requires name { is_name config.now.name ≡ true }
+    requires tasks { tasks.now ≡ host.now.book.tasks }
     requires turn { IsTurn config.now tasks.now draft.old }
-    ensures made { OnOk result (draft.new ≡ with_draft (make_tasks (ask config.now draft.old.draft.book.moment) draft.old.draft.book.moment draft.old.draft) draft.old) }
+    ensures made { OnOk result (draft.new ≡ with_draft (make_asked config.now draft.old.draft.book.moment (awake_among host.now.number host.now.book.rows draft.old.draft.book.moment tasks.now) draft.old.draft) draft.old) }
     ensures turn { OnOk result (IsTurn config.now tasks.now draft.new) }
 {
     for task in tasks {
-        make_ask(alloc, draft, config, tasks, task)?;
+        ask_awake(alloc, draft, config, tasks, host, task)?;
     }
     Ok(())
+}
+
+fn ask_awake(
+    alloc: Global,
+    draft: &mut Draft<'_>,
+    config: &Config,
+    tasks: &[TaskRow],
+    host: &HostBook,
+    task: &TaskRow,
+) -> Result<(), Memory>
+    requires name { is_name config.now.name ≡ true }
+    requires tasks { tasks.now ≡ host.now.book.tasks }
+    requires turn { IsTurn config.now tasks.now draft.old }
+    requires known { find_task tasks.now task.now.serial ≡ Some task.now }
+    ensures made { OnOk result (draft.new ≡ with_draft (make_asked config.now draft.old.draft.book.moment (awake_among host.now.number host.now.book.rows draft.old.draft.book.moment (task.now ∷ [])) draft.old.draft) draft.old) }
+    ensures turn { OnOk result (IsTurn config.now tasks.now draft.new) }
+{
+    if host.is_awake(task.serial, draft.moment()) {
+        make_ask(alloc, draft, config, tasks, task)
+    } else {
+        Ok(())
+    }
 }
 
 fn make_ask(

@@ -4,11 +4,13 @@ ghost use Rattle.ps_time.specs.Name.{is_name};
 ghost use Rattle.ps_time.specs.Numbers.{most_changes};
 ghost use Rattle.ps_time.specs.declared.moment.TheConstants.{MAX_MOMENT};
 ghost use Rattle.live_law.specs.Groups.{turned_most};
+ghost use Rattle.live_law.specs.Waking.{turned_awake};
 ghost use Rattle.live_rows.specs.Still.{live_keys, StillStay};
 ghost use Rattle.host_model.specs.Apply.{settled};
 ghost use Rattle.host_model.specs.Draft.{fresh, turned};
 ghost use Rattle.host_model.specs.Turn.{changed, turn as turn_of};
 ghost use Rattle.host_draft.specs.Draft.{with_draft};
+ghost use Rattle.host_turns.specs.Awake.{awake_among};
 ghost use Rattle.host_turns.specs.Turns.{IsLiveTurn, IsTurn};
 
 use crate::due::Due;
@@ -50,7 +52,7 @@ pub fn turn(
         live,
         exclusive: exclusive.as_slice(),
     };
-    turn.make_most(alloc, &mut draft)?;
+    turn.make_most(alloc, &mut draft, host)?;
     turn.make_last(alloc, &mut draft, host, moment)?;
     Ok(changed(draft.into_changes()))
 }
@@ -75,17 +77,18 @@ fn looks_at_all(draft: &Draft<'_>, host: &HostBook, moment: Moment) -> bool
 
 impl<'a> Turn<'a> {
     // The groups before the purging.
-    fn make_most(&self, alloc: Global, draft: &mut Draft<'_>) -> Result<(), Memory>
+    fn make_most(&self, alloc: Global, draft: &mut Draft<'_>, host: &HostBook) -> Result<(), Memory>
         requires name { is_name self.now.config.now.name ≡ true }
+        requires tasks { self.now.tasks.now ≡ host.now.book.tasks }
         requires turn { IsLiveTurn self.now.config.now self.now.tasks.now self.now.live.now self.now.exclusive.now draft.old }
-        ensures made { OnOk result (draft.new ≡ with_draft (turned_most self.now.config.now draft.old.draft.book.moment self.now.live.now draft.old.draft) draft.old) }
+        ensures made { OnOk result (draft.new ≡ with_draft (turned_awake self.now.config.now draft.old.draft.book.moment self.now.live.now (awake_among host.now.number host.now.book.rows draft.old.draft.book.moment self.now.tasks.now) draft.old.draft) draft.old) }
         ensures turn { OnOk result (IsTurn self.now.config.now self.now.tasks.now draft.new) }
     {
         self.make_due(alloc, draft, Due::End)?;
         self.make_due(alloc, draft, Due::Merge)?;
         self.make_due(alloc, draft, Due::Start)?;
         self.make_due(alloc, draft, Due::Plan)?;
-        make_asks(alloc, draft, self.config, self.tasks)
+        make_asks(alloc, draft, self.config, self.tasks, host)
     }
 
     // The purging, behind the other groups.

@@ -14,7 +14,7 @@ make_most-requires-clause-turn c =
 pub make_last-requires-clause-made : goal.make_last-requires-clause-made
 make_last-requires-clause-made c =
     let host = c.args.host.now in
-    begun_most c.args.config.now host.number c.args.moment host.book c.requires.number c.rows.ensures.lawful c.tasks.result.now c.live-live.result.now c.in_ok-draft.draft c.live-live.ensures c.in_ok-draft.ensures c.make_most.new.draft c.in_ok-make_most.ensures.made
+    begun_most c.args.config.now host.number c.args.moment host.book c.requires.number c.rows.ensures.lawful c.tasks.result.now c.live-live.result.now c.in_ok-draft.draft c.live-live.ensures c.in_ok-draft.ensures c.tasks.ensures c.make_most.new.draft c.in_ok-make_most.ensures.made
 
 pub changed-requires : goal.changed-requires
 changed-requires c =

@@ -1,8 +1,0 @@
-use Rattle.std.proofs.Common.{sym}
-use Rattle.run_states.specs.Life.{HasMoments}
-use Rattle.host_model.proofs.RowLemmas.{found_of_all}
-use Rattle.host_book.proofs.book.has_lapsed.Goals as goal
-
--- the row that is found is one of the book's
-pub lapse-requires : goal.lapse-requires
-lapse-requires c = found_of_all HasMoments c.args.key c.in-Some.row.now c.args.rows.now.list c.requires (sym c.in-Some.ensures)
