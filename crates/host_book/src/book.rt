@@ -13,7 +13,7 @@ ghost use Rattle.host_model.specs.Lawful.{Lawful};
 ghost use Rattle.host_model.specs.MayFollow.{CanApply, CanApplyAll};
 ghost use Rattle.host_model.specs.declared.change.Change.TheVariants.{AcceptHeard as AcceptHeardChange, Accepted as AcceptedChange, Asked as AskedChange, Closed as ClosedChange, Confirmed as ConfirmedChange, Ended as EndedChange, FreeHeard as FreeHeardChange, LimitsSet as LimitsSetChange, MaterialHeard as MaterialHeardChange, Merged as MergedChange, Planned as PlannedChange, Posted as PostedChange, Purged as PurgedChange, ResultHeard as ResultHeardChange, Started as StartedChange, TaskClosed as TaskClosedChange, Told as ToldChange, Tried as TriedChange};
 ghost use Rattle.run_states.specs.LawfulRow.{BringsResults};
-ghost use Rattle.live_rows.specs.Still.{live_keys, StillStay};
+ghost use Rattle.live_rows.specs.Still.{keys_live_by, live_keys, StillStay};
 ghost use Rattle.host_book.specs.Host.{noted};
 ghost use Rattle.row_ledger.specs.Deadlines.{due_keys, IsAscendingDeadlines, Waits};
 ghost use Rattle.row_ledger.specs.Ledger.{fact_bytes, most_counted, IsNoPlan};
@@ -32,6 +32,7 @@ use host_model::change::Change;
 use host_model::task_row::TaskRow;
 use host_timeline::timeline::Timeline;
 use limit_apply::limits::Limits;
+use live_rows::live_keys::LiveKeys;
 use ps_time::asker::Asker;
 use ps_time::items::Items;
 use ps_time::key::RunKey;
@@ -140,13 +141,23 @@ impl HostBook {
         self.ledger.rows()
     }
 
-    /// The keys of the rows that the host may have something to do with, ascending: each other row is still, so that no group of a
-    /// turn but the purging, no order, no archive and no lapse is of it any more, whatever the moment.
+    /// The keys of the rows that are live whatever the moment, ascending: no order, no archive and no end at an opening is of another
+    /// row, which is still, or waits for its start.
     pub fn live(&self) -> &[RunKey]
         ensures { result.now ≡ live_keys self.now.number self.now.book.rows }
     {
         let _ = self.number;
         self.ledger.live()
+    }
+
+    /// The keys of the rows that the host may have something to do with by the moment, in seconds since 1970 UTC, ascending: the live
+    /// ones, and those that wait and whose start has come. No group of a turn at the moment but the purging, no order, no archive and
+    /// no lapse is of another row.
+    pub fn live_by(&self, alloc: Global, moment: Moment) -> Result<LiveKeys, Memory>
+        ensures { IfOk result (λ keys. keys.list ≡ keys_live_by self.now.number moment self.now.book.rows) }
+    {
+        let _ = self.number;
+        self.ledger.live_by(alloc, moment)
     }
 
     /// What the booked rows reserve.
@@ -212,8 +223,8 @@ impl HostBook {
         self.ledger.may_lapse(moment)
     }
 
-    /// Whether a row that is still may go at the moment, in seconds since 1970 UTC; where none may, a purging need look at the live
-    /// rows alone.
+    /// Whether a row that is still may go at the moment, in seconds since 1970 UTC; where none may, a purging need look at the rows
+    /// alone that are live by then.
     pub fn may_purge(&self, moment: Moment) -> bool
         ensures { IsFalse result → StillStay self.now.number self.now.book.rows moment }
     {

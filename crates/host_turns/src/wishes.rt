@@ -34,7 +34,7 @@ pub(crate) struct Turn<'a> {
     pub(crate) config: &'a Config,
     // of the host: no change of a turn touches them
     pub(crate) tasks: &'a [TaskRow],
-    // the keys of all rows that weren't still, ascending
+    // the keys of all rows that were live by its moment, ascending
     pub(crate) live: &'a [RunKey],
     // those of exclusive runs among them
     pub(crate) exclusive: &'a [RunKey],
