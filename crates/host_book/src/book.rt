@@ -10,7 +10,7 @@ ghost use Rattle.host_model.specs.Lawful.{Lawful};
 ghost use Rattle.host_model.specs.MayFollow.{CanApply, CanApplyAll};
 ghost use Rattle.host_model.specs.declared.task_row.TaskRow.{TaskRow as TaskSeen};
 ghost use Rattle.live_law.specs.Waking.{has_come, is_awake};
-ghost use Rattle.live_rows.specs.Still.{live_keys, StillStay};
+ghost use Rattle.live_rows.specs.Still.{keys_live_by, live_keys, StillStay};
 ghost use Rattle.row_ledger.specs.Deadlines.{IsAscendingDeadlines, Waits};
 ghost use Rattle.row_ledger.specs.Ledger.{most_counted};
 ghost use Rattle.host_book.specs.Ready.{AllFit, all_brought, brought_bytes, changes_of, IsReady};
@@ -22,6 +22,7 @@ use crate::waking::{all_wakes, extend, renew, touched};
 use host_model::task_row::TaskRow;
 use host_timeline::timeline::Timeline;
 use limit_apply::limits::Limits;
+use live_rows::live_keys::LiveKeys;
 use ps_time::items::Items;
 use ps_time::key::RunKey;
 use ps_time::memory::Memory;
@@ -32,7 +33,6 @@ use std::alloc::Global;
 use std::marker::Model;
 
 /// A host's book, with what is looked up in it, when its tasks wake, and places for changes.
-#[derive(Drop)]
 pub struct HostBook {
     indexed: IndexedBook,
     // of each task, in the order of the tasks
@@ -49,6 +49,16 @@ impl Model for HostBook {
     ghost view = { λ h. record { number = h.indexed.number; book = h.indexed.book; room = min h.indexed.room (vec_capacity h.wakes - vec_len h.wakes) } };
 
     ghost invariant = { λ h. h.wakes.items ≡ map (wake_in h.indexed.number h.indexed.book.rows) h.indexed.book.tasks };
+}
+
+// Written out, so that a drop elsewhere is one call.
+impl Drop for HostBook {
+    fn drop(self) {
+        let HostBook {
+            indexed: _,
+            wakes: _,
+        } = self;
+    }
 }
 
 impl HostBook {
@@ -92,12 +102,21 @@ impl HostBook {
         self.indexed.rows()
     }
 
-    /// The keys of the rows that the host may have something to do with, ascending: each other row is still, so that no group of a
-    /// turn but the purging, no order, no archive and no lapse is of it any more, whatever the moment.
+    /// The keys of the rows that are live whatever the moment, ascending: no order, no archive and no end at an opening is of another
+    /// row, which is still, or waits for its start.
     pub fn live(&self) -> &[RunKey]
         ensures { result.now ≡ live_keys self.now.number self.now.book.rows }
     {
         self.indexed.live()
+    }
+
+    /// The keys of the rows that the host may have something to do with by the moment, in seconds since 1970 UTC, ascending: the live
+    /// ones, and those that wait and whose start has come. No group of a turn at the moment but the purging, no order, no archive and
+    /// no lapse is of another row.
+    pub fn live_by(&self, alloc: Global, moment: Moment) -> Result<LiveKeys, Memory>
+        ensures { IfOk result (λ keys. keys.list ≡ keys_live_by self.now.number moment self.now.book.rows) }
+    {
+        self.indexed.live_by(alloc, moment)
     }
 
     /// What the booked rows reserve.
@@ -173,8 +192,8 @@ impl HostBook {
         self.indexed.may_lapse(moment)
     }
 
-    /// Whether a row that is still may go at the moment, in seconds since 1970 UTC; where none may, a purging need look at the live
-    /// rows alone.
+    /// Whether a row that is still may go at the moment, in seconds since 1970 UTC; where none may, a purging need look at the rows
+    /// alone that are live by then.
     pub fn may_purge(&self, moment: Moment) -> bool
         ensures { IsFalse result → StillStay self.now.number self.now.book.rows moment }
     {

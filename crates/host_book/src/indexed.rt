@@ -12,7 +12,7 @@ ghost use Rattle.host_model.specs.Lawful.{Lawful};
 ghost use Rattle.host_model.specs.MayFollow.{CanApply};
 ghost use Rattle.host_model.specs.declared.change.Change.TheVariants.{AcceptHeard as AcceptHeardChange, Accepted as AcceptedChange, Asked as AskedChange, Closed as ClosedChange, Confirmed as ConfirmedChange, Ended as EndedChange, FreeHeard as FreeHeardChange, LimitsSet as LimitsSetChange, MaterialHeard as MaterialHeardChange, Merged as MergedChange, Planned as PlannedChange, Posted as PostedChange, Purged as PurgedChange, ResultHeard as ResultHeardChange, Started as StartedChange, TaskClosed as TaskClosedChange, Told as ToldChange, Tried as TriedChange};
 ghost use Rattle.run_states.specs.LawfulRow.{BringsResults};
-ghost use Rattle.live_rows.specs.Still.{live_keys, StillStay};
+ghost use Rattle.live_rows.specs.Still.{keys_live_by, live_keys, StillStay};
 ghost use Rattle.host_book.specs.Host.{noted};
 ghost use Rattle.row_ledger.specs.Deadlines.{due_keys, IsAscendingDeadlines, Waits};
 ghost use Rattle.row_ledger.specs.Ledger.{fact_bytes, most_counted, IsNoPlan};
@@ -31,6 +31,7 @@ use host_model::change::Change;
 use host_model::task_row::TaskRow;
 use host_timeline::timeline::Timeline;
 use limit_apply::limits::Limits;
+use live_rows::live_keys::LiveKeys;
 use ps_time::asker::Asker;
 use ps_time::items::Items;
 use ps_time::key::RunKey;
@@ -50,7 +51,6 @@ use std::alloc::Global;
 use std::marker::Model;
 
 /// A host's book, with what is looked up in it but for when its tasks wake, and places for changes.
-#[derive(Drop)]
 pub(crate) struct IndexedBook {
     number: u16,
     moment: Moment,
@@ -76,6 +76,21 @@ impl Model for IndexedBook {
     } };
 
     ghost invariant = { λ h. IsSound h.number (record { moment = h.moment; epochs = h.epochs.items; pairs = h.pairs.list; tasks = h.tasks.items; rows = h.ledger.list }) h.timeline.list × (h.ledger.number ≡ h.number) };
+}
+
+// Written out, so that a drop elsewhere is one call.
+impl Drop for IndexedBook {
+    fn drop(self) {
+        let IndexedBook {
+            number: _,
+            moment: _,
+            epochs: _,
+            pairs: _,
+            tasks: _,
+            ledger: _,
+            timeline: _,
+        } = self;
+    }
 }
 
 impl IndexedBook {
@@ -146,13 +161,20 @@ impl IndexedBook {
         self.ledger.rows()
     }
 
-    /// The keys of the rows that the host may have something to do with, ascending: each other row is still, so that no group of a
-    /// turn but the purging, no order, no archive and no lapse is of it any more, whatever the moment.
+    /// The keys of the rows that are live whatever the moment, ascending.
     pub(crate) fn live(&self) -> &[RunKey]
         ensures { result.now ≡ live_keys self.now.number self.now.book.rows }
     {
         let _ = self.number;
         self.ledger.live()
+    }
+
+    /// The keys of the rows that are live by the moment, ascending.
+    pub(crate) fn live_by(&self, alloc: Global, moment: Moment) -> Result<LiveKeys, Memory>
+        ensures { IfOk result (λ keys. keys.list ≡ keys_live_by self.now.number moment self.now.book.rows) }
+    {
+        let _ = self.number;
+        self.ledger.live_by(alloc, moment)
     }
 
     /// What the booked rows reserve.

@@ -11,7 +11,7 @@ use Rattle.run_states.specs.LawfulRow.{HasArchives}
 use Rattle.run_states.specs.Rows.{find_row}
 use Rattle.run_states.specs.declared.row.RunRow.{RunRow}
 use Rattle.live_rows.specs.Still.{is_live, live_keys, live_rows}
-use Rattle.live_law.proofs.StillLemmas.{listed, still_due}
+use Rattle.live_law.proofs.StillLemmas.{listed, silent, silent_due}
 use Rattle.host_model.specs.Archives.{due, due_from_index, due_pairs}
 use Rattle.host_model.specs.Book.{Book, keys_of_rows, moment_at}
 use Rattle.host_model.specs.Effect.{archives_of}
@@ -109,7 +109,7 @@ module _ (self : ℕ) (b : Book) (lawful : Lawful self b) where
       let IsFound : RunRow → Type 0 = λ r. find_row b.rows r.key ≡ Some r in
       let all : All IsFound b.rows = all_of_found IsFound b.rows lawful.ascending (λ r at. at) in
       by_keys m (live_rows self b.rows) (recursion_from_All IsFound (live_rows self b.rows) (All-filter (is_live self) IsFound b.rows all))
-      ∙ listed self (λ r. due_from_index r.key m 0 r.archives) (λ r still. still_due self r still m) b.rows
+      ∙ listed self (λ r. due_from_index r.key m 0 r.archives) (λ r out. silent_due r (silent self r out) m) b.rows
 
   -- so do such keys of such rows
   pub named_due : (clock m : ℕ) (keys : List RunKey) (rows : List RunRow) → m ≡ moment_at b clock → keys ≡ live_keys self b.rows → rows ≡ b.rows → due_of_keys m keys rows ≡ due b clock

@@ -1,6 +1,6 @@
--- What a listing of orders asks of a lawful book as it settles, and of the keys of its rows that aren't still.
+-- What a listing of orders asks of a lawful book as it settles, and of the keys of its rows that are live by the moment.
 use Rattle.std.specs.Prelude.{All}
-use Rattle.std.proofs.Common.{◌≡◌, ◌≤◌, ◌∙◌, ℕ, Bool, true, false, not, List, [], Option, Some, None, length, option_map, refl, sym, ap, subst, arith}
+use Rattle.std.proofs.Common.{◌≡◌, ◌≤◌, ◌∙◌, ℕ, Bool, true, false, List, [], Option, Some, None, length, option_map, refl, sym, ap, subst, arith}
 use Rattle.std.proofs.lemmas.List.Elements.{All-weaker}
 use Rattle.ps_time.specs.Numbers.{greatest_moment}
 use Rattle.ps_time.specs.declared.key.RunKey.{RunKey}
@@ -9,9 +9,9 @@ use Rattle.run_states.specs.LawfulRow.{HasOrigin}
 use Rattle.run_states.specs.Life.{settled_row, settled_rows}
 use Rattle.run_states.specs.Rows.{IsAscendingRows, find_row}
 use Rattle.run_states.specs.declared.row.RunRow.{RunRow}
-use Rattle.live_rows.specs.Still.{is_live, is_still, live_keys}
-use Rattle.live_rows.proofs.KeyLemmas.{live_up}
-use Rattle.live_law.proofs.StillLemmas.{still_orders, still_settled}
+use Rattle.live_rows.specs.Still.{is_live_by, keys_live_by}
+use Rattle.live_rows.proofs.KeyLemmas.{passing_up}
+use Rattle.live_law.proofs.StillLemmas.{silent, silent_orders, unlive_ever, unlive_settled}
 use Rattle.host_model.specs.Apply.{settled}
 use Rattle.host_model.specs.Book.{Book, moment_at}
 use Rattle.host_model.specs.Lawful.{Lawful}
@@ -35,32 +35,32 @@ few_others : (r : RunRow) (o : Option ℕ) → length r.participants ≤ 8 → H
 few_others r None few origin = omega (arith, ap length origin.2)
 few_others r (Some asked) few origin = omega (arith, few, origin.1)
 
-module _ (self m : ℕ) (rows : List RunRow) (k : RunKey) (out : is_among (live_keys self rows) k ≡ false) where
-  -- a row whose key isn't among them is still, so that it settles as it is and has no orders
-  row_none : (r : RunRow) → find_row rows k ≡ Some r → (b : Bool) → is_still self r ≡ b → row_orders m (settled_row m r) ≡ []
-  row_none r at true still = ap (row_orders m) (still_settled self r still m) ∙ still_orders self r still m
-  row_none r at false going = let named : is_among (live_keys self rows) k ≡ true = named_passing (is_live self) rows k r at (ap not going) in cc
+module _ (self m : ℕ) (rows : List RunRow) (k : RunKey) (out : is_among (keys_live_by self m rows) k ≡ false) where
+  -- a row whose key isn't among them isn't live by the moment, so that it settles as it is and has no orders
+  row_none : (r : RunRow) → find_row rows k ≡ Some r → (b : Bool) → is_live_by self m r ≡ b → row_orders m (settled_row m r) ≡ []
+  row_none r at false is = ap (row_orders m) (unlive_settled self m r is) ∙ silent_orders r (silent self r (unlive_ever self m r is)) m
+  row_none r at true is = let named : is_among (keys_live_by self m rows) k ≡ true = named_passing (is_live_by self m) rows k r at is in cc
 
   found_none : (o : Option RunRow) → find_row rows k ≡ o → found_orders m (option_map (settled_row m) o) ≡ []
   found_none None at = refl
-  found_none (Some r) at = row_none r at (is_still self r) refl
+  found_none (Some r) at = row_none r at (is_live_by self m r) refl
 
   pub none_named : found_orders m (find_row (settled_rows m rows) k) ≡ []
   none_named = ap (found_orders m) (find_row-map (settled_row m) (λ r. (settled_evolves m r).key) rows k) ∙ found_none (find_row rows k) refl
 
 module _ (self m : ℕ) (b : Book) (lawful : Lawful self b) (later : b.moment ≤ m) (bound : m ≤ greatest_moment) where
-  book_listed : AreListed m (settled_rows m b.rows) (live_keys self b.rows)
+  book_listed : AreListed m (settled_rows m b.rows) (keys_live_by self m b.rows)
   book_listed =
       let now : Lawful self (settled m b) = book_settled self b m later bound lawful in
       record {
         rows_up = now.ascending;
-        keys_up = live_up self b.rows lawful.ascending;
+        keys_up = passing_up (is_live_by self m) b.rows lawful.ascending;
         named = none_named self m b.rows;
         few = All-weaker (IsHostRow self b.tasks m) HasFewOthers (λ r row. few_others r r.asked row.row.participants.few row.row.origin) (settled_rows m b.rows) now.rows;
       }
 
   -- so can those of a draft that is opened
-  pub draft_listed : (l : Limits) (s : Seen) (keys : List RunKey) → s ≡ opened self m l b → keys ≡ live_keys self b.rows → AreListed s.draft.book.moment s.draft.book.rows keys
+  pub draft_listed : (l : Limits) (s : Seen) (keys : List RunKey) → s ≡ opened self m l b → keys ≡ keys_live_by self m b.rows → AreListed s.draft.book.moment s.draft.book.rows keys
   draft_listed l s keys is named =
       subst (λ (x : Seen). AreListed x.draft.book.moment x.draft.book.rows keys) (sym is) (subst (AreListed m (settled_rows m b.rows)) (sym named) book_listed)
 

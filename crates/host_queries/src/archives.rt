@@ -17,7 +17,7 @@ use run_states::rows::Rows;
 use std::alloc::Global;
 
 /// Every run and archive that is due at a clock, in seconds since 1970 UTC: by key, then by the archive's position among
-/// those of its task, from 0 on. Rows that are still aren't looked at.
+/// those of its task, from 0 on. Rows that aren't live aren't looked at.
 pub fn due(alloc: Global, book: &HostBook, clock: Moment) -> Result<Items<(RunKey, u8)>, Memory>
     ensures { IfOk result (λ list. list ≡ due book.now.book clock) }
 {

@@ -14,7 +14,7 @@ use ps_time::moment::Moment;
 use std::alloc::Global;
 
 /// The orders at a clock, in seconds since 1970 UTC: by key, then by place, then in the order of their kinds, the first 64.
-/// The book settles as it is read, and stays as it is; rows that are still aren't looked at.
+/// The book settles as it is read, and stays as it is; rows that aren't live by the clock aren't looked at.
 pub fn orders(
     alloc: Global,
     config: &Config,
@@ -27,7 +27,8 @@ pub fn orders(
     let _ = book.rows();
     let moment = book.moment().max(clock);
     let draft = Draft::new(alloc, book, &config.limits, moment)?;
-    listing::orders(alloc, &draft, book.live())
+    let live = book.live_by(alloc, moment)?;
+    listing::orders(alloc, &draft, live.list())
 }
 
 /// An order once more, as it is said again.

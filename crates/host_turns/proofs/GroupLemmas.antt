@@ -19,7 +19,7 @@ use Rattle.host_model.specs.declared.config.Config.{Config}
 use Rattle.host_model.specs.declared.task_row.TaskRow.{TaskRow}
 use Rattle.host_model.proofs.Placed.{find_row-key, find_row-own}
 use Rattle.live_rows.specs.LiveKeys.{find_own}
-use Rattle.live_rows.specs.Still.{is_live}
+use Rattle.live_rows.specs.Still.{is_live_by}
 use Rattle.live_law.specs.Groups.{going_keys, make_keys}
 use Rattle.live_law.proofs.DraftLemmas.{made_keeps}
 use Rattle.host_draft.specs.Draft.{Seen, is_full, with_draft}
@@ -130,10 +130,10 @@ step wish m ks rest k s t are at is =
 -- the same of the rows that may go
 split : (c : Config) (m : ℕ) (r : RunRow) (rest : List RunRow) (d : Draft)
     → make_keys (purge_run c m) m (going_keys c.number m (r ∷ rest)) d ≡ make_keys (purge_run c m) m (going_keys c.number m rest) (make_keys (purge_run c m) m (going_keys c.number m (r ∷ [])) d)
-split c m r rest d = go (is_long_past m r || is_live c.number r)
+split c m r rest d = go (is_long_past m r || is_live_by c.number m r)
   where
     others : List RunRow
-    others = filter (λ x. is_long_past m x || is_live c.number x) rest
+    others = filter (λ x. is_long_past m x || is_live_by c.number m x) rest
 
     go : (t : Bool) → make_keys (purge_run c m) m (keys_of_rows (cond t (r ∷ others) others)) d ≡ make_keys (purge_run c m) m (keys_of_rows others) (make_keys (purge_run c m) m (keys_of_rows (cond t (r ∷ []) [])) d)
     go true = refl
@@ -149,11 +149,11 @@ purge_step c m rows rest r s t are at is =
     ∙ ap (λ x. with_draft (make_keys (purge_run c m) m (going_keys c.number m rest) x.draft) x) (sym is)))
 
 -- what is made of a row that may go is what its key wishes for; of another one, nothing is
-pub gone_row : (c : Config) (m : ℕ) (r : RunRow) (t : Bool) (s u : Seen) → t ≡ (is_long_past m r || is_live c.number r) → t ≡ true
+pub gone_row : (c : Config) (m : ℕ) (r : RunRow) (t : Bool) (s u : Seen) → t ≡ (is_long_past m r || is_live_by c.number m r) → t ≡ true
     → u ≡ with_draft (make m (option_and_then (purge_run c m s.draft.book) (find_row s.draft.book.rows r.key)) s.draft) s → u ≡ with_draft (make_keys (purge_run c m) m (going_keys c.number m (r ∷ [])) s.draft) s
 gone_row c m r t s u is holds made = made ∙ ap (λ b. with_draft (make_keys (purge_run c m) m (keys_of_rows (cond b (r ∷ []) [])) s.draft) s) (sym holds ∙ is)
 
-pub kept_row : (c : Config) (m : ℕ) (r : RunRow) (t : Bool) (s : Seen) → t ≡ (is_long_past m r || is_live c.number r) → t ≡ false → s ≡ with_draft (make_keys (purge_run c m) m (going_keys c.number m (r ∷ [])) s.draft) s
+pub kept_row : (c : Config) (m : ℕ) (r : RunRow) (t : Bool) (s : Seen) → t ≡ (is_long_past m r || is_live_by c.number m r) → t ≡ false → s ≡ with_draft (make_keys (purge_run c m) m (going_keys c.number m (r ∷ [])) s.draft) s
 kept_row c m r t s is fails = ap (λ b. with_draft (make_keys (purge_run c m) m (keys_of_rows (cond b (r ∷ []) [])) s.draft) s) (sym fails ∙ is)
 
 -- the item at a place, and those behind it

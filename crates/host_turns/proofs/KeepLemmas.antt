@@ -1,7 +1,7 @@
--- Every active run's key stays among those of the rows that weren't still.
+-- Every active run's key stays among those of the rows that were live by the turn's moment.
 use Rattle.std.specs.Ordering.{is_eq}
 use Rattle.std.specs.Prelude.{IsSome}
-use Rattle.std.proofs.Common.{◌≡◌, ℕ, Bool, true, false, not, cond, List, [], ◌∷◌, map, filter, get_or, length, ◌<◌, suc, zero, Option, Some, None, is_some, refl, sym, ap, subst, ◌∙◌, arith}
+use Rattle.std.proofs.Common.{◌≡◌, ℕ, Bool, true, false, cond, List, [], ◌∷◌, map, filter, get_or, length, ◌<◌, suc, zero, Option, Some, None, is_some, refl, sym, ap, subst, ◌∙◌, arith}
 use Rattle.ps_time.specs.Class.{conflicting_classes}
 use Rattle.ps_time.specs.Key.{key_cmp}
 use Rattle.ps_time.specs.Span.{Range}
@@ -40,8 +40,9 @@ use Rattle.host_model.proofs.EffectEvolves.{effect_evolves}
 use Rattle.host_model.proofs.Standing.{changed_key, changed_row, effect_key, way_evolves}
 use Rattle.host_model.proofs.Wishes.{end_granted, merge_granted, plan_granted, start_granted}
 use Rattle.live_rows.specs.LiveKeys.{find_own}
-use Rattle.live_rows.specs.Still.{is_still, live_keys, live_rows}
-use Rattle.live_law.proofs.StillLemmas.{both, still_parts}
+use Rattle.live_rows.specs.Still.{is_live_by, keys_live_by}
+use Rattle.live_rows.proofs.WaitLemmas.{both}
+use Rattle.live_law.proofs.StillLemmas.{silent, unlive_ever}
 use Rattle.host_wishes.specs.Wishes.{HoldActive, HoldHindering}
 use Rattle.host_turns.specs.Turns.{HoldExclusive, exclusive_keys, hindering_keys, is_exclusive_at, wish_of}
 use Rattle.host_turns.specs.declared.due.Due.{Due}
@@ -61,39 +62,41 @@ own_at (k ∷ ks) zero d lt = ap (λ b. is_some (cond b (Some k) (find_own ks k)
 own_at (k ∷ ks) (suc i) d lt = own_next k (get_or ks i d) ks (own_at ks i d (omega arith))
 
 -- ---- at first
-live_own : (self : ℕ) (rows : List RunRow) (k : RunKey) (r : RunRow) → find_row rows k ≡ Some r → is_still self r ≡ false → IsSome (find_own (live_keys self rows) k)
-live_own self [] k r at live = cc
-live_own self (x ∷ xs) k r at live = go (is_eq (key_cmp x.key k)) refl at (live_own self xs k r)
+live_own : (self m : ℕ) (rows : List RunRow) (k : RunKey) (r : RunRow) → find_row rows k ≡ Some r → is_live_by self m r ≡ true → IsSome (find_own (keys_live_by self m rows) k)
+live_own self m [] k r at live = cc
+live_own self m (x ∷ xs) k r at live = go (is_eq (key_cmp x.key k)) refl at (live_own self m xs k r)
   where
-    rest : (t : Bool) → IsSome (find_own (live_keys self xs) k) → IsSome (find_own (map (λ y. y.key) (cond (not t) (x ∷ live_rows self xs) (live_rows self xs))) k)
-    rest true is = is
-    rest false is = own_next x.key k (live_keys self xs) is
+    others : List RunRow
+    others = filter (is_live_by self m) xs
 
-    first : (t : Bool) → is_still self x ≡ t → is_still self x ≡ false → is_eq (key_cmp x.key k) ≡ true → IsSome (find_own (map (λ y. y.key) (cond (not t) (x ∷ live_rows self xs) (live_rows self xs))) k)
-    first true is other same = cc
-    first false is other same = ap (λ b. is_some (cond b (Some x.key) (find_own (live_keys self xs) k))) same
+    rest : (t : Bool) → IsSome (find_own (keys_live_by self m xs) k) → IsSome (find_own (map (λ y. y.key) (cond t (x ∷ others) others)) k)
+    rest false is = is
+    rest true is = own_next x.key k (keys_live_by self m xs) is
 
-    go : (b : Bool) → is_eq (key_cmp x.key k) ≡ b → cond b (Some x) (find_row xs k) ≡ Some r → (find_row xs k ≡ Some r → is_still self r ≡ false → IsSome (find_own (live_keys self xs) k)) → IsSome (find_own (live_keys self (x ∷ xs)) k)
-    go true same found later = let own : x ≡ r = cc in first (is_still self x) refl (subst (λ y. is_still self y ≡ false) (sym own) live) same
-    go false other found later = rest (is_still self x) (later found live)
+    first : is_live_by self m x ≡ true → is_eq (key_cmp x.key k) ≡ true → IsSome (find_own (keys_live_by self m (x ∷ xs)) k)
+    first is same = ap (λ t. is_some (find_own (map (λ y. y.key) (cond t (x ∷ others) others)) k)) is ∙ ap (λ b. is_some (cond b (Some x.key) (find_own (keys_live_by self m xs) k))) same
 
-active_live : (self : ℕ) (r : RunRow) → is_active r ≡ true → is_still self r ≡ false
-active_live self r active = go (is_still self r) refl
+    go : (b : Bool) → is_eq (key_cmp x.key k) ≡ b → cond b (Some x) (find_row xs k) ≡ Some r → (find_row xs k ≡ Some r → is_live_by self m r ≡ true → IsSome (find_own (keys_live_by self m xs) k)) → IsSome (find_own (keys_live_by self m (x ∷ xs)) k)
+    go true same found later = let own : x ≡ r = cc in first (subst (λ y. is_live_by self m y ≡ true) (sym own) live) same
+    go false other found later = rest (is_live_by self m x) (later found live)
+
+active_live : (self m : ℕ) (r : RunRow) → is_active r ≡ true → is_live_by self m r ≡ true
+active_live self m r active = go (is_live_by self m r) refl
   where
-    go : (t : Bool) → is_still self r ≡ t → t ≡ false
-    go false is = refl
-    go true is = let never : false ≡ true = sym (still_parts self r is).inactive ∙ active in cc
+    go : (t : Bool) → is_live_by self m r ≡ t → t ≡ true
+    go true is = refl
+    go false is = let never : false ≡ true = sym (silent self r (unlive_ever self m r is)).inactive ∙ active in cc
 
 closed_active : (o : Option Closing) (r : RunRow) → is_active (closed_by o r) ≡ is_active r
 closed_active None r = refl
 closed_active (Some c) r = refl
 
--- the active runs of a book that settled are among those that weren't still
-pub settled_active : (self m : ℕ) (rows : List RunRow) → HoldActive (live_keys self rows) (settled_rows m rows)
+-- the active runs of a book that settled are among those that were live
+pub settled_active : (self m : ℕ) (rows : List RunRow) → HoldActive (keys_live_by self m rows) (settled_rows m rows)
 settled_active self m rows k r at active =
     let q = found_map (settled_row m) (λ x. (settled_evolves m x).key) rows k r at in
     let was : is_active q.0 ≡ true = sym (closed_active (lapse_of m q.0) q.0) ∙ (ap is_active q.2 ∙ active) in
-    live_own self rows k q.0 q.1 (active_live self q.0 was)
+    live_own self m rows k q.0 q.1 (active_live self m q.0 was)
 
 -- ---- exclusive runs
 filter_own : (p : RunKey → Bool) (ks : List RunKey) (k : RunKey) → p k ≡ true → IsSome (find_own ks k) → IsSome (find_own (filter p ks) k)

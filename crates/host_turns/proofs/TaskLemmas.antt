@@ -1,6 +1,7 @@
 -- Tasks whose serials count up are found by them.
 use Rattle.std.specs.List.{range_with_len}
-use Rattle.std.proofs.Common.{◌≡◌, ◌<◌, ◌+◌, ℕ, zero, suc, true, false, cond, List, [], ◌∷◌, length, map, get_or, Some, nat_eq, ap, ◌∙◌, arith}
+use Rattle.std.specs.Prelude.{slice_get}
+use Rattle.std.proofs.Common.{◌≡◌, ◌<◌, ◌+◌, ℕ, zero, suc, true, false, cond, List, [], ◌∷◌, length, map, get_or, None, Some, nat_eq, refl, ap, ◌∙◌, arith}
 use Rattle.std.proofs.lemmas.Bool.Decides.{nat_tests}
 use Rattle.host_model.specs.Book.{find_task}
 use Rattle.host_model.specs.declared.task_row.TaskRow.{TaskRow}
@@ -23,3 +24,26 @@ task_at (t ∷ ts) a (suc i) d same lt =
     let first : t.serial ≡ a = h.0 in
     let other : nat_eq t.serial (get_or ts i d).serial ≡ false = grind (arith, nat_tests, first, later) in
     ap (λ b. cond b (Some t) (find_task ts (get_or ts i d).serial)) other ∙ task_at ts (a + 1) i d h.1 (omega arith)
+
+-- what is found by a serial stands at its place
+pub serial_found : (ts : List TaskRow) (a i : ℕ) → map (λ x. x.serial) ts ≡ range_with_len a (length ts) → find_task ts (a + i) ≡ slice_get ts i
+serial_found [] a i same = refl
+serial_found (t ∷ ts) a zero same =
+    let first : t.serial ≡ a = (head_serial a (length ts) t ts same).0 in
+    let own : nat_eq t.serial (a + 0) ≡ true = grind (arith, nat_tests, first) in
+    ap (λ b. cond b (Some t) (find_task ts (a + 0))) own
+serial_found (t ∷ ts) a (suc i) same =
+    let h = head_serial a (length ts) t ts same in
+    let first : t.serial ≡ a = h.0 in
+    let other : nat_eq t.serial (a + suc i) ≡ false = grind (arith, nat_tests, first) in
+    let next : a + suc i ≡ a + 1 + i = omega arith in
+    ap (λ b. cond b (Some t) (find_task ts (a + suc i))) other ∙ (ap (find_task ts) next ∙ serial_found ts (a + 1) i h.1)
+
+-- none has a serial below the first
+pub none_below : (ts : List TaskRow) (a n : ℕ) → map (λ x. x.serial) ts ≡ range_with_len a (length ts) → n < a → find_task ts n ≡ None
+none_below [] a n same low = refl
+none_below (t ∷ ts) a n same low =
+    let h = head_serial a (length ts) t ts same in
+    let first : t.serial ≡ a = h.0 in
+    let other : nat_eq t.serial n ≡ false = grind (arith, nat_tests, first, low) in
+    ap (λ b. cond b (Some t) (find_task ts n)) other ∙ none_below ts (a + 1) n h.1 (omega (arith, low))

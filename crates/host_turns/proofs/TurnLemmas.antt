@@ -1,5 +1,5 @@
 -- The groups of a turn, one after another; the draft with which it begins, and what it ends with.
-use Rattle.std.proofs.Common.{◌≡◌, ◌≤◌, ℕ, List, length, map, option_and_then, refl, sym, ap, ap₂, subst, ◌∙◌}
+use Rattle.std.proofs.Common.{◌≡◌, ◌≤◌, ℕ, List, false, map, option_and_then, refl, sym, ap, ap₂, subst, ◌∙◌}
 use Rattle.ps_time.specs.Numbers.{greatest_moment}
 use Rattle.ps_time.specs.declared.key.RunKey.{RunKey}
 use Rattle.run_states.specs.Rows.{find_row}
@@ -15,8 +15,8 @@ use Rattle.host_model.specs.declared.config.Config.{Config}
 use Rattle.host_model.specs.declared.task_row.TaskRow.{TaskRow}
 use Rattle.host_model.proofs.DraftLemmas.{turned_is}
 use Rattle.host_model.proofs.SettledBook.{book_settled}
-use Rattle.live_rows.specs.Still.{live_keys, StillStay}
-use Rattle.live_law.specs.Groups.{going_keys, make_keys, turned_by, turned_most}
+use Rattle.live_rows.specs.Still.{keys_live_by, StillStay}
+use Rattle.live_law.specs.Groups.{going_keys, let_go, make_keys, turned_by, turned_most}
 use Rattle.live_law.specs.Waking.{make_asked, turned_awake}
 use Rattle.live_law.proofs.AwakeLemmas.{awake_same}
 use Rattle.live_law.proofs.GroupLemmas.{turned_begun, turned_live}
@@ -92,12 +92,12 @@ module _ (c : Config) (live : List RunKey) where
       joined four (awake self rows tasks) stays_four s0 s4 s5 t4 e5
 
 -- ---- the purging, behind the others
-module _ (c : Config) (number m : ℕ) (b : Book) (same : number ≡ c.number) (lawful : Lawful number b) (live : List RunKey) (s : Seen) (live_are : live ≡ live_keys number b.rows) (made : s.draft ≡ turned_most c m live (fresh (settled m b))) where
+module _ (c : Config) (number m : ℕ) (b : Book) (same : number ≡ c.number) (lawful : Lawful number b) (live : List RunKey) (s : Seen) (live_are : live ≡ keys_live_by number m b.rows) (made : s.draft ≡ turned_most c m live (fresh (settled m b))) where
   of_host : Lawful c.number b
   of_host = subst (λ n. Lawful n b) same lawful
 
-  own : live ≡ live_keys c.number b.rows
-  own = live_are ∙ ap (λ n. live_keys n b.rows) same
+  own : live ≡ keys_live_by c.number m b.rows
+  own = live_are ∙ ap (λ n. keys_live_by n m b.rows) same
 
   at : s.draft.book.moment ≡ m
   at = ap (λ d. d.book.moment) made ∙ stays_most c live m (fresh (settled m b))
@@ -114,25 +114,25 @@ module _ (c : Config) (number m : ℕ) (b : Book) (same : number ≡ c.number) (
       (ap (λ ks. turned_by c m ks (going_keys c.number m b.rows) (fresh (settled m b))) own ∙ turned_begun c m b of_host)
 
   -- over the live ones
-  pub live_purged : (t : Seen) → StillStay number b.rows m → length s.draft.book.rows ≡ length b.rows → t ≡ with_draft (make_keys (purge_run c s.draft.book.moment) s.draft.book.moment live s.draft) s → t.draft ≡ turned c m (fresh (settled m b))
-  live_purged t stay many is =
-      let count : length (turned_most c m (live_keys c.number b.rows) (fresh (settled m b))).book.rows ≡ length b.rows =
-      ap (λ ks. length (turned_most c m ks (fresh (settled m b))).book.rows) (sym own) ∙ (ap (λ d. length d.book.rows) (sym made) ∙ many) in
-      purged live t is (ap (λ ks. turned_by c m ks ks (fresh (settled m b))) own ∙ turned_live c m b of_host (subst (λ n. StillStay n b.rows m) same stay) count)
+  pub live_purged : (t : Seen) → StillStay number b.rows m → let_go m b.rows s.draft.changes ≡ false → t ≡ with_draft (make_keys (purge_run c s.draft.book.moment) s.draft.book.moment live s.draft) s → t.draft ≡ turned c m (fresh (settled m b))
+  live_purged t stay none is =
+      let none_let : let_go m b.rows (turned_most c m (keys_live_by c.number m b.rows) (fresh (settled m b))).changes ≡ false =
+      ap (λ ks. let_go m b.rows (turned_most c m ks (fresh (settled m b))).changes) (sym own) ∙ (ap (λ d. let_go m b.rows d.changes) (sym made) ∙ none) in
+      purged live t is (ap (λ ks. turned_by c m ks ks (fresh (settled m b))) own ∙ turned_live c m b of_host (subst (λ n. StillStay n b.rows m) same stay) none_let)
 
 -- ---- at first, and at last
-module _ (c : Config) (number m : ℕ) (b : Book) (same : number ≡ c.number) (lawful : Lawful number b) (tasks : List TaskRow) (live : List RunKey) (s : Seen) (live_are : live ≡ live_keys number b.rows) (opens : s ≡ opened number m c.limits b) where
+module _ (c : Config) (number m : ℕ) (b : Book) (same : number ≡ c.number) (lawful : Lawful number b) (tasks : List TaskRow) (live : List RunKey) (s : Seen) (live_are : live ≡ keys_live_by number m b.rows) (opens : s ≡ opened number m c.limits b) where
   pub begun : b.moment ≤ m → m ≤ greatest_moment → tasks ≡ b.tasks → (rows : List RunRow) (exclusive : List RunKey) → rows ≡ b.rows → exclusive ≡ exclusive_keys rows live → IsLiveTurn c tasks live exclusive s
   begun later bound tasks_are rows exclusive rows_are exclusive_are =
-      let first : IsLiveTurn c b.tasks (live_keys number b.rows) (exclusive_keys b.rows (live_keys number b.rows)) (opened number m c.limits b) = record {
+      let first : IsLiveTurn c b.tasks (keys_live_by number m b.rows) (exclusive_keys b.rows (keys_live_by number m b.rows)) (opened number m c.limits b) = record {
         turn = record {
           number = same;
           book = record { lawful = subst (λ n. Lawful n (settled m b)) same (book_settled number b m later bound lawful); limits = refl; tasks = refl };
         };
         active = settled_active number m b.rows;
-        exclusive_held = settled_exclusive m b.rows (live_keys number b.rows);
+        exclusive_held = settled_exclusive m b.rows (keys_live_by number m b.rows);
       } in
-      let opened_so : IsLiveTurn c b.tasks (live_keys number b.rows) (exclusive_keys b.rows (live_keys number b.rows)) s = subst (IsLiveTurn c b.tasks (live_keys number b.rows) (exclusive_keys b.rows (live_keys number b.rows))) (sym opens) first in
+      let opened_so : IsLiveTurn c b.tasks (keys_live_by number m b.rows) (exclusive_keys b.rows (keys_live_by number m b.rows)) s = subst (IsLiveTurn c b.tasks (keys_live_by number m b.rows) (exclusive_keys b.rows (keys_live_by number m b.rows))) (sym opens) first in
       let own_live : IsLiveTurn c b.tasks live (exclusive_keys b.rows live) s = subst (λ ks. IsLiveTurn c b.tasks ks (exclusive_keys b.rows ks) s) (sym live_are) opened_so in
       let own_exclusive : IsLiveTurn c b.tasks live exclusive s = subst (λ es. IsLiveTurn c b.tasks live es s) (sym (exclusive_are ∙ ap (λ rs. exclusive_keys rs live) rows_are)) own_live in
       subst (λ ts. IsLiveTurn c ts live exclusive s) (sym tasks_are) own_exclusive

@@ -1,6 +1,6 @@
 //! What may be due of a run.
 
-/// What may be due of a run that isn't still, in the order in which a turn looks for it.
+/// What may be due of a run that is live, in the order in which a turn looks for it.
 #[derive(Clone, Copy)]
 pub enum Due {
     /// Its tool is done, and it ends.

@@ -6,7 +6,7 @@ ghost use Rattle.run_states.specs.Purging.{is_long_past};
 ghost use Rattle.live_law.specs.Groups.{going_keys, make_keys};
 ghost use Rattle.live_law.specs.Waking.{make_asked};
 ghost use Rattle.live_rows.specs.LiveKeys.{find_own};
-ghost use Rattle.live_rows.specs.Still.{is_live};
+ghost use Rattle.live_rows.specs.Still.{is_live_by};
 ghost use Rattle.host_model.specs.Book.{find_task};
 ghost use Rattle.host_model.specs.Draft.{make};
 ghost use Rattle.host_model.specs.NextAttempt.{ask};
@@ -23,7 +23,7 @@ use host_model::change::Change;
 use host_model::config::Config;
 use host_model::task_row::TaskRow;
 use lead_core::question::ask;
-use live_rows::still::is_still;
+use live_rows::still::is_live_by;
 use part_core::reading::Reading;
 use ps_time::key::RunKey;
 use ps_time::memory::Memory;
@@ -32,7 +32,7 @@ use run_states::row::RunRow;
 use std::alloc::Global;
 
 impl<'a> Turn<'a> {
-    // Makes what is due of the runs that aren't still.
+    // Makes what is due of the live runs.
     pub(crate) fn make_due(
         &self,
         alloc: Global,
@@ -194,11 +194,11 @@ pub(crate) fn purge_keys(
     Ok(())
 }
 
-// Whether the row is long past, or isn't still: no other goes, whatever the turn has made so far.
+// Whether the row is long past, or live by the moment: no other goes, whatever the turn has made so far.
 fn may_go(row: &RunRow, number: u16, moment: Moment) -> bool
-    ensures { result ≡ (is_long_past moment row.now || is_live number row.now) }
+    ensures { result ≡ (is_long_past moment row.now || is_live_by number moment row.now) }
 {
-    row.is_long_past(moment) || !is_still(row, number)
+    row.is_long_past(moment) || is_live_by(row, number, moment)
 }
 
 fn purge_key(

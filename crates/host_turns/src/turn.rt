@@ -1,11 +1,12 @@
 //! A turn: a host does what is due.
-ghost use Rattle.std.specs.Prelude.{◌≡◌, ◌≤◌, IfOk, IsFalse, OnOk, length, true};
+ghost use Rattle.std.specs.Option.{option_copied};
+ghost use Rattle.std.specs.Prelude.{◌≡◌, ◌≤◌, IfOk, IsFalse, OnOk, false, length, true};
 ghost use Rattle.ps_time.specs.Name.{is_name};
 ghost use Rattle.ps_time.specs.Numbers.{most_changes};
 ghost use Rattle.ps_time.specs.declared.moment.TheConstants.{MAX_MOMENT};
-ghost use Rattle.live_law.specs.Groups.{turned_most};
+ghost use Rattle.live_law.specs.Groups.{asked_key, is_past_at, let_go, lets_go, turned_most};
 ghost use Rattle.live_law.specs.Waking.{turned_awake};
-ghost use Rattle.live_rows.specs.Still.{live_keys, StillStay};
+ghost use Rattle.live_rows.specs.Still.{keys_live_by, StillStay};
 ghost use Rattle.host_model.specs.Apply.{settled};
 ghost use Rattle.host_model.specs.Draft.{fresh, turned};
 ghost use Rattle.host_model.specs.Turn.{changed, turn as turn_of};
@@ -26,6 +27,8 @@ use part_core::reading::Reading;
 use ps_time::items::Items;
 use ps_time::memory::Memory;
 use ps_time::moment::Moment;
+use run_states::row::RunRow;
+use run_states::rows::Rows;
 use std::alloc::Global;
 
 /// All that is due at a host at the moment, in seconds since 1970 UTC, with the number of its changes: runs end, are merged,
@@ -43,7 +46,8 @@ pub fn turn(
     requires bound { moment ≤ MAX_MOMENT }
     ensures { IfOk result (λ outcome. outcome ≡ turn_of config.now moment (settled moment host.now.book)) }
 {
-    let live = host.live();
+    let keys = host.live_by(alloc, moment)?;
+    let live = keys.list();
     let exclusive = exclusive_keys(alloc, host.rows(), live)?;
     let mut draft = Draft::new(alloc, host, &config.limits, moment)?;
     let turn = Turn {
@@ -68,11 +72,46 @@ fn changed(list: Items<Change>) -> Outcome
     }
 }
 
-// Whether the purging has to look at all rows: one that is still may go, or the turn has brought one.
+// Whether the purging has to look at all rows: one that is still may go, or the turn asks about a run that may let one go.
 fn looks_at_all(draft: &Draft<'_>, host: &HostBook, moment: Moment) -> bool
-    ensures { IsFalse result → StillStay host.now.number host.now.book.rows moment × (length draft.now.draft.book.rows ≡ length host.now.book.rows) }
+    ensures { IsFalse result → StillStay host.now.number host.now.book.rows moment × (let_go moment host.now.book.rows draft.now.draft.changes ≡ false) }
 {
-    host.may_purge(moment) || draft.len() != host.rows().list().len()
+    host.may_purge(moment) || let_go(draft.changes(), host.rows(), moment)
+}
+
+// Whether one of the changes asks about a run whose task's newest row is long past.
+fn let_go(changes: &[Change], rows: &Rows, moment: Moment) -> bool
+    ensures { result ≡ let_go moment rows.now.list changes.now }
+{
+    for change in changes {
+        if lets_go(change, rows, moment) {
+            return true;
+        }
+    }
+    false
+}
+
+fn lets_go(change: &Change, rows: &Rows, moment: Moment) -> bool
+    ensures { result ≡ lets_go moment rows.now.list (asked_key change.now) }
+{
+    match change {
+        Change::Asked { question, .. } => {
+            is_past_at(
+                rows.newest_of_task(question.key.lead, question.key.task),
+                moment,
+            )
+        }
+        _ => false,
+    }
+}
+
+fn is_past_at(row: Option<&RunRow>, moment: Moment) -> bool
+    ensures { result ≡ is_past_at moment (option_copied row.entry) }
+{
+    match row {
+        Some(row) => row.is_long_past(moment),
+        None => false,
+    }
 }
 
 impl<'a> Turn<'a> {
@@ -100,7 +139,7 @@ impl<'a> Turn<'a> {
         moment: Moment,
     ) -> Result<(), Memory>
         requires number { host.now.number ≡ self.now.config.now.number }
-        requires live { self.now.live.now ≡ live_keys host.now.number host.now.book.rows }
+        requires live { self.now.live.now ≡ keys_live_by host.now.number moment host.now.book.rows }
         requires turn { IsTurn self.now.config.now self.now.tasks.now draft.old }
         requires made { draft.old.draft ≡ turned_most self.now.config.now moment self.now.live.now (fresh (settled moment host.now.book)) }
         ensures { OnOk result (draft.new.draft ≡ turned self.now.config.now moment (fresh (settled moment host.now.book))) }

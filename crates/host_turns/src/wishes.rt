@@ -1,5 +1,6 @@
 //! What a turn wishes for at a key, a task, read off its draft.
-ghost use Rattle.std.specs.Prelude.{◌≡◌, IfOk, option_and_then};
+ghost use Rattle.std.specs.List.{range_with_len};
+ghost use Rattle.std.specs.Prelude.{◌≡◌, IfOk, length, map, option_and_then, slice_get};
 ghost use Rattle.std.specs.Option.{option_copied};
 ghost use Rattle.run_states.specs.Rows.{find_row};
 ghost use Rattle.host_model.specs.Book.{find_task};
@@ -33,7 +34,7 @@ pub(crate) struct Turn<'a> {
     pub(crate) config: &'a Config,
     // of the host: no change of a turn touches them
     pub(crate) tasks: &'a [TaskRow],
-    // the keys of all rows that weren't still, ascending
+    // the keys of all rows that were live by its moment, ascending
     pub(crate) live: &'a [RunKey],
     // those of exclusive runs among them
     pub(crate) exclusive: &'a [RunKey],
@@ -132,10 +133,21 @@ fn plan_at(
     plan_run(alloc, draft, config, find_task(tasks, key.task), key)
 }
 
+// The task of the serial, which is its place counted from 1.
 fn find_task(tasks: &[TaskRow], serial: u32) -> Option<&TaskRow>
+    requires { map (λ t. t.serial) tasks.now ≡ range_with_len 1 (length tasks.now) }
     ensures { option_copied result ≡ find_task tasks.now serial }
 {
-    tasks.iter().find(|task| task.serial == serial)
+    if serial == 0 {
+        return None;
+    }
+    task_at(tasks, serial as usize - 1)
+}
+
+fn task_at(tasks: &[TaskRow], place: usize) -> Option<&TaskRow>
+    ensures { option_copied result ≡ slice_get tasks.now place }
+{
+    tasks.get(place)
 }
 
 /// Whether the row of the key is long past.

@@ -17,3 +17,15 @@ made_keeps P m x d here next = go d.places
     go : (n : ℕ) → P (make_with m x d n).book
     go zero = here
     go (suc n) = fits n (nat_le (change_bytes x) d.left)
+
+-- the same of what holds of a draft
+pub draft_keeps : (P : Draft → Type 0) (m : ℕ) (x : Change) (d : Draft) → P d → P (ended d) → ((n : ℕ) → P (made m x d n)) → P (make m (Some x) d)
+draft_keeps P m x d here full next = go d.places
+  where
+    fits : (n : ℕ) (t : Bool) → P (if t then made m x d n else ended d)
+    fits n true = next n
+    fits n false = full
+
+    go : (n : ℕ) → P (make_with m x d n)
+    go zero = here
+    go (suc n) = fits n (nat_le (change_bytes x) d.left)

@@ -3,20 +3,20 @@ use Rattle.std.specs.List.{AllByRecursion, list_any}
 use Rattle.std.specs.Ordering.{is_eq, match_ordering}
 use Rattle.std.specs.declared.cmp.Ordering.{Ordering}
 use Rattle.std.specs.declared.cmp.Ordering.TheVariants.{Less, Equal, Greater}
-use Rattle.std.proofs.Common.{◌≡◌, ◌≤◌, ◌⊎◌, inl, inr, ℕ, Bool, true, false, cond, ◌&&◌, ◌||◌, List, [], ◌∷◌, length, map, filter, suc, Option, Some, None, is_some, option_and_then, not, refl, ap, ap₂, sym, subst, ◌∙◌, arith}
+use Rattle.std.proofs.Common.{◌≡◌, ◌+◌, ◌⊎◌, inl, inr, ℕ, Bool, true, false, cond, ◌&&◌, ◌||◌, nat_le, List, [], ◌∷◌, ◌++◌, map, filter, Option, Some, None, is_some, option_and_then, not, refl, ap, ap₂, sym, subst, ◌∙◌}
 use Rattle.std.specs.Prelude.{◌==◌}
-use Rattle.std.proofs.Math.Bool.{or-true}
-use Rattle.std.proofs.lemmas.List.Elements.{recursion_from_All}
+use Rattle.std.proofs.Math.Bool.{or-false, or-true}
+use Rattle.std.proofs.lemmas.List.Elements.{All-weaker, recursion_from_All}
 use Rattle.ps_time.specs.Key.{key_cmp}
 use Rattle.ps_time.specs.declared.asker.Asker.{Asker}
 use Rattle.ps_time.specs.declared.key.RunKey.{RunKey}
-use Rattle.run_states.specs.Purging.{is_led_out, is_later, is_long_past, is_purgeable}
+use Rattle.run_states.specs.Purging.{is_led_out, is_later, is_long_past, is_purgeable, keeping, rest_of}
 use Rattle.run_states.specs.Rows.{IsAscendingRows, find_row, lift_row, put_row}
 use Rattle.run_states.specs.declared.proposal.Question.{Question}
 use Rattle.run_states.specs.declared.row.RunRow.{RunRow}
 use Rattle.host_model.specs.Apply.{apply, put_new}
 use Rattle.host_model.specs.Book.{Book, find_task, keys_of_rows}
-use Rattle.host_model.specs.Draft.{Draft, make, make_each, make_rows, make_tasks}
+use Rattle.host_model.specs.Draft.{Draft, made, make, make_each, make_rows, make_tasks}
 use Rattle.host_model.specs.Effect.{has_key}
 use Rattle.host_model.specs.NewRow.{asked_row}
 use Rattle.host_model.specs.NextAttempt.{ask}
@@ -30,11 +30,12 @@ use Rattle.host_model.proofs.Placed.{lift_from, put_from, put_keeps}
 use Rattle.host_model.proofs.RowLemmas.{all_of_found}
 use Rattle.host_model.proofs.Standing.{changed_row}
 use Rattle.host_model.proofs.Wishes.{ask_granted, purge_granted}
-use Rattle.live_law.specs.Groups.{going_keys, make_keys}
-use Rattle.live_rows.specs.Still.{is_still, live_keys, live_rows, StillStay}
-use Rattle.live_rows.proofs.StayLemmas.{fewer_stay, has_later, later_lifted}
-use Rattle.live_law.proofs.DraftLemmas.{made_keeps}
-use Rattle.live_law.proofs.StillLemmas.{some_same}
+use Rattle.live_law.specs.Groups.{asked_key, going_keys, is_past_at, let_go, lets_go, make_keys}
+use Rattle.live_rows.specs.Still.{has_come, is_live_by, is_still, is_waiting, keys_live_by, StillStay}
+use Rattle.live_rows.proofs.StayLemmas.{fewer_stay, has_later, later_lifted, later_put, newest_beside}
+use Rattle.live_rows.proofs.WaitLemmas.{waiting_parts}
+use Rattle.live_law.proofs.DraftLemmas.{draft_keeps, made_keeps}
+use Rattle.live_law.proofs.StillLemmas.{some_same, unlive_by}
 
 -- ---- a key is that of a row
 abbrev has : RunKey → List RunKey → Bool
@@ -207,19 +208,34 @@ module _ (m : ℕ) (base : List RunRow) where
         go true old later = later (make m (gone d.book k) d) (young_made k d young)
         go false new later = later d young ∙ sym (ap (λ o. make_keys (purge_run c m) m ks (make m o d)) (young_stays d.book k young new))
 
--- ---- rows that are still and not long past stay
-module _ (c : Config) (m : ℕ) (base : List RunRow) where
-  -- the row stands, as it was
-  abbrev Stand : List RunRow → Type 0
-  Stand rows = (s : RunRow) → find_row base s.key ≡ Some s → is_still c.number s ≡ true → find_row rows s.key ≡ Some s
+-- ---- rows that aren't live by the moment, and aren't long past, stay
+-- what comes of the row s by the moment is long past only where it is s
+abbrev pub Lasts : ℕ → RunRow → RunRow → Type 0
+Lasts m s r = is_long_past m r ≡ true → r ≡ s
 
-  -- it stands so, or has gone
+pub not_past : (m : ℕ) (s r : RunRow) → Lasts m s r → is_long_past m s ≡ false → is_long_past m r ≡ false
+not_past m s r lasts young = go (is_long_past m r) refl
+  where
+    go : (t : Bool) → is_long_past m r ≡ t → t ≡ false
+    go false is = refl
+    go true is = let never : false ≡ true = sym young ∙ (ap (is_long_past m) (sym (lasts is)) ∙ is) in cc
+
+module _ (c : Config) (m : ℕ) (base : List RunRow) where
+  -- such a row is there, and lasts
+  abbrev Stand : List RunRow → Type 0
+  Stand rows = (s : RunRow) → find_row base s.key ≡ Some s → is_live_by c.number m s ≡ false → (r : RunRow) × (find_row rows s.key ≡ Some r) × Lasts m s r
+
+  -- it lasts, or has gone
   abbrev StandOrGone : List RunRow → Type 0
-  StandOrGone rows = (s r : RunRow) → find_row base s.key ≡ Some s → is_still c.number s ≡ true → find_row rows s.key ≡ Some r → r ≡ s
+  StandOrGone rows = (s r : RunRow) → find_row base s.key ≡ Some s → is_live_by c.number m s ≡ false → find_row rows s.key ≡ Some r → Lasts m s r
+
+  stand_or_gone : (rows : List RunRow) → Stand rows → StandOrGone rows
+  stand_or_gone rows stand s r at out found = let q = stand s at out in subst (Lasts m s) (some_same q.0 r (sym q.1 ∙ found)) q.2
 
   stand_asked : (b : Book) (q : Question) (participants : List (List ℕ)) (asker : Asker) → Stand b.rows → Stand (apply m (Asked q participants asker) b).rows
-  stand_asked b q participants asker stand s at still =
-      put_keeps (Some (asked_row m q participants asker)) _ s.key s (ap (λ rows. find_row rows s.key) (asked_same m b.tasks q participants asker b.rows b.rows) ∙ stand s at still)
+  stand_asked b q participants asker stand s at out =
+      let f = stand s at out in
+      (f.0, put_keeps (Some (asked_row m q participants asker)) _ s.key f.0 (ap (λ rows. find_row rows s.key) (asked_same m b.tasks q participants asker b.rows b.rows) ∙ f.1), f.2)
 
   stand_asks : (serials : List ℕ) (d : Draft) → Stand d.book.rows → Stand (make_each (λ b serial. option_and_then (ask c m b) (find_task b.tasks serial)) m serials d).book.rows
   stand_asks [] d before = before
@@ -239,119 +255,191 @@ module _ (c : Config) (m : ℕ) (base : List RunRow) where
       task (Some t) = one t (ask c m d.book t) refl
 
   gone_purged : (b : Book) (k : RunKey) → StandOrGone b.rows → StandOrGone (apply m (Purged k) b).rows
-  gone_purged b k stand = subst (λ rows. StandOrGone (lift_row rows k)) (sym (purged_same m b.tasks k b.rows b.rows)) (λ s r at still found. stand s r at still (lift_from k s.key b.rows r found))
+  gone_purged b k stand = subst (λ rows. StandOrGone (lift_row rows k)) (sym (purged_same m b.tasks k b.rows b.rows)) (λ s r at out found. stand s r at out (lift_from k s.key b.rows r found))
 
   gone_made : (k : RunKey) (d : Draft) → StandOrGone d.book.rows → StandOrGone (make m (gone m base c d.book k) d).book.rows
   gone_made k d stand = gone_keeps m base c StandOrGone gone_purged k d stand
 
   -- what is neither long past nor live
-  neither : (past live : Bool) → (past || not live) ≡ false → (past ≡ false) × (live ≡ true)
+  neither : (past live : Bool) → (past || live) ≡ false → (past ≡ false) × (live ≡ false)
   neither true live e = cc
-  neither false true e = (refl, refl)
-  neither false false e = cc
+  neither false live e = (refl, e)
 
-  unwished : (b : Book) (s : RunRow) → StandOrGone b.rows → find_row base s.key ≡ Some s → (is_long_past m s || not (is_still c.number s)) ≡ false → gone m base c b s.key ≡ None
+  unwished : (b : Book) (s : RunRow) → StandOrGone b.rows → find_row base s.key ≡ Some s → (is_long_past m s || is_live_by c.number m s) ≡ false → gone m base c b s.key ≡ None
   unwished b s stand at out = go (find_row b.rows s.key) refl
     where
       go : (o : Option RunRow) → find_row b.rows s.key ≡ o → option_and_then (purge_run c m b) o ≡ None
       go None found = refl
       go (Some r) found =
-          let parts = neither (is_long_past m s) (is_still c.number s) out in
-          let same : r ≡ s = stand s r at parts.1 found in
-          ap (λ t. change_if (t && (not (r.key.lead == c.number) || is_led_out b.rows r)) (Purged r.key)) (ap (is_long_past m) same ∙ parts.0)
+          let parts = neither (is_long_past m s) (is_live_by c.number m s) out in
+          ap (λ t. change_if (t && (not (r.key.lead == c.number) || is_led_out b.rows r)) (Purged r.key)) (not_past m s r (stand s r at parts.1 found) parts.0)
 
   going : (rs : List RunRow) → AllByRecursion (λ s. find_row base s.key ≡ Some s) rs → (d : Draft) → StandOrGone d.book.rows → make_keys (purge_run c m) m (going_keys c.number m rs) d ≡ make_keys (purge_run c m) m (keys_of_rows rs) d
   going [] all d stand = refl
-  going (s ∷ rs) all d stand = go (is_long_past m s || not (is_still c.number s)) refl (going rs all.1)
+  going (s ∷ rs) all d stand = go (is_long_past m s || is_live_by c.number m s) refl (going rs all.1)
     where
-      go : (t : Bool) → (is_long_past m s || not (is_still c.number s)) ≡ t → ((e : Draft) → StandOrGone e.book.rows → make_keys (purge_run c m) m (going_keys c.number m rs) e ≡ make_keys (purge_run c m) m (keys_of_rows rs) e) →
-          make_keys (purge_run c m) m (keys_of_rows (cond t (s ∷ filter (λ r. is_long_past m r || not (is_still c.number r)) rs) (filter (λ r. is_long_past m r || not (is_still c.number r)) rs))) d ≡ make_keys (purge_run c m) m (keys_of_rows (s ∷ rs)) d
+      go : (t : Bool) → (is_long_past m s || is_live_by c.number m s) ≡ t → ((e : Draft) → StandOrGone e.book.rows → make_keys (purge_run c m) m (going_keys c.number m rs) e ≡ make_keys (purge_run c m) m (keys_of_rows rs) e) →
+          make_keys (purge_run c m) m (keys_of_rows (cond t (s ∷ filter (λ r. is_long_past m r || is_live_by c.number m r) rs) (filter (λ r. is_long_past m r || is_live_by c.number m r) rs))) d ≡ make_keys (purge_run c m) m (keys_of_rows (s ∷ rs)) d
       go true is later = later (make m (gone m base c d.book s.key) d) (gone_made s.key d stand)
       go false is later = later d stand ∙ sym (ap (λ o. make_keys (purge_run c m) m (keys_of_rows rs) (make m o d)) (unwished d.book s stand all.0 is))
 
--- the purges of a turn, where the rows have the keys of these before the asks, and those that were still stand as they were
+-- the purges of a turn, where the rows have the keys of these before the asks, and those that weren't live last
 pub purges_same : (c : Config) (m : ℕ) (base : List RunRow) → IsAscendingRows base → (d : Draft) → keys_of_rows d.book.rows ≡ keys_of_rows base
-    → ((s : RunRow) → find_row base s.key ≡ Some s → is_still c.number s ≡ true → find_row d.book.rows s.key ≡ Some s)
-    → make_keys (purge_run c m) m (going_keys c.number m base) (make_tasks (ask c m) m d) ≡ make_rows (purge_run c m) m (make_tasks (ask c m) m d)
+    → Stand c m base d.book.rows → make_keys (purge_run c m) m (going_keys c.number m base) (make_tasks (ask c m) m d) ≡ make_rows (purge_run c m) m (make_tasks (ask c m) m d)
 purges_same c m base up d same stand =
     let asked : Draft = make_tasks (ask c m) m d in
     let all : AllByRecursion (λ s. find_row base s.key ≡ Some s) base = recursion_from_All (λ s. find_row base s.key ≡ Some s) base (all_of_found (λ s. find_row base s.key ≡ Some s) base up (λ r at. at)) in
     let extended : Extended m base asked.book = extended_asks m base c (map (λ t. t.serial) d.book.tasks) d (extended_first m base up d.book same) in
-    let stood : (s : RunRow) → find_row base s.key ≡ Some s → is_still c.number s ≡ true → find_row asked.book.rows s.key ≡ Some s = stand_asks c m base (map (λ t. t.serial) d.book.tasks) d stand in
-    going c m base base all asked (λ s r at still found. some_same r s (sym found ∙ stood s at still))
+    let stood : Stand c m base asked.book.rows = stand_asks c m base (map (λ t. t.serial) d.book.tasks) d stand in
+    going c m base base all asked (stand_or_gone c m base asked.book.rows stood)
     ∙ (ap (λ ks. make_keys (purge_run c m) m ks asked) (sym extended.keys) ∙ skipped m base c (keys_of_rows asked.book.rows) asked extended.young)
 
--- ---- where no row that is still may go, and no row came, only those that weren't still are looked at
-module _ (c : Config) (m : ℕ) (base : List RunRow) where
-  -- no task has a later row than before
-  abbrev Fewer : List RunRow → Type 0
-  Fewer rows = (k : RunKey) → has_later k rows ≡ true → has_later k base ≡ true
-
-  fewer_purged : (b : Book) (k : RunKey) → Fewer b.rows → Fewer (apply m (Purged k) b).rows
-  fewer_purged b k fewer = subst (λ rows. Fewer (lift_row rows k)) (sym (purged_same m b.tasks k b.rows b.rows)) (λ j later. fewer j (later_lifted j k b.rows later))
-
-  kept : (b : Book) (s : RunRow) → StandOrGone c m base b.rows → Fewer b.rows → find_row base s.key ≡ Some s → is_still c.number s ≡ true → is_purgeable c.number m base s ≡ false → gone m base c b s.key ≡ None
-  kept b s stand fewer at still stays = go (find_row b.rows s.key) refl
-    where
-      go : (o : Option RunRow) → find_row b.rows s.key ≡ o → option_and_then (purge_run c m b) o ≡ None
-      go None found = refl
-      go (Some r) found =
-          let same : r ≡ s = stand s r at still found in
-          let none : is_purgeable c.number m b.rows s ≡ false = fewer_stay c.number m base b.rows s (fewer s.key) stays in
-          ap (λ t. change_if t (Purged r.key)) (ap (is_purgeable c.number m b.rows) same ∙ none)
-
-  over_live : (rs : List RunRow) → AllByRecursion (λ s. find_row base s.key ≡ Some s) rs → AllByRecursion (λ s. is_still c.number s ≡ true → is_purgeable c.number m base s ≡ false) rs → (d : Draft) → StandOrGone c m base d.book.rows → Fewer d.book.rows
-      → make_keys (purge_run c m) m (live_keys c.number rs) d ≡ make_keys (purge_run c m) m (keys_of_rows rs) d
-  over_live [] all stay d stand fewer = refl
-  over_live (s ∷ rs) all stay d stand fewer = go (is_still c.number s) refl (over_live rs all.1 stay.1)
-    where
-      go : (t : Bool) → is_still c.number s ≡ t
-          → ((e : Draft) → StandOrGone c m base e.book.rows → Fewer e.book.rows → make_keys (purge_run c m) m (live_keys c.number rs) e ≡ make_keys (purge_run c m) m (keys_of_rows rs) e)
-          → make_keys (purge_run c m) m (keys_of_rows (cond (not t) (s ∷ live_rows c.number rs) (live_rows c.number rs))) d ≡ make_keys (purge_run c m) m (keys_of_rows (s ∷ rs)) d
-      go true is later = later d stand fewer ∙ sym (ap (λ o. make_keys (purge_run c m) m (keys_of_rows rs) (make m o d)) (kept d.book s stand fewer all.0 is (stay.0 is)))
-      go false is later = later (make m (gone m base c d.book s.key) d) (gone_made c m base s.key d stand) (gone_keeps m base c Fewer fewer_purged s.key d fewer)
-
+-- ---- later rows of a task are those of before, or were asked about
 -- whether a later row is there is told by the keys
 later_keys : (k : RunKey) (rows : List RunRow) → has_later k rows ≡ list_any (is_later k) (keys_of_rows rows)
 later_keys k [] = refl
 later_keys k (r ∷ rs) = ap (λ t. is_later k r.key || t) (later_keys k rs)
 
--- a filter that leaves as many leaves all
-module _ {X : Type 0} (p : X → Bool) where
-  filter_few : (xs : List X) → length (filter p xs) ≤ length xs
-  filter_few [] = omega arith
-  filter_few (x ∷ xs) = go (p x) (filter_few xs)
+abbrev is_later_of : RunKey → Option RunKey → Bool
+is_later_of k None = false
+is_later_of k (Some j) = is_later k j
+
+abbrev asked_later : RunKey → List Change → Bool
+asked_later k xs = list_any (λ x. is_later_of k (asked_key x)) xs
+
+any_more : (p : Change → Bool) (xs : List Change) (x : Change) → list_any p (xs ++ x ∷ []) ≡ (list_any p xs || p x)
+any_more p [] x = or-false (p x)
+any_more p (y ∷ ys) x = ap (λ t. p y || t) (any_more p ys x) ∙ go (p y)
+  where
+    go : (b : Bool) → (b || (list_any p ys || p x)) ≡ ((b || list_any p ys) || p x)
+    go true = refl
+    go false = refl
+
+module _ (m : ℕ) (base : List RunRow) where
+  abbrev Known : Draft → Type 0
+  Known d = (k : RunKey) → has_later k d.book.rows ≡ true → (has_later k base || asked_later k d.changes) ≡ true
+
+  known_first : (d : Draft) → keys_of_rows d.book.rows ≡ keys_of_rows base → Known d
+  known_first d same k later = ap (λ t. t || asked_later k d.changes) (later_keys k base ∙ (ap (list_any (is_later k)) (sym same) ∙ (sym (later_keys k d.book.rows) ∙ later)))
+
+  -- one more is asked about
+  join : (a b c t : Bool) → (t ≡ true → (a || b) ≡ true) → (c || t) ≡ true → (a || (b || c)) ≡ true
+  join true b c t known e = refl
+  join false true c t known e = refl
+  join false false true t known e = refl
+  join false false false t known e = known e
+
+  known_asked : (d : Draft) (q : Question) (participants : List (List ℕ)) (asker : Asker) → Known d → (n : ℕ) → Known (made m (Asked q participants asker) d n)
+  known_asked d q participants asker known n k later =
+      let row : RunRow = asked_row m q participants asker in
+      let rows_are : put_new (Some row) d.book.rows ≡ (apply m (Asked q participants asker) d.book).rows = ap (put_new (Some row)) (sym (asked_same m d.book.tasks q participants asker d.book.rows d.book.rows)) in
+      let one : (is_later k q.key || has_later k d.book.rows) ≡ true = came (is_some (find_row d.book.rows row.key)) (ap (has_later k) rows_are ∙ later) in
+      ap (λ t. has_later k base || t) (any_more (λ x. is_later_of k (asked_key x)) d.changes (Asked q participants asker)) ∙ join (has_later k base) (asked_later k d.changes) (is_later k q.key) (has_later k d.book.rows) (known k) one
     where
-      go : (t : Bool) → length (filter p xs) ≤ length xs → length (cond t (x ∷ filter p xs) (filter p xs)) ≤ suc (length xs)
-      go true few = omega (arith, few)
-      go false few = omega (arith, few)
+      came : (t : Bool) → has_later k (cond t d.book.rows (put_row d.book.rows (asked_row m q participants asker))) ≡ true → (is_later k q.key || has_later k d.book.rows) ≡ true
+      came true e = ap (λ t. is_later k q.key || t) e ∙ or-true (is_later k q.key)
+      came false e = sym (later_put k d.book.rows (asked_row m q participants asker)) ∙ e
 
-  filter_whole : (xs : List X) → length xs ≤ length (filter p xs) → filter p xs ≡ xs
-  filter_whole [] all = refl
-  filter_whole (x ∷ xs) all = go (p x) all (filter_whole xs)
+  known_asks : (c : Config) (serials : List ℕ) (d : Draft) → Known d → Known (make_each (λ b serial. option_and_then (ask c m b) (find_task b.tasks serial)) m serials d)
+  known_asks c [] d before = before
+  known_asks c (serial ∷ serials) d before = known_asks c serials (make m (wished (find_task d.book.tasks serial)) d) (task (find_task d.book.tasks serial))
     where
-      go : (t : Bool) → suc (length xs) ≤ length (cond t (x ∷ filter p xs) (filter p xs)) → (length xs ≤ length (filter p xs) → filter p xs ≡ xs) → cond t (x ∷ filter p xs) (filter p xs) ≡ x ∷ xs
-      go true all later = ap (λ ys. x ∷ ys) (later (omega (arith, all)))
-      go false all later = let few = filter_few xs in absurd (omega (arith, all, few))
+      wished : Option TaskRow → Option Change
+      wished o = option_and_then (ask c m d.book) o
 
-count_keys : (rows : List RunRow) → length (keys_of_rows rows) ≡ length rows
-count_keys [] = refl
-count_keys (r ∷ rs) = ap suc (count_keys rs)
+      one : (t : TaskRow) (o : Option Change) → ask c m d.book t ≡ o → Known (make m o d)
+      one t None is = before
+      one t (Some x) is =
+          let g = ask_granted c m d.book t x is in
+          draft_keeps Known m x d before before (λ n. subst (λ y. Known (made m y d n)) g.is (known_asked d _ _ _ before n))
 
--- the purges, where the rows are as many as these
+      task : (o : Option TaskRow) → Known (make m (wished o) d)
+      task None = before
+      task (Some t) = one t (ask c m d.book t) refl
+
+  -- none of these lets the row go, so it had a later one
+  not_first : (a b : Bool) → (a || b) ≡ false → (a ≡ false) × (b ≡ false)
+  not_first true b e = cc
+  not_first false b e = (refl, e)
+
+  module _ (up : IsAscendingRows base) (s : RunRow) (at : find_row base s.key ≡ Some s) (past : is_long_past m s ≡ true) where
+    one_let : (o : Option RunKey) → lets_go m base o ≡ false → is_later_of s.key o ≡ true → has_later s.key base ≡ true
+    one_let None none later = cc
+    one_let (Some k) none later = go (has_later s.key base) refl
+      where
+        go : (t : Bool) → has_later s.key base ≡ t → t ≡ true
+        go true is = refl
+        go false is = let never : false ≡ true = sym none ∙ (ap (is_past_at m) (newest_beside s k base up at is later) ∙ past) in cc
+
+    each_let : (xs : List Change) → let_go m base xs ≡ false → asked_later s.key xs ≡ true → has_later s.key base ≡ true
+    each_let [] none later = cc
+    each_let (x ∷ xs) none later =
+        let parts = not_first (lets_go m base (asked_key x)) (let_go m base xs) none in
+        go (is_later_of s.key (asked_key x)) refl later (each_let xs parts.1) (one_let (asked_key x) parts.0)
+      where
+        go : (t : Bool) → is_later_of s.key (asked_key x) ≡ t → (t || asked_later s.key xs) ≡ true → (asked_later s.key xs ≡ true → has_later s.key base ≡ true) → (is_later_of s.key (asked_key x) ≡ true → has_later s.key base ≡ true) → has_later s.key base ≡ true
+        go true is e rest here = here is
+        go false is e rest here = rest e
+
+    known_let : (d : Draft) → Known d → let_go m base d.changes ≡ false → has_later s.key d.book.rows ≡ true → has_later s.key base ≡ true
+    known_let d known none later = go (has_later s.key base) refl (known s.key later)
+      where
+        go : (t : Bool) → has_later s.key base ≡ t → (t || asked_later s.key d.changes) ≡ true → t ≡ true
+        go true is e = refl
+        go false is e = sym is ∙ each_let d.changes none e
+
+-- ---- where no row that is still may go, and none is let go by a later one, only those that were live are looked at
+module _ (c : Config) (m : ℕ) (base : List RunRow) where
+  -- what is long past has no later row of its task that it hadn't before
+  abbrev Fewer : List RunRow → Type 0
+  Fewer rows = (s : RunRow) → find_row base s.key ≡ Some s → is_long_past m s ≡ true → has_later s.key rows ≡ true → has_later s.key base ≡ true
+
+  fewer_purged : (b : Book) (k : RunKey) → Fewer b.rows → Fewer (apply m (Purged k) b).rows
+  fewer_purged b k fewer = subst (λ rows. Fewer (lift_row rows k)) (sym (purged_same m b.tasks k b.rows b.rows)) (λ s at past later. fewer s at past (later_lifted s.key k b.rows later))
+
+  kept : (b : Book) (s : RunRow) → StandOrGone c m base b.rows → Fewer b.rows → find_row base s.key ≡ Some s → is_live_by c.number m s ≡ false → is_purgeable c.number m base s ≡ false → gone m base c b s.key ≡ None
+  kept b s stand fewer at out stays = go (find_row b.rows s.key) refl
+    where
+      past : (r : RunRow) → Lasts m s r → (t : Bool) → is_long_past m r ≡ t → is_purgeable c.number m b.rows r ≡ false
+      past r lasts false is = ap (λ t. t && (not (r.key.lead == c.number) || is_led_out b.rows r)) is
+      past r lasts true is = ap (is_purgeable c.number m b.rows) (lasts is) ∙ fewer_stay c.number m base b.rows s (fewer s at (ap (is_long_past m) (sym (lasts is)) ∙ is)) stays
+
+      go : (o : Option RunRow) → find_row b.rows s.key ≡ o → option_and_then (purge_run c m b) o ≡ None
+      go None found = refl
+      go (Some r) found = ap (λ t. change_if t (Purged r.key)) (past r (stand s r at out found) (is_long_past m r) refl)
+
+  over_live : (rs : List RunRow) → AllByRecursion (λ s. find_row base s.key ≡ Some s) rs → AllByRecursion (λ s. is_live_by c.number m s ≡ false → is_purgeable c.number m base s ≡ false) rs → (d : Draft) → StandOrGone c m base d.book.rows → Fewer d.book.rows
+      → make_keys (purge_run c m) m (keys_live_by c.number m rs) d ≡ make_keys (purge_run c m) m (keys_of_rows rs) d
+  over_live [] all stay d stand fewer = refl
+  over_live (s ∷ rs) all stay d stand fewer = go (is_live_by c.number m s) refl (over_live rs all.1 stay.1)
+    where
+      go : (t : Bool) → is_live_by c.number m s ≡ t
+          → ((e : Draft) → StandOrGone c m base e.book.rows → Fewer e.book.rows → make_keys (purge_run c m) m (keys_live_by c.number m rs) e ≡ make_keys (purge_run c m) m (keys_of_rows rs) e)
+          → make_keys (purge_run c m) m (keys_of_rows (cond t (s ∷ filter (is_live_by c.number m) rs) (filter (is_live_by c.number m) rs))) d ≡ make_keys (purge_run c m) m (keys_of_rows (s ∷ rs)) d
+      go false out later = later d stand fewer ∙ sym (ap (λ o. make_keys (purge_run c m) m (keys_of_rows rs) (make m o d)) (kept d.book s stand fewer all.0 out (stay.0 out)))
+      go true is later = later (make m (gone m base c d.book s.key) d) (gone_made c m base s.key d stand) (gone_keeps m base c Fewer fewer_purged s.key d fewer)
+
+  -- a row that waits isn't over
+  unlive_stays : (s : RunRow) → (is_still c.number s ≡ true → is_purgeable c.number m base s ≡ false) → is_live_by c.number m s ≡ false → is_purgeable c.number m base s ≡ false
+  unlive_stays s stays out = go (unlive_by c.number m s out)
+    where
+      go : (is_still c.number s ≡ true) ⊎ ((is_waiting s ≡ true) × (has_come m s.interval ≡ false)) → is_purgeable c.number m base s ≡ false
+      go (inl still) = stays still
+      go (inr waits) =
+          let parts = waiting_parts s waits.0 in
+          ap₂ (λ a b. ((a || b) && nat_le (rest_of s + keeping) m) && (not (s.key.lead == c.number) || is_led_out base s)) parts.unclosed parts.unended
+
+-- the purges of a turn, where that is so
 pub purges_live : (c : Config) (m : ℕ) (base : List RunRow) → IsAscendingRows base → (d : Draft) → keys_of_rows d.book.rows ≡ keys_of_rows base
-    → ((s : RunRow) → find_row base s.key ≡ Some s → is_still c.number s ≡ true → find_row d.book.rows s.key ≡ Some s)
-    → StillStay c.number base m → length (make_tasks (ask c m) m d).book.rows ≡ length base
-    → make_keys (purge_run c m) m (live_keys c.number base) (make_tasks (ask c m) m d) ≡ make_rows (purge_run c m) m (make_tasks (ask c m) m d)
-purges_live c m base up d same stand stay many =
+    → Stand c m base d.book.rows → StillStay c.number base m → let_go m base (make_tasks (ask c m) m d).changes ≡ false
+    → make_keys (purge_run c m) m (keys_live_by c.number m base) (make_tasks (ask c m) m d) ≡ make_rows (purge_run c m) m (make_tasks (ask c m) m d)
+purges_live c m base up d same stand stay none =
     let asked : Draft = make_tasks (ask c m) m d in
     let all : AllByRecursion (λ s. find_row base s.key ≡ Some s) base = recursion_from_All (λ s. find_row base s.key ≡ Some s) base (all_of_found (λ s. find_row base s.key ≡ Some s) base up (λ r at. at)) in
     let extended : Extended m base asked.book = extended_asks m base c (map (λ t. t.serial) d.book.tasks) d (extended_first m base up d.book same) in
-    let stood : (s : RunRow) → find_row base s.key ≡ Some s → is_still c.number s ≡ true → find_row asked.book.rows s.key ≡ Some s = stand_asks c m base (map (λ t. t.serial) d.book.tasks) d stand in
-    let first = count_keys asked.book.rows in
-    let second = count_keys base in
-    let third : length (filter (there m base) (keys_of_rows asked.book.rows)) ≡ length (keys_of_rows base) = ap length extended.keys in
-    let keys : keys_of_rows asked.book.rows ≡ keys_of_rows base = sym (filter_whole (there m base) (keys_of_rows asked.book.rows) (omega (arith, first, second, third, many))) ∙ extended.keys in
-    let fewer : Fewer c m base asked.book.rows = λ k later. later_keys k base ∙ (ap (list_any (is_later k)) (sym keys) ∙ (sym (later_keys k asked.book.rows) ∙ later)) in
-    over_live c m base base all (recursion_from_All (λ s. is_still c.number s ≡ true → is_purgeable c.number m base s ≡ false) base stay) asked (λ s r at still found. some_same r s (sym found ∙ stood s at still)) fewer
-    ∙ ap (λ ks. make_keys (purge_run c m) m ks asked) (sym keys)
+    let stood : Stand c m base asked.book.rows = stand_asks c m base (map (λ t. t.serial) d.book.tasks) d stand in
+    let known : Known m base asked = known_asks m base c (map (λ t. t.serial) d.book.tasks) d (known_first m base d same) in
+    let fewer : Fewer c m base asked.book.rows = λ s at past later. known_let m base up s at past asked known none later in
+    let stays = All-weaker (λ s. is_still c.number s ≡ true → is_purgeable c.number m base s ≡ false) (λ s. is_live_by c.number m s ≡ false → is_purgeable c.number m base s ≡ false) (unlive_stays c m base) base stay in
+    over_live c m base base all (recursion_from_All (λ s. is_live_by c.number m s ≡ false → is_purgeable c.number m base s ≡ false) base stays) asked (stand_or_gone c m base asked.book.rows stood) fewer
+    ∙ (ap (λ ks. make_keys (purge_run c m) m ks asked) (sym extended.keys) ∙ skipped m base c (keys_of_rows asked.book.rows) asked extended.young)

@@ -1,4 +1,4 @@
-//! What the rows that are still mean for a host's turns, orders and archives.
+//! What the rows that aren't live mean for a host's turns, orders and archives.
 #![tactic(auto)]
 
 pub mod law;

@@ -1,5 +1,5 @@
 -- What a search finds among keys, and what an edit at that place does.
-use Rattle.std.proofs.Common.{◌≡◌, ℕ, Bool, true, false, cond, List, [], ◌∷◌, map, length, get_or, Result, Ok, Err, IfOk, IfErr, None, refl, ap, ap₂, sym, ◌∙◌}
+use Rattle.std.proofs.Common.{◌≡◌, ℕ, Bool, true, false, cond, List, [], ◌∷◌, filter, map, length, get_or, Result, Ok, Err, IfOk, IfErr, None, refl, ap, ap₂, sym, ◌∙◌}
 use Rattle.std.specs.List.{AllByRecursion, insert, remove}
 use Rattle.std.specs.List.Sorted.{IsSearchInRange, IsBinarySearchResult}
 use Rattle.std.specs.Ordering.{is_eq}
@@ -62,5 +62,8 @@ keys_up : (rows : List RunRow) → IsAscendingRows rows → IsAscendingKeys (map
 keys_up [] up = tt
 keys_up (r ∷ rs) up = (above r.key rs up.0, keys_up rs up.1)
 
+pub passing_up : (p : RunRow → Bool) (rows : List RunRow) → IsAscendingRows rows → IsAscendingKeys (map (λ r. r.key) (filter p rows))
+passing_up p rows up = keys_up _ (ascending-filter key_cmp_total (λ r. r.key) p rows up)
+
 pub live_up : (self : ℕ) (rows : List RunRow) → IsAscendingRows rows → IsAscendingKeys (live_keys self rows)
-live_up self rows up = keys_up _ (ascending-filter key_cmp_total (λ r. r.key) (is_live self) rows up)
+live_up self rows up = passing_up (is_live self) rows up

@@ -1,10 +1,10 @@
-//! The keys of the rows that aren't still.
+//! The keys of the rows that are live.
 ghost use Rattle.std.specs.Prelude.{◌≡◌, ◌<◌, ◌≤◌, [], IfErr, IfOk, None, OnOk, length, true};
 ghost use Rattle.run_states.specs.Rows.{IsAscendingRows};
 ghost use Rattle.live_rows.specs.LiveKeys.{drop_key, find_own, marked, with_key, IsGapFor, IsPlaceOf};
 ghost use Rattle.live_rows.specs.Still.{live_keys};
 
-use crate::still::is_still;
+use crate::still::is_live;
 use ps_time::key::RunKey;
 use ps_time::memory::Memory;
 use run_states::row::RunRow;
@@ -90,7 +90,25 @@ impl LiveKeys {
         }
     }
 
-    /// Makes the keys those of the rows that aren't still at the host with this number. Takes no memory.
+    /// The same keys once more.
+    pub fn copy(&self, alloc: Global) -> Result<LiveKeys, Memory>
+        ensures { IfOk result (λ made. made.list ≡ self.now.list) }
+    {
+        let mut keys = SlidingList::new(alloc);
+        add_all(&mut keys, self.keys.as_slice())?;
+        Ok(LiveKeys { keys })
+    }
+
+    /// Puts the key in, unless it is there.
+    pub fn add(&mut self, key: RunKey) -> Result<(), Memory>
+        ensures { OnOk result (self.new.list ≡ marked true self.old.list key) }
+    {
+        self.keys.reserve(1)?;
+        self.mark(key, true);
+        Ok(())
+    }
+
+    /// Makes the keys those of the rows that are live at the host with this number. Takes no memory.
     pub fn refill(&mut self, rows: &[RunRow], number: u16)
         requires ascending { IsAscendingRows rows.now }
         requires places { length rows.now ≤ self.old.places }
@@ -110,7 +128,19 @@ impl LiveKeys {
     }
 }
 
-// Adds the keys of the rows that aren't still at the host with this number to none.
+// Adds the keys to none.
+fn add_all(made: &mut SlidingList<RunKey>, keys: &[RunKey]) -> Result<(), Memory>
+    requires { made.old.list ≡ [] }
+    ensures { OnOk result (made.new.list ≡ keys.now) }
+{
+    made.reserve(keys.len())?;
+    for key in keys {
+        made.push(*key);
+    }
+    Ok(())
+}
+
+// Adds the keys of the rows that are live at the host with this number to none.
 fn fill(keys: &mut SlidingList<RunKey>, rows: &[RunRow], number: u16)
     requires none { keys.old.list ≡ [] }
     requires places { length rows.now ≤ keys.old.places }
@@ -118,7 +148,7 @@ fn fill(keys: &mut SlidingList<RunKey>, rows: &[RunRow], number: u16)
     ensures places { keys.old.places ≤ keys.new.places }
 {
     for row in rows {
-        if !is_still(row, number) {
+        if is_live(row, number) {
             keys.push(row.key);
         }
     }

@@ -1,10 +1,12 @@
-//! Rows of which nothing more comes, but that they are purged.
+//! Rows of which nothing more comes, but that they are purged, and rows of which nothing comes before their start.
 ghost use Rattle.std.specs.Prelude.{◌≡◌};
 ghost use Rattle.std.specs.List.{list_all};
 ghost use Rattle.run_states.specs.Purging.{is_settled_archive};
-ghost use Rattle.live_rows.specs.Still.{is_decided, is_mergeable, is_quiet, is_still, is_told};
+ghost use Rattle.live_rows.specs.Still.{has_come, is_ahead, is_called, is_decided, is_live, is_live_by, is_mergeable, is_quiet, is_still, is_told, is_waiting};
 
 use archive_retry::state::ArchiveState;
+use ps_time::interval::Interval;
+use ps_time::moment::Moment;
 use run_states::answer::Other;
 use run_states::row::RunRow;
 
@@ -18,6 +20,55 @@ pub fn is_still(row: &RunRow, number: u16) -> bool
         && !is_mergeable(row, number)
         && is_quiet(row)
         && has_settled_archives(row)
+}
+
+/// Whether the host with this number may have something to do with the row, whatever the moment: it is neither still, nor does it
+/// wait for its start.
+pub fn is_live(row: &RunRow, number: u16) -> bool
+    ensures { result ≡ is_live number row.now }
+{
+    !(is_still(row, number) || is_waiting(row))
+}
+
+/// Whether the host with this number may have something to do with the row by the moment, in seconds since 1970 UTC.
+pub fn is_live_by(row: &RunRow, number: u16, moment: Moment) -> bool
+    ensures { result ≡ is_live_by number moment row.now }
+{
+    is_live(row, number) || is_called(row, moment)
+}
+
+/// Whether the row waits for its start, and that has come by the moment, in seconds since 1970 UTC.
+pub fn is_called(row: &RunRow, moment: Moment) -> bool
+    ensures { result ≡ is_called moment row.now }
+{
+    is_waiting(row) && has_come(&row.interval, moment)
+}
+
+// Whether it is confirmed, hasn't started, and nothing is to be said of it before its start.
+fn is_waiting(row: &RunRow) -> bool
+    ensures { result ≡ is_waiting row.now }
+{
+    is_ahead(row) && is_quiet(row) && has_settled_archives(row)
+}
+
+// Whether it is accepted and confirmed, hasn't started, and isn't over.
+fn is_ahead(row: &RunRow) -> bool
+    ensures { result ≡ is_ahead row.now }
+{
+    row.accepted.is_some()
+        && row.confirmed.is_some()
+        && row.started.is_none()
+        && row.ended.is_none()
+        && row.closed.is_none()
+}
+
+fn has_come(interval: &Option<Interval>, moment: Moment) -> bool
+    ensures { result ≡ has_come moment interval.now }
+{
+    match interval {
+        Some(interval) => interval.start <= moment,
+        None => false,
+    }
 }
 
 // Whether it is closed, or has come as far as its start.

@@ -1,3 +1,4 @@
+pub mod CalledLemmas
 pub mod ClosingLemmas
 pub mod DeadlineLemmas
 pub mod FiledLemmas

@@ -1,5 +1,5 @@
--- The keys of the rows that aren't still, as rows change, come and go.
-use Rattle.std.proofs.Common.{◌≡◌, ℕ, ◌≤◌, ◌<◌, Bool, true, false, not, cond, List, [], ◌∷◌, map, length, suc, Option, Some, None, option_map, refl, ap, ap₂, sym, ◌∙◌, arith}
+-- The keys of the live rows, as rows change, come and go.
+use Rattle.std.proofs.Common.{◌≡◌, ℕ, ◌≤◌, ◌<◌, Bool, true, false, not, cond, List, [], ◌∷◌, filter, map, length, suc, Option, Some, None, option_map, refl, ap, ap₂, sym, ◌∙◌, arith}
 use Rattle.std.specs.List.{AllByRecursion}
 use Rattle.std.specs.Ordering.{is_eq, match_ordering, ordering_reverse}
 use Rattle.std.specs.declared.cmp.Ordering.{Ordering}
@@ -16,90 +16,100 @@ use Rattle.live_rows.specs.Still.{is_live, live_keys, live_rows}
 use Rattle.row_ledger.specs.Ledger.{is_live_at}
 use Rattle.row_ledger.proofs.RowLemmas.{change_found, change_none, found_change, found_is}
 
-module _ (n : ℕ) where
+-- ---- no row has the key
+-- ---- no row has the key
+pub none_others : (rows : List RunRow) (k : RunKey) → find_row rows k ≡ None → AllByRecursion (λ y. is_eq (key_cmp y.key k) ≡ false) rows
+none_others [] k none = tt
+none_others (r ∷ rs) k none = go (is_eq (key_cmp r.key k)) refl none (none_others rs k)
+  where
+    go : (b : Bool) → is_eq (key_cmp r.key k) ≡ b → cond b (Some r) (find_row rs k) ≡ None → (find_row rs k ≡ None → AllByRecursion (λ y. is_eq (key_cmp y.key k) ≡ false) rs) → (is_eq (key_cmp r.key k) ≡ false) × AllByRecursion (λ y. is_eq (key_cmp y.key k) ≡ false) rs
+    go true is e later = cc
+    go false is e later = (is, later e)
+
+pub lift_none : (rows : List RunRow) (k : RunKey) → AllByRecursion (λ y. is_eq (key_cmp y.key k) ≡ false) rows → lift_row rows k ≡ rows
+lift_none [] k all = refl
+lift_none (r ∷ rs) k all = ap₂ (λ b l. cond (not b) (r ∷ l) l) all.0 (lift_none rs k all.1)
+
+-- ---- the keys of the rows that pass a test
+module _ (p : RunRow → Bool) where
+  abbrev pub keys_passing : List RunRow → List RunKey
+  keys_passing rows = map (λ r. r.key) (filter p rows)
+
   -- ---- a row goes or comes
-  pub live_lifted : (rows : List RunRow) (k : RunKey) → live_keys n (lift_row rows k) ≡ drop_key (live_keys n rows) k
-  live_lifted [] k = refl
-  live_lifted (r ∷ rs) k = go (is_live n r) (is_eq (key_cmp r.key k)) refl refl (live_lifted rs k)
+  pub keys_lifted : (rows : List RunRow) (k : RunKey) → keys_passing (lift_row rows k) ≡ drop_key (keys_passing rows) k
+  keys_lifted [] k = refl
+  keys_lifted (r ∷ rs) k = go (p r) (is_eq (key_cmp r.key k)) refl refl (keys_lifted rs k)
     where
-      go : (l b : Bool) → is_live n r ≡ l → is_eq (key_cmp r.key k) ≡ b → live_keys n (lift_row rs k) ≡ drop_key (live_keys n rs) k →
-          live_keys n (cond (not b) (r ∷ lift_row rs k) (lift_row rs k)) ≡ drop_key (map (λ x. x.key) (cond l (r ∷ live_rows n rs) (live_rows n rs))) k
+      go : (l b : Bool) → p r ≡ l → is_eq (key_cmp r.key k) ≡ b → keys_passing (lift_row rs k) ≡ drop_key (keys_passing rs) k →
+          keys_passing (cond (not b) (r ∷ lift_row rs k) (lift_row rs k)) ≡ drop_key (map (λ x. x.key) (cond l (r ∷ filter p rs) (filter p rs))) k
       go true true live same ih = rw same ih
       go false true live same ih = ih
       go true false live same ih = rw (live, same) (ap (λ ks. r.key ∷ ks) ih)
       go false false live same ih = rw live ih
 
-  above : (k : RunKey) (rows : List RunRow) → AllByRecursion (λ y. key_cmp k y.key ≡ Less) rows → AllByRecursion (λ j. key_cmp k j ≡ Less) (live_keys n rows)
+  above : (k : RunKey) (rows : List RunRow) → AllByRecursion (λ y. key_cmp k y.key ≡ Less) rows → AllByRecursion (λ j. key_cmp k j ≡ Less) (keys_passing rows)
   above k [] all = tt
-  above k (r ∷ rs) all = elim (is_live n r) as (λ b. AllByRecursion (λ j. key_cmp k j ≡ Less) (map (λ x. x.key) (cond b (r ∷ live_rows n rs) (live_rows n rs)))) [ true ↦ (all.0, above k rs all.1) | false ↦ above k rs all.1 ]
+  above k (r ∷ rs) all = elim (p r) as (λ b. AllByRecursion (λ j. key_cmp k j ≡ Less) (map (λ x. x.key) (cond b (r ∷ filter p rs) (filter p rs)))) [ true ↦ (all.0, above k rs all.1) | false ↦ above k rs all.1 ]
 
   abbrev front : Bool → RunRow → List RunKey → List RunKey
   front b r ks = cond b (r.key ∷ ks) ks
 
-  live_cons : (r : RunRow) (rs : List RunRow) → live_keys n (r ∷ rs) ≡ front (is_live n r) r (live_keys n rs)
-  live_cons r rs = elim (is_live n r) as (λ b. map (λ x. x.key) (cond b (r ∷ live_rows n rs) (live_rows n rs)) ≡ front b r (live_keys n rs)) [ true ↦ refl | false ↦ refl ]
+  pub keys_cons : (r : RunRow) (rs : List RunRow) → keys_passing (r ∷ rs) ≡ front (p r) r (keys_passing rs)
+  keys_cons r rs = elim (p r) as (λ b. map (λ x. x.key) (cond b (r ∷ filter p rs) (filter p rs)) ≡ front b r (keys_passing rs)) [ true ↦ refl | false ↦ refl ]
 
-  -- a row that isn't still brings its key
-  put_live : (rows : List RunRow) (r : RunRow) → IsAscendingRows rows → is_live n r ≡ true → live_keys n (put_row rows r) ≡ with_key (live_keys n rows) r.key
-  put_live [] r up live = live_cons r [] ∙ ap (λ b. front b r []) live
-  put_live (x ∷ xs) r up live = go (key_cmp x.key r.key) refl (put_live xs r up.1 live)
+  -- a row that passes brings its key
+  put_passing : (rows : List RunRow) (r : RunRow) → IsAscendingRows rows → p r ≡ true → keys_passing (put_row rows r) ≡ with_key (keys_passing rows) r.key
+  put_passing [] r up live = keys_cons r [] ∙ ap (λ b. front b r []) live
+  put_passing (x ∷ xs) r up live = go (key_cmp x.key r.key) refl (put_passing xs r up.1 live)
     where
-      stays : (b : Bool) (c : Ordering) → key_cmp x.key r.key ≡ c → match_ordering c true true false ≡ true → front b x (with_key (live_keys n xs) r.key) ≡ with_key (front b x (live_keys n xs)) r.key
+      stays : (b : Bool) (c : Ordering) → key_cmp x.key r.key ≡ c → match_ordering c true true false ≡ true → front b x (with_key (keys_passing xs) r.key) ≡ with_key (front b x (keys_passing xs)) r.key
       stays false c is low = refl
       stays true Less is low = rw is refl
       stays true Equal is low = rw is refl
       stays true Greater is low = cc
 
-      later : (c : Ordering) → key_cmp x.key r.key ≡ c → match_ordering c true true false ≡ true → live_keys n (put_row xs r) ≡ with_key (live_keys n xs) r.key → live_keys n (x ∷ put_row xs r) ≡ with_key (live_keys n (x ∷ xs)) r.key
-      later c is low ih = live_cons x (put_row xs r) ∙ (ap (front (is_live n x) x) ih ∙ (stays (is_live n x) c is low ∙ ap (λ ks. with_key ks r.key) (sym (live_cons x xs))))
+      later : (c : Ordering) → key_cmp x.key r.key ≡ c → match_ordering c true true false ≡ true → keys_passing (put_row xs r) ≡ with_key (keys_passing xs) r.key → keys_passing (x ∷ put_row xs r) ≡ with_key (keys_passing (x ∷ xs)) r.key
+      later c is low ih = keys_cons x (put_row xs r) ∙ (ap (front (p x) x) ih ∙ (stays (p x) c is low ∙ ap (λ ks. with_key ks r.key) (sym (keys_cons x xs))))
 
-      go : (c : Ordering) → key_cmp x.key r.key ≡ c → live_keys n (put_row xs r) ≡ with_key (live_keys n xs) r.key → live_keys n (match_ordering c (x ∷ put_row xs r) (x ∷ put_row xs r) (r ∷ x ∷ xs)) ≡ with_key (live_keys n (x ∷ xs)) r.key
+      go : (c : Ordering) → key_cmp x.key r.key ≡ c → keys_passing (put_row xs r) ≡ with_key (keys_passing xs) r.key → keys_passing (match_ordering c (x ∷ put_row xs r) (x ∷ put_row xs r) (r ∷ x ∷ xs)) ≡ with_key (keys_passing (x ∷ xs)) r.key
       go Less is ih = later Less is refl ih
       go Equal is ih = later Equal is refl ih
       go Greater is ih =
           let below : key_cmp r.key x.key ≡ Less = key_cmp_total.antisymm r.key x.key ∙ ap ordering_reverse is in
           let others = above r.key (x ∷ xs) (below, below_all key_cmp_total (λ y. y.key) xs r.key x.key below up.0) in
-          live_cons r (x ∷ xs) ∙ (ap (λ b. front b r (live_keys n (x ∷ xs))) live ∙ sym (insert_front key_cmp_total (λ k. k) (live_keys n (x ∷ xs)) r.key others))
+          keys_cons r (x ∷ xs) ∙ (ap (λ b. front b r (keys_passing (x ∷ xs))) live ∙ sym (insert_front key_cmp_total (λ k. k) (keys_passing (x ∷ xs)) r.key others))
 
-  -- one that is brings none
-  put_still : (rows : List RunRow) (r : RunRow) → is_live n r ≡ false → live_keys n (put_row rows r) ≡ live_keys n rows
-  put_still [] r still = live_cons r [] ∙ ap (λ b. front b r []) still
-  put_still (x ∷ xs) r still =
-      let later : live_keys n (x ∷ put_row xs r) ≡ live_keys n (x ∷ xs) = live_cons x (put_row xs r) ∙ (ap (front (is_live n x) x) (put_still xs r still) ∙ sym (live_cons x xs)) in
-      elim (key_cmp x.key r.key) as (λ c. live_keys n (match_ordering c (x ∷ put_row xs r) (x ∷ put_row xs r) (r ∷ x ∷ xs)) ≡ live_keys n (x ∷ xs)) [
+  -- another one brings none
+  put_other : (rows : List RunRow) (r : RunRow) → p r ≡ false → keys_passing (put_row rows r) ≡ keys_passing rows
+  put_other [] r still = keys_cons r [] ∙ ap (λ b. front b r []) still
+  put_other (x ∷ xs) r still =
+      let later : keys_passing (x ∷ put_row xs r) ≡ keys_passing (x ∷ xs) = keys_cons x (put_row xs r) ∙ (ap (front (p x) x) (put_other xs r still) ∙ sym (keys_cons x xs)) in
+      elim (key_cmp x.key r.key) as (λ c. keys_passing (match_ordering c (x ∷ put_row xs r) (x ∷ put_row xs r) (r ∷ x ∷ xs)) ≡ keys_passing (x ∷ xs)) [
         | Less ↦ later
         | Equal ↦ later
-        | Greater ↦ live_cons r (x ∷ xs) ∙ ap (λ b. front b r (live_keys n (x ∷ xs))) still
+        | Greater ↦ keys_cons r (x ∷ xs) ∙ ap (λ b. front b r (keys_passing (x ∷ xs))) still
       ]
 
-  live_put : (rows : List RunRow) (r : RunRow) → IsAscendingRows rows → live_keys n (put_row rows r) ≡ cond (is_live n r) (with_key (live_keys n rows) r.key) (live_keys n rows)
-  live_put rows r up = go (is_live n r) refl
+  keys_put : (rows : List RunRow) (r : RunRow) → IsAscendingRows rows → keys_passing (put_row rows r) ≡ cond (p r) (with_key (keys_passing rows) r.key) (keys_passing rows)
+  keys_put rows r up = go (p r) refl
     where
-      go : (b : Bool) → is_live n r ≡ b → live_keys n (put_row rows r) ≡ cond b (with_key (live_keys n rows) r.key) (live_keys n rows)
-      go true is = put_live rows r up is
-      go false is = put_still rows r is
+      go : (b : Bool) → p r ≡ b → keys_passing (put_row rows r) ≡ cond b (with_key (keys_passing rows) r.key) (keys_passing rows)
+      go true is = put_passing rows r up is
+      go false is = put_other rows r is
 
-  -- ---- no row has the key
-  none_others : (rows : List RunRow) (k : RunKey) → find_row rows k ≡ None → AllByRecursion (λ y. is_eq (key_cmp y.key k) ≡ false) rows
-  none_others [] k none = tt
-  none_others (r ∷ rs) k none = go (is_eq (key_cmp r.key k)) refl none (none_others rs k)
+  -- a row that is put back
+  pub marked_put : (rows : List RunRow) (k : RunKey) (r : RunRow) → IsAscendingRows rows → r.key ≡ k → keys_passing (put_row (lift_row rows k) r) ≡ marked (p r) (keys_passing rows) k
+  marked_put rows k r up same = keys_put (lift_row rows k) r (ascending-without key_cmp_total (λ x. x.key) rows k up) ∙ (ap₂ (λ ks j. cond (p r) (with_key ks j) ks) (keys_lifted rows k) same ∙ go (p r))
     where
-      go : (b : Bool) → is_eq (key_cmp r.key k) ≡ b → cond b (Some r) (find_row rs k) ≡ None → (find_row rs k ≡ None → AllByRecursion (λ y. is_eq (key_cmp y.key k) ≡ false) rs) → (is_eq (key_cmp r.key k) ≡ false) × AllByRecursion (λ y. is_eq (key_cmp y.key k) ≡ false) rs
-      go true is e later = cc
-      go false is e later = (is, later e)
-
-  lift_none : (rows : List RunRow) (k : RunKey) → AllByRecursion (λ y. is_eq (key_cmp y.key k) ≡ false) rows → lift_row rows k ≡ rows
-  lift_none [] k all = refl
-  lift_none (r ∷ rs) k all = ap₂ (λ b l. cond (not b) (r ∷ l) l) all.0 (lift_none rs k all.1)
-
-  -- ---- a row changes
-  marked_put : (rows : List RunRow) (k : RunKey) (r : RunRow) → IsAscendingRows rows → r.key ≡ k → live_keys n (put_row (lift_row rows k) r) ≡ marked (is_live n r) (live_keys n rows) k
-  marked_put rows k r up same = live_put (lift_row rows k) r (ascending-without key_cmp_total (λ x. x.key) rows k up) ∙ (ap₂ (λ ks j. cond (is_live n r) (with_key ks j) ks) (live_lifted rows k) same ∙ go (is_live n r))
-    where
-      go : (b : Bool) → cond b (with_key (drop_key (live_keys n rows) k) k) (drop_key (live_keys n rows) k) ≡ marked b (live_keys n rows) k
+      go : (b : Bool) → cond b (with_key (drop_key (keys_passing rows) k) k) (drop_key (keys_passing rows) k) ≡ marked b (keys_passing rows) k
       go true = refl
       go false = refl
 
+module _ (n : ℕ) where
+  pub live_lifted : (rows : List RunRow) (k : RunKey) → live_keys n (lift_row rows k) ≡ drop_key (live_keys n rows) k
+  live_lifted rows k = keys_lifted (is_live n) rows k
+
+  -- ---- a row changes
   pub live_changed : (f : RunRow → RunRow) → ((r : RunRow) → (f r).key ≡ r.key) → (rows : List RunRow) (k : RunKey) → IsAscendingRows rows →
       marked (is_live_at n (find_row (change_row f rows k) k)) (live_keys n rows) k ≡ live_keys n (change_row f rows k)
   live_changed f same rows k up = go (find_row rows k) refl
@@ -117,7 +127,7 @@ module _ (n : ℕ) where
           found_change f same rows k k ∙ (ap (option_map (λ y. cond (is_eq (key_cmp y.key k)) (f y) y)) at
           ∙ ap (λ b. Some (cond b (f r) r)) (found_is k rows r at)) in
           ap (λ o. marked (is_live_at n o) (live_keys n rows) k) found
-          ∙ (sym (marked_put rows k (f r) up key)
+          ∙ (sym (marked_put (is_live n) rows k (f r) up key)
           ∙ ap (live_keys n) (put_back rows k r (f r) up at key ∙ sym (change_found f k r rows up at)))
 
   -- ---- a new row
@@ -134,7 +144,7 @@ module _ (n : ℕ) where
   live_new rows r up none =
       let found : find_row (put_row rows r) r.key ≡ Some r = found_put rows r none in
       ap (λ o. marked (is_live_at n o) (live_keys n rows) r.key) found
-      ∙ (sym (marked_put rows r.key r up refl) ∙ ap (λ l. live_keys n (put_row l r)) (lift_none rows r.key (none_others rows r.key none)))
+      ∙ (sym (marked_put (is_live n) rows r.key r up refl) ∙ ap (λ l. live_keys n (put_row l r)) (lift_none rows r.key (none_others rows r.key none)))
 
   -- ---- how many
   pub few : (rows : List RunRow) → length (live_keys n rows) ≤ length rows

@@ -1,23 +1,19 @@
 -- Before which moment no row that is still may go, as rows change, come and go.
-use Rattle.std.specs.List.{AllByRecursion, last_or}
-use Rattle.std.specs.Ordering.{is_eq, is_lt, match_ordering}
+use Rattle.std.specs.Ordering.{is_eq, match_ordering}
 use Rattle.std.specs.declared.cmp.Ordering.{Ordering}
 use Rattle.std.specs.declared.cmp.Ordering.TheVariants.{Less, Equal, Greater}
-use Rattle.std.specs.Prelude.{◌==◌}
-use Rattle.std.proofs.Common.{◌≡◌, ℕ, ◌≤◌, ◌<◌, Bool, true, false, not, cond, ◌&&◌, ◌||◌, List, [], ◌∷◌, length, get_or, Option, Some, None, IfSome, All, refl, ap, ap₂, sym, subst, ◌∙◌, arith}
-use Rattle.std.proofs.Math.Bool.{and-true, or-true}
-use Rattle.std.proofs.lemmas.Bool.Decides.{nat_tests}
+use Rattle.std.proofs.Common.{◌≡◌, ℕ, ◌≤◌, ◌<◌, Bool, true, false, not, cond, ◌||◌, List, [], ◌∷◌, length, get_or, Option, Some, None, IfSome, All, refl, ap, ap₂, sym, subst, ◌∙◌, arith}
+use Rattle.std.proofs.Math.Bool.{or-true}
 use Rattle.std.proofs.lemmas.List.Elements.{All-filter, All-from_recursion, All-weaker}
 use Rattle.ps_time.specs.Key.{key_cmp}
 use Rattle.ps_time.specs.declared.key.RunKey.{RunKey}
 use Rattle.run_states.specs.Purging.{is_later, is_purgeable}
 use Rattle.run_states.specs.Rows.{change_row, find_row, lift_row, put_row, IsAscendingRows}
-use Rattle.run_states.specs.TaskRows.{is_of_task, newest_row, rows_of_task}
+use Rattle.run_states.specs.TaskRows.{newest_row}
 use Rattle.run_states.specs.declared.row.RunRow.{RunRow}
 use Rattle.run_states.proofs.Place.{changed_all, key_is}
-use Rattle.live_rows.proofs.StayLemmas.{by_later, fewer_stay, has_later, later_lifted}
+use Rattle.live_rows.proofs.StayLemmas.{by_later, fewer_stay, has_later, later_lifted, later_put, newest_beside}
 use Rattle.row_ledger.specs.Ledger.{StaysUntil}
-use Rattle.row_ledger.proofs.DeadlineLemmas.{swap}
 use Rattle.row_ledger.proofs.LedgerLemmas.{all_put}
 use Rattle.row_ledger.proofs.LiveLemmas.{found_put}
 use Rattle.row_ledger.proofs.RowLemmas.{each_found, either_key, found_is, own_row}
@@ -64,16 +60,6 @@ stays_lifted self rows k until stay =
     (All-weaker (StaysUntil self rows until) (StaysUntil self now until) (λ r stays m before still. fewer_stay self m rows now r (later_lifted r.key k rows) (stays m before still)) rows stay)
 
 -- ---- a row comes
-later_put : (j : RunKey) (rows : List RunRow) (n : RunRow) → has_later j (put_row rows n) ≡ (is_later j n.key || has_later j rows)
-later_put j [] n = refl
-later_put j (x ∷ xs) n = go (key_cmp x.key n.key) (ap (λ t. is_later j x.key || t) (later_put j xs n) ∙ swap (is_later j x.key) (is_later j n.key) (has_later j xs))
-  where
-    go : (c : Ordering) → has_later j (x ∷ put_row xs n) ≡ (is_later j n.key || has_later j (x ∷ xs))
-        → has_later j (match_ordering c (x ∷ put_row xs n) (x ∷ put_row xs n) (n ∷ x ∷ xs)) ≡ (is_later j n.key || has_later j (x ∷ xs))
-    go Less later = later
-    go Equal later = later
-    go Greater later = refl
-
 kept_put : (k : RunKey) (rows : List RunRow) (n : RunRow) → is_eq (key_cmp n.key k) ≡ false → find_row (put_row rows n) k ≡ find_row rows k
 kept_put k [] n other = ap (λ b. cond b (Some n) None) other
 kept_put k (x ∷ xs) n other = go (key_cmp x.key n.key) (ap (λ o. cond (is_eq (key_cmp x.key k)) (Some x) o) (kept_put k xs n other))
@@ -89,55 +75,6 @@ other_key rows n r none at = go (is_eq (key_cmp n.key r.key)) refl
     go : (b : Bool) → is_eq (key_cmp n.key r.key) ≡ b → b ≡ false
     go false is = refl
     go true is = let found : None ≡ Some r = sym none ∙ (ap (λ k. find_row rows k) (key_is n.key r.key is) ∙ at) in cc
-
--- the row of a task that has no later one is its newest
-own_later : (k : RunKey) (r : RunRow) → key_cmp k r.key ≡ Less → is_later k r.key ≡ is_of_task k.lead k.task r
-own_later k r above = ap (λ c. (r.key.lead == k.lead) && ((r.key.task == k.task) && is_lt c)) above ∙ ap (λ b. (r.key.lead == k.lead) && b) (and-true (r.key.task == k.task))
-
-none_above : (k : RunKey) (rows : List RunRow) → AllByRecursion (λ y. key_cmp k y.key ≡ Less) rows → has_later k rows ≡ false → rows_of_task k.lead k.task rows ≡ []
-none_above k [] above none = refl
-none_above k (r ∷ rs) above none = go (is_of_task k.lead k.task r) (sym (ap (λ b. b || has_later k rs) (own_later k r above.0)) ∙ none) (none_above k rs above.1)
-  where
-    go : (b : Bool) → (b || has_later k rs) ≡ false → (has_later k rs ≡ false → rows_of_task k.lead k.task rs ≡ []) → cond b (r ∷ rows_of_task k.lead k.task rs) (rows_of_task k.lead k.task rs) ≡ []
-    go true e later = cc
-    go false e later = later e
-
-second_false : (a b : Bool) → (a || b) ≡ false → b ≡ false
-second_false true b e = cc
-second_false false b e = e
-
-of_own_task : (r : RunRow) → is_of_task r.key.lead r.key.task r ≡ true
-of_own_task r = grind (arith, nat_tests)
-
-module _ (r : RunRow) where
-  abbrev task_rows : List RunRow → List RunRow
-  task_rows rows = rows_of_task r.key.lead r.key.task rows
-
-  newest_is : (rows : List RunRow) → IsAscendingRows rows → find_row rows r.key ≡ Some r → has_later r.key rows ≡ false → (o : Option RunRow) → last_or o (task_rows rows) ≡ Some r
-  newest_is [] up at none o = cc
-  newest_is (x ∷ xs) up at none o =
-      let rest : has_later r.key xs ≡ false = second_false (is_later r.key x.key) (has_later r.key xs) none in
-      go (is_eq (key_cmp x.key r.key)) at rest (λ found p. newest_is xs up.1 found rest p)
-    where
-      here : x ≡ r → has_later r.key xs ≡ false → last_or o (task_rows (x ∷ xs)) ≡ Some r
-      here same rest =
-          let above : AllByRecursion (λ y. key_cmp r.key y.key ≡ Less) xs = subst (λ y. AllByRecursion (λ z. key_cmp y.key z.key ≡ Less) xs) same up.0 in
-          let own : is_of_task r.key.lead r.key.task x ≡ true = ap (is_of_task r.key.lead r.key.task) same ∙ of_own_task r in
-          ap₂ (λ b l. last_or o (cond b (x ∷ l) l)) own (none_above r.key xs above rest) ∙ ap (λ y. Some y) same
-
-      there : ((p : Option RunRow) → last_or p (task_rows xs) ≡ Some r) → (b : Bool) → last_or o (cond b (x ∷ task_rows xs) (task_rows xs)) ≡ Some r
-      there later true = later (Some x)
-      there later false = later o
-
-      go : (b : Bool) → cond b (Some x) (find_row xs r.key) ≡ Some r → has_later r.key xs ≡ false → (find_row xs r.key ≡ Some r → (p : Option RunRow) → last_or p (task_rows xs) ≡ Some r) → last_or o (task_rows (x ∷ xs)) ≡ Some r
-      go true found rest later = let own : x ≡ r = cc in here own rest
-      go false found rest later = there (later found) (is_of_task r.key.lead r.key.task x)
-
-of_lead : (k j : RunKey) → is_later k j ≡ true → j.lead ≡ k.lead
-of_lead k j later = grind (arith, nat_tests)
-
-of_task : (k j : RunKey) → is_later k j ≡ true → j.task ≡ k.task
-of_task k j later = grind (arith, nat_tests)
 
 -- so of the rows before only that one may come to go, where a later one comes
 module _ (self : ℕ) (rows : List RunRow) (n : RunRow) (until next : ℕ) (up : IsAscendingRows rows) (none : find_row rows n.key ≡ None) (earlier : next ≤ until)
@@ -155,7 +92,7 @@ module _ (self : ℕ) (rows : List RunRow) (n : RunRow) (until next : ℕ) (up :
       go true is b new = alike (later_put r.key rows n ∙ (ap (λ t. is_later r.key n.key || t) is ∙ (or-true (is_later r.key n.key) ∙ sym is)))
       go false is false new = alike (later_put r.key rows n ∙ ap (λ b. b || has_later r.key rows) new)
       go false is true new =
-          let last : newest_row n.key.lead n.key.task rows ≡ Some r = ap₂ (λ lead task. newest_row lead task rows) (of_lead r.key n.key new) (of_task r.key n.key new) ∙ newest_is r rows up at is None in
+          let last : newest_row n.key.lead n.key.task rows ≡ Some r = newest_beside r n.key rows up at is new in
           newest r last (kept_put r.key rows n (other_key rows n r none at) ∙ at) m before still
 
   pub stays_put : All (StaysUntil self rows until) rows → IfSome (find_row now n.key) (StaysUntil self now next) → All (StaysUntil self now next) now

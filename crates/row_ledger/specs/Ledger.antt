@@ -22,7 +22,7 @@ pub record Ledger : Type 0 where
   pub deadlines : List Deadline
   pub room : ℕ
 
--- there is a row, and it isn't still at the host with this number
+-- there is a row, and it is live at the host with this number
 abbrev pub is_live_at : ℕ → Option RunRow → Bool
 is_live_at self None = false
 is_live_at self (Some r) = is_live self r
@@ -76,7 +76,7 @@ pub record IsCounted (rows : List RunRow) (bytes : ℕ) : Type 0 where
   pub moments : All HasMoments rows
   pub kept : bytes ≡ result_bytes rows
 
--- that, the deadlines of the rows, the keys of those that aren't still, with a place for each row, and none that is may go before
+-- that, the deadlines of the rows, the keys of those that are live, with a place for each row, and none that is still may go before
 -- the next purge
 pub record IsKept (number : ℕ) (rows : List RunRow) (bytes next_purge : ℕ) (ds : Deadlines) (ks : LiveKeys) : Type 0 where
   pub counted : IsCounted rows bytes

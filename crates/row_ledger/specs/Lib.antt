@@ -1,3 +1,4 @@
+pub mod Called
 pub mod Closing
 pub mod Deadlines
 pub mod Ledger

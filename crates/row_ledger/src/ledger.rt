@@ -8,17 +8,18 @@ ghost use Rattle.run_states.specs.declared.why.Why.TheVariants.{Preempted};
 ghost use Rattle.run_states.specs.ResultBytes.{result_bytes as bytes_of_rows, row_bytes};
 ghost use Rattle.run_states.specs.Rows.{change_row, find_row, lift_row, put_row, IsAscendingRows};
 ghost use Rattle.live_rows.specs.LiveKeys.{marked};
-ghost use Rattle.live_rows.specs.Still.{live_keys, StillStay};
+ghost use Rattle.live_rows.specs.Still.{keys_live_by, live_keys, StillStay};
 ghost use Rattle.row_ledger.specs.Deadlines.{due_keys, IsAscendingDeadlines, Waits};
 ghost use Rattle.row_ledger.specs.Ledger.{bytes_at, fact_bytes, is_live_at, most_counted, step_bytes};
 ghost use Rattle.row_ledger.specs.Closing.{closed_each};
 
+use crate::called::add_called;
 use crate::deadlines::{Deadlines, deadline_at, file_each, lapse_at};
 use crate::staying::{newest_beside, next_purge, sooner};
 use host_timeline::booking::Booking;
 use host_timeline::timeline::Timeline;
 use live_rows::live_keys::LiveKeys;
-use live_rows::still::is_still;
+use live_rows::still::is_live;
 use ps_time::items::Items;
 use ps_time::key::RunKey;
 use ps_time::memory::Memory;
@@ -120,11 +121,23 @@ impl Ledger {
         &self.rows
     }
 
-    /// The keys of the rows that aren't still, ascending.
+    /// The keys of the rows that are live, whatever the moment, ascending.
     pub fn live(&self) -> &[RunKey]
         ensures { result.now ≡ live_keys self.now.number self.now.list }
     {
         self.live.list()
+    }
+
+    /// The keys of the rows that are live by the moment, ascending. Looks at the live rows, those whose deadline has come and those
+    /// whose deadline comes within 16 s of the moment, and at no other.
+    pub fn live_by(&self, alloc: Global, moment: Moment) -> Result<LiveKeys, Memory>
+        ensures { IfOk result (λ keys. keys.list ≡ keys_live_by self.now.number moment self.now.list) }
+    {
+        let mut keys = self.live.copy(alloc)?;
+        let _ = self.rows.list();
+        let _ = self.deadlines.len();
+        add_called(&mut keys, &self.deadlines, &self.rows, moment)?;
+        Ok(keys)
     }
 
     /// From when on which row lapses, unless it changes before.
@@ -342,7 +355,7 @@ fn bytes_at(rows: &Rows, key: RunKey) -> u64
     }
 }
 
-// Puts the key of a row that came or changed among those of the rows that aren't still, or takes it out.
+// Puts the key of a row that came or changed among those of the live rows, or takes it out.
 fn review(live: &mut LiveKeys, rows: &Rows, key: RunKey, number: u16)
     requires marked { marked (is_live_at number (find_row rows.now.list key)) live.old.list key ≡ live_keys number rows.now.list }
     requires places { length rows.now.list ≤ live.old.places }
@@ -353,12 +366,12 @@ fn review(live: &mut LiveKeys, rows: &Rows, key: RunKey, number: u16)
     live.mark(key, is_live);
 }
 
-// Whether there is a row of the key, and it isn't still.
+// Whether there is a row of the key, and it is live.
 fn is_live_at(rows: &Rows, key: RunKey, number: u16) -> bool
     ensures { result ≡ is_live_at number (find_row rows.now.list key) }
 {
     match rows.find(key) {
-        Some(row) => !is_still(row, number),
+        Some(row) => is_live(row, number),
         None => false,
     }
 }

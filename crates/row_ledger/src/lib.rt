@@ -2,6 +2,7 @@
 //! lapse, which of them aren't still, and when the first of the others may go.
 #![tactic(auto)]
 
+mod called;
 pub mod deadlines;
 pub mod ledger;
 mod staying;

@@ -1,0 +1,19 @@
+use Rattle.std.proofs.Common.{◌∙◌, ap}
+use Rattle.live_rows.specs.Still.{keys_live_by}
+use Rattle.row_ledger.specs.Called.{last_deadline, with_called}
+use Rattle.row_ledger.specs.Deadlines.{due_keys}
+use Rattle.row_ledger.specs.Ledger.{Ledger}
+use Rattle.row_ledger.proofs.CalledLemmas.{called_live}
+use Rattle.row_ledger.proofs.ledger.Ledger.live_by.Goals as goal
+
+-- the live keys with those of the called rows
+pub returns : goal.returns
+returns c =
+    let m = c.args.moment in
+    let n = c.self.inside.number in
+    let rows = c.self.inside.rows.list in
+    let ds = c.self.inside.deadlines.list in
+    c.in_ok-add_called.ensures
+    ∙ (ap (with_called m rows (due_keys (last_deadline m) ds)) (c.in_ok-keys.ensures ∙ c.self.invariant.live)
+    ∙ (called_live n m rows ds c.list.ensures.ascending c.self.invariant.counted.moments c.len.ensures.ascending c.self.invariant.filed.waits
+    ∙ ap (λ (t : Ledger). keys_live_by t.number m t.list) c.self.view_is))
