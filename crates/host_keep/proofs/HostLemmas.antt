@@ -1,6 +1,6 @@
 -- What a list stands for, as a snapshot is written and as a list is refused.
 use Rattle.std.specs.Prelude.{IfOk}
-use Rattle.std.proofs.Common.{◌⊎◌, ◌≡◌, ◌∷◌, Err, List, Ok, Result, [], false, refl, subst, sym, true, ℕ, ⊎_elim}
+use Rattle.std.proofs.Common.{◌⊎◌, ◌≡◌, ◌∷◌, Err, List, Ok, Result, [], false, refl, true, ℕ, ⊎_elim}
 use Rattle.host_codec.specs.Books.{book}
 use Rattle.host_journal.specs.Image.{ImageState}
 use Rattle.host_model.specs.Book.{Book}

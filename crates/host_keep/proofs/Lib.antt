@@ -1,1 +1,3 @@
 mod HostLemmas
+mod OpeningLemmas
+mod RefusedLemmas

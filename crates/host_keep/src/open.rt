@@ -1,14 +1,20 @@
 //! Opening a host that is kept.
-ghost use Rattle.std.specs.Prelude.{◌≡◌, ◌⊎◌, ◌≤◌, IfErr, IfOk, IsTrue};
+ghost use Rattle.std.specs.Prelude.{◌≡◌, ◌⊎◌, ◌≤◌, [], IfErr, IfOk, IsTrue, false, true};
 ghost use Rattle.ps_ports.specs.Causes.{Rose};
 ghost use Rattle.ps_time.specs.declared.moment.TheConstants.{MAX_MOMENT};
+ghost use Rattle.host_journal.specs.Moments.{Adds, AddsOnly, LeftIn};
 ghost use Rattle.host_journal.specs.Pair.{pair_of};
-ghost use Rattle.host_journal.specs.State.{is_ready, EachImage, first_disk, second_disk};
+ghost use Rattle.host_journal.specs.State.{is_ready, stored, EachImage, first_disk, second_disk};
 ghost use Rattle.host_model.specs.Book.{Book};
 ghost use Rattle.host_model.specs.Conditions.{IsConfig};
 ghost use Rattle.host_model.specs.Step.{step_book, step_reply};
 ghost use Rattle.host_model.specs.declared.input.Input.TheVariants.{Open as OpenInput};
-ghost use Rattle.machine_keep.specs.Kept.{StandsEither, StandsFor};
+ghost use Rattle.host_model.specs.declared.reply.Reply.{Reply as ReplySeen};
+ghost use Rattle.machine_keep.specs.Calls.{TellsPair, TellsSome, sync_calls};
+ghost use Rattle.machine_keep.specs.Course.{Unwritten};
+ghost use Rattle.machine_keep.specs.Kept.{IsMade, StandsEither, StandsFor};
+ghost use Rattle.machine_keep.specs.Opening.{EachUnlessUndone, StandsAsBefore};
+ghost use Rattle.host_keep.specs.Opening.{Halted, IsFirstAnswer, IsFirstFault, IsStarting, KeptHost, Started, Unstarted, started};
 ghost use Rattle.host_keep.specs.Standing.{StandsNow, StoodOnce};
 
 use crate::call::HostCall;
@@ -60,7 +66,20 @@ pub fn open<D: Disk>(
     ensures book { D.premise → IfOk result (λ keep. (before : Book) × StandsEither StandsNow StoodOnce (record { config = config; book = before }) (pair_of (D.seen first) (D.seen second))
         × (keep.machine.standing.book ≡ step_book config before clock OpenInput)) }
     ensures durable { D.premise → IfOk result (λ keep. EachImage D.may_leave keep.journal (StandsFor StandsNow keep.machine.standing)) }
+    // At every moment since the disks were handed in.
+    ensures any_moment { D.premise → IfOk result (λ keep. (before : Book) × (keep.machine.standing.book ≡ step_book config before clock OpenInput)
+        × IsStarting D.seen D.may_leave D.moment D.left_since D.went config clock first second before (first_disk keep.journal) (second_disk keep.journal)) }
+    ensures any_moment_err { D.premise → IfErr result (λ f. EachUnlessUndone D.seen D.may_leave D.moment D.left_since first second f.first f.second
+        (λ c d. StandsAsBefore StandsNow StoodOnce (pair_of (D.seen first) (D.seen second)) (pair_of c d))
+        ⊎ ((before : Book) × IsStarting D.seen D.may_leave D.moment D.left_since D.went config clock first second before f.first f.second)) }
     ensures ready { IfOk result (λ keep. IsTrue (is_ready keep.journal.pending)) }
+    // The calls that the disks tell: those of the opening, and then those of the first step. On no premise.
+    ensures told { IfOk result (λ keep. Started D.premise D.seen D.told clock first second keep) }
+    ensures told_err { IfErr result (λ f. f.reason ≡ KeepReason.DiskFault → TellsSome D.told D.disk_faults D.went first second f.first f.second (sync_calls false)
+        ⊎ (Unwritten D.premise D.seen D.told D.disk_faults D.went StandsNow first second f.first f.second
+        ⊎ Halted D.premise D.seen D.told D.disk_faults D.went clock first second f.first f.second)) }
+    ensures told_refused { IfErr result (λ f. (f.reason ≡ KeepReason.DiskFault → ⊥) → TellsPair D.told first second f.first f.second (sync_calls false)
+        ⊎ Unstarted D.premise D.seen D.told clock first second f.first f.second) }
     ensures nothing { D.premise → IfErr result (λ f. (place : _) → f.reason ≡ KeepReason.NotAJournal place → (b : Book) → StandsEither StandsNow StoodOnce (record { config = config; book = b }) (pair_of (D.seen first) (D.seen second)) → ⊥) }
     ensures limits { D.premise → IfErr result (λ f. (wrong : _) → f.reason ≡ KeepReason.Limits wrong → (before : Book) × StandsEither StandsNow StoodOnce (record { config = config; book = before }) (pair_of (D.seen first) (D.seen second))
         × (step_reply config before clock OpenInput ≡ Reply.LimitsWrong wrong)) }
@@ -98,7 +117,19 @@ fn begin<D: Disk>(
     ensures config { IfOk result (λ k. k.machine.standing.config ≡ keep.machine.standing.config) }
     ensures book { D.premise → IfOk result (λ k. k.machine.standing.book ≡ step_book keep.machine.standing.config keep.machine.standing.book clock OpenInput) }
     ensures durable { D.premise → IfOk result (λ k. EachImage D.may_leave k.journal (StandsFor StandsNow k.machine.standing)) }
+    ensures stands { D.premise → StandsFor StandsNow keep.machine.standing (stored D.seen keep.journal) }
+    ensures each { D.premise → EachImage D.may_leave keep.journal (λ pair. pair ≡ stored D.seen keep.journal) }
+    ensures adds { D.premise → IfOk result (λ k. Adds D.moment D.left_since keep.journal k.journal
+        (LeftIn (stored D.seen keep.journal) (IsMade StandsNow (stored D.seen keep.journal) (started keep.machine.standing.config keep.machine.standing.book clock)))) }
+    ensures adds_first { D.premise → IfErr result (λ f. AddsOnly D.moment D.left_since (first_disk keep.journal) f.first
+        (LeftIn (stored D.seen keep.journal) (IsMade StandsNow (stored D.seen keep.journal) (started keep.machine.standing.config keep.machine.standing.book clock)) false)) }
+    ensures adds_second { D.premise → IfErr result (λ f. AddsOnly D.moment D.left_since (second_disk keep.journal) f.second
+        (LeftIn (stored D.seen keep.journal) (IsMade StandsNow (stored D.seen keep.journal) (started keep.machine.standing.config keep.machine.standing.book clock)) true)) }
     ensures ready { IfOk result (λ k. IsTrue (is_ready k.journal.pending)) }
+    ensures answered { IfOk result (λ k. (reply : ReplySeen) × IsFirstAnswer D.premise D.seen D.told clock keep k reply) }
+    ensures halted { IfErr result (λ f. f.reason ≡ KeepReason.DiskFault → (now : KeptHost D) × IsFirstFault D.premise D.seen D.told D.disk_faults D.went clock keep now
+        × (f.first ≡ first_disk now.journal) × (f.second ≡ second_disk now.journal)) }
+    ensures unmoved { IfErr result (λ f. (f.reason ≡ KeepReason.DiskFault → ⊥) → TellsPair D.told (first_disk keep.journal) (second_disk keep.journal) f.first f.second []) }
     ensures no_place { IfErr result (λ f. (place : _) → f.reason ≡ KeepReason.NotAJournal place → ⊥) }
     ensures limits { IfErr result (λ f. (wrong : _) → f.reason ≡ KeepReason.Limits wrong → step_reply keep.machine.standing.config keep.machine.standing.book clock OpenInput ≡ Reply.LimitsWrong wrong) }
     ensures fault { IfErr result (λ f. f.reason ≡ KeepReason.DiskFault → Rose (D.disk_faults (first_disk keep.journal)) (D.disk_faults f.first) ⊎ Rose (D.disk_faults (second_disk keep.journal)) (D.disk_faults f.second)) }

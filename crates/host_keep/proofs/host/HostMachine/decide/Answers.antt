@@ -3,7 +3,6 @@ use Rattle.byte_codec.specs.Changes.{changes}
 use Rattle.host_model.specs.Conditions.{MayStep}
 use Rattle.host_model.specs.Lawful.{Lawful}
 use Rattle.host_model.specs.Step.{step_changes}
-use Rattle.host_model.specs.declared.change.Changes.{Changes}
 use Rattle.host_model.specs.declared.reply.Outcome.{Outcome}
 use Rattle.host_keep.specs.Standing.{IsAsked, Seen}
 use Rattle.host_keep.proofs.host.HostMachine.decide.Goals as goal
