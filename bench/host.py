@@ -205,10 +205,13 @@ def tell_bookings(them: Rehearsals) -> None:
 
 def tell_idle(them: Rehearsals) -> None:
     sides = []
-    for rows in (FEW, MANY + STEPS):
-        turns = (f"{after(rows)} host1 turn" for _ in range(TURNS))
-        sides.append(them.beside("idle", [filled(names(1), rows)], [filled(names(1), rows), turns], 0, TURNS))
-    tell("idle", *sides, f"{FEW} and {MANY + STEPS} rows")
+    for rows in (FEW, MANY):
+        clock = after(rows)
+        # A booking first, so that the book keeps what has lapsed.
+        quiet = [[filled(names(1), rows), booked(names(1), clock, 1)] for _ in range(2)]
+        turns = (f"{clock} host1 turn" for _ in range(TURNS))
+        sides.append(them.beside("idle", quiet[0], [*quiet[1], turns], 0, TURNS))
+    tell("idle", *sides, f"{FEW + 1} and {MANY + 1} rows")
 
 
 def tell_orders(them: Rehearsals, stage: str) -> None:
