@@ -157,15 +157,9 @@ module _ {D : Type 0} (seen : D → List ℕ) (may_leave : D → List ℕ → Ty
       (was second (second_disk mid) second_now (LeftIn from Made true) two adds_too d left_too))
       (was first (first_disk mid) first_now (LeftIn from Made false) one adds c left)
 
-  -- of an opening that gave a machine, and of one that didn't
+  -- of an opening that gave no machine
   module _ {S : Type 0} (stands stood : List (List ℕ) → S → Type 0) (first second : D) (mid : State D)
       (one : IsRead seen may_leave moment left_since first (first_disk mid)) (two : IsRead seen may_leave moment left_since second (second_disk mid)) where
-    pub opened : (new : State D) (s : S) → Adds moment left_since mid new (LeftIn (stored seen mid) (IsMade stands (stored seen mid) s)) → StandsEither stands stood s (stored seen mid)
-        → EachFrom may_leave moment left_since first second (first_disk new) (second_disk new) (StandsEither stands stood s)
-    opened new s adds either c d left left_too =
-        ⊎_elim (λ before. inl before) (λ made. inr (⊎_elim (λ is. subst (StandsEither stands stood s) (sym is) either) (λ is. inl is.0) made))
-        (recovered first second mid (first_disk new) (second_disk new) (stored seen mid) (IsMade stands (stored seen mid) s) (λ pair made. made.1) one two adds.first adds.second c d left left_too)
-
     pub not_opened : (first_now second_now : D) → stored seen mid ≡ pair_of (seen first) (seen second)
         → ((first_now ≡ first_disk mid) × (second_now ≡ second_disk mid)) ⊎ IsMigrating seen moment left_since stands stood mid first_now second_now
         → EachFrom may_leave moment left_since first second first_now second_now (λ pair. (s : S) × (StandsEither stands stood s (pair_of (seen first) (seen second)) × StandsEither stands stood s pair))

@@ -4,4 +4,5 @@ mod CourseLemmas
 mod CrashLemmas
 mod KeepLemmas
 pub mod OpeningLemmas
+pub mod RefusalLemmas
 pub mod StoppedLemmas

@@ -4,4 +4,5 @@ pub mod Course
 pub mod Crash
 pub mod Kept
 pub mod Opening
+pub mod Refusal
 pub mod Stopped

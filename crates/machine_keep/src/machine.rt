@@ -1,5 +1,6 @@
 //! A machine whose steps can be kept.
 ghost use Rattle.machine_keep.specs.declared.machine.RestoreFault.TheVariants.{NotARecord};
+ghost use Rattle.machine_keep.specs.Refusal.{IsFirstRefused, StandsOf};
 ghost use Rattle.std.specs.Prelude.{◌≡◌, ◌⊎◌, ◌<◌, ◌≤◌, Err, ◌++◌, ◌∷◌, [], ℕ, List, Option, IfOk, IfSome, IsFalse, IsTrue, length};
 
 use host_journal::image::SnapshotImage;
@@ -106,7 +107,9 @@ pub trait Machine: Sized {
         ensures stood { IfOk result (λ r. IsTrue r.is_earlier → stood_for list.now (state r.machine)) }
         ensures fixed { IfOk result (λ r. fixed (state r.machine) ≡ fixed_of origin) }
         ensures refused { (index : ℕ) → result ≡ Err (NotARecord index) → index < length list.now
-            × ((s : State) → fixed s ≡ fixed_of origin → stands_for list.now s ⊎ stood_for list.now s → ⊥) };
+            × ((s : State) → fixed s ≡ fixed_of origin → stands_for list.now s ⊎ stood_for list.now s → ⊥) }
+        // The item is the first that is refused.
+        ensures front { (index : ℕ) → result ≡ Err (NotARecord index) → IsFirstRefused (StandsOf fixed (fixed_of origin) stands_for stood_for) list.now index };
 
     /// Sets an origin again. Takes no memory.
     fn configure(&mut self, origin: Self::Origin)

@@ -11,6 +11,7 @@ ghost use Rattle.machine_keep.specs.Calls.{TellsIn, TellsPair, TellsSome, image_
 ghost use Rattle.machine_keep.specs.Course.{IsRewritten, Opened, Unwritten};
 ghost use Rattle.machine_keep.specs.Kept.{EachFrom, IsMade, IsMigrating, StandsEither, StandsFor};
 ghost use Rattle.machine_keep.specs.Opening.{EachUnlessUndone, IsBegun, StandsAsBefore};
+ghost use Rattle.machine_keep.specs.Refusal.{IsRefusedAt, StandsOf};
 
 use crate::fault::StepFault;
 use crate::keep::Keep;
@@ -38,11 +39,9 @@ impl<M: Machine + Drop, D: Disk> Keep<M, D> {
         ensures ready { IfOk result (λ keep. IsTrue (is_ready keep.journal.pending)) }
         ensures durable { D.premise → IfOk result (λ keep. EachImage D.may_leave keep.journal (StandsFor M.stands_for (M.state keep.machine))) }
         // At every moment since the disks were handed in.
-        ensures any_moment { D.premise → IfOk result (λ keep. EachFrom D.may_leave D.moment D.left_since first second (first_disk keep.journal) (second_disk keep.journal)
-            (StandsEither M.stands_for M.stood_for (M.state keep.machine))) }
         ensures any_moment_err { D.premise → IfErr result (λ f. EachFrom D.may_leave D.moment D.left_since first second f.first f.second
             (λ pair. (s : M.State) × (StandsEither M.stands_for M.stood_for s (pair_of (D.seen first) (D.seen second)) × StandsEither M.stands_for M.stood_for s pair))) }
-        // The same, where images that the first syncs undo are left aside, and no others.
+        // Images that the first syncs undo are left aside, and no others.
         ensures unless_undone { D.premise → IfOk result (λ keep. EachUnlessUndone D.seen D.may_leave D.moment D.left_since first second (first_disk keep.journal) (second_disk keep.journal)
             (λ c d. StandsEither M.stands_for M.stood_for (M.state keep.machine) (pair_of c d))) }
         ensures unless_undone_err { D.premise → IfErr result (λ f. EachUnlessUndone D.seen D.may_leave D.moment D.left_since first second f.first f.second
@@ -57,6 +56,8 @@ impl<M: Machine + Drop, D: Disk> Keep<M, D> {
         ensures refused_second { D.premise → IfErr result (λ f. (f.reason ≡ OpenReason.DiskFault → ⊥) → IsRead D.seen D.may_leave D.moment D.left_since second f.second) }
         // Only where the disks stand for no state of that origin.
         ensures nothing { D.premise → IfErr result (λ f. (place : _) → f.reason ≡ OpenReason.NotAJournal place → (s : M.State) → M.fixed s ≡ M.fixed_of origin → StandsEither M.stands_for M.stood_for s (pair_of (D.seen first) (D.seen second)) → ⊥) }
+        // At the place where they are no journal, or else of the first item that is refused.
+        ensures place { D.premise → IfErr result (λ f. (place : _) → f.reason ≡ OpenReason.NotAJournal place → IsRefusedAt (StandsOf M.fixed (M.fixed_of origin) M.stands_for M.stood_for) (pair_of (D.seen first) (D.seen second)) place) }
         ensures fault { IfErr result (λ f. f.reason ≡ OpenReason.DiskFault → Rose (D.disk_faults first) (D.disk_faults f.first) ⊎ Rose (D.disk_faults second) (D.disk_faults f.second)) }
         ensures calm { IfOk result (λ keep. (D.disk_faults (first_disk keep.journal) ≡ D.disk_faults first) × (D.disk_faults (second_disk keep.journal) ≡ D.disk_faults second)) }
         ensures calm_err { IfErr result (λ f. (f.reason ≡ OpenReason.DiskFault → ⊥) → (D.disk_faults f.first ≡ D.disk_faults first) × (D.disk_faults f.second ≡ D.disk_faults second)) }
@@ -96,6 +97,7 @@ impl<M: Machine + Drop, D: Disk> Keep<M, D> {
         ensures refused { IfErr result (λ f. (f.reason ≡ OpenReason.DiskFault → ⊥) → (f.first ≡ first_disk journal) × (f.second ≡ second_disk journal)) }
         ensures left { D.premise → IfErr result (λ f. ((f.first ≡ first_disk journal) × (f.second ≡ second_disk journal)) ⊎ IsMigrating D.seen D.moment D.left_since M.stands_for M.stood_for journal f.first f.second) }
         ensures nothing { D.premise → IfErr result (λ f. (place : _) → f.reason ≡ OpenReason.NotAJournal place → (s : M.State) → M.fixed s ≡ M.fixed_of origin → StandsEither M.stands_for M.stood_for s (stored D.seen journal) → ⊥) }
+        ensures place { D.premise → IfErr result (λ f. (place : _) → f.reason ≡ OpenReason.NotAJournal place → IsRefusedAt (StandsOf M.fixed (M.fixed_of origin) M.stands_for M.stood_for) (stored D.seen journal) place) }
         ensures fault { IfErr result (λ f. f.reason ≡ OpenReason.DiskFault → Rose (D.disk_faults (first_disk journal)) (D.disk_faults f.first) ⊎ Rose (D.disk_faults (second_disk journal)) (D.disk_faults f.second)) }
         ensures calm { IfOk result (λ keep. (D.disk_faults (first_disk keep.journal) ≡ D.disk_faults (first_disk journal)) × (D.disk_faults (second_disk keep.journal) ≡ D.disk_faults (second_disk journal))) }
         ensures told { IfOk result (λ keep. (image : Option (List ℕ)) × IsRewritten M.stands_for (M.state keep.machine) journal image keep.journal × TellsIn D.told journal keep.journal (image_calls journal image)) }

@@ -7,10 +7,10 @@ use Rattle.host_journal.specs.declared.fault.OpenReason.{OpenReason}
 use Rattle.host_journal.specs.declared.reading.DiskPlace.{DiskPlace}
 use Rattle.machine_keep.specs.Calls.{TellsIn, image_calls}
 use Rattle.machine_keep.specs.Course.{IsRewritten, Opened}
-use Rattle.machine_keep.specs.Kept.{EachFrom, IsMade, StandsEither}
+use Rattle.machine_keep.specs.Kept.{IsMade, StandsEither}
 use Rattle.machine_keep.specs.Opening.{EachUnlessUndone, IsBegun}
 use Rattle.machine_keep.proofs.CourseLemmas.{ok_more, opened_so, read_at, refused_so, syncs_some, unwritten_so}
-use Rattle.machine_keep.proofs.KeepLemmas.{left_so, not_opened, ok_both, opened}
+use Rattle.machine_keep.proofs.KeepLemmas.{left_so, not_opened, ok_both}
 use Rattle.machine_keep.proofs.OpeningLemmas.{begun, given, not_given, not_written}
 use Rattle.machine_keep.proofs.keep.Keep.open.Goals as goal
 
@@ -18,16 +18,6 @@ pub returns-in-Ok-clause-nothing : goal.returns-in-Ok-clause-nothing
 returns-in-Ok-clause-nothing g c p =
     subst (λ pair. IfErr c.of_list.result (λ f. (place : DiskPlace) → f.reason ≡ OpenReason.NotAJournal place → (s : g.M.Machine.State) → g.M.Machine.fixed s ≡ g.M.Machine.fixed_of c.args.origin → StandsEither g.M.Machine.stands_for g.M.Machine.stood_for s pair → ⊥))
     (c.in-Ok.ensures.stored p) (c.of_list.ensures.nothing p)
-
-pub returns-in-Ok-clause-any_moment : goal.returns-in-Ok-clause-any_moment
-returns-in-Ok-clause-any_moment g c p =
-    let from = stored g.D.Disk.seen c.in-Ok.journal in
-    ok_both (λ keep. Adds g.D.Disk.moment g.D.Disk.left_since c.in-Ok.journal keep.journal (LeftIn from (IsMade g.M.Machine.stands_for from (g.M.Machine.state keep.machine))))
-    (λ keep. StandsEither g.M.Machine.stands_for g.M.Machine.stood_for (g.M.Machine.state keep.machine) from)
-    (λ keep. EachFrom g.D.Disk.may_leave g.D.Disk.moment g.D.Disk.left_since c.args.first c.args.second (first_disk keep.journal) (second_disk keep.journal) (StandsEither g.M.Machine.stands_for g.M.Machine.stood_for (g.M.Machine.state keep.machine)))
-    (λ keep adds either. opened g.D.Disk.seen g.D.Disk.may_leave g.D.Disk.moment g.D.Disk.left_since (λ disk bytes now. g.met.D.Disk.only_now disk bytes p now) g.M.Machine.stands_for g.M.Machine.stood_for
-    c.args.first c.args.second c.in-Ok.journal (c.in-Ok.ensures.read_first p) (c.in-Ok.ensures.read_second p) keep.journal (g.M.Machine.state keep.machine) adds either)
-    c.of_list.result (c.of_list.ensures.adds p) (c.of_list.ensures.stands p)
 
 pub returns-in-Ok-clause-any_moment_err : goal.returns-in-Ok-clause-any_moment_err
 returns-in-Ok-clause-any_moment_err g c p =
