@@ -1,5 +1,4 @@
 -- A list stands for one book alone.
-use Rattle.std.specs.Prelude.{◌⊎◌}
 use Rattle.std.proofs.Common.{◌++◌, ◌<◌, ◌^◌, ◌∙◌, ◌∷◌, ◌≡◌, Bool, List, None, Some, [], ap, append_assoc, arith, false, inl, inr, subst, sym, true, ℕ}
 use Rattle.byte_codec.proofs.WholeLemmas.{one_code}
 use Rattle.byte_codec.specs.Changes.{changes, changes_is}
@@ -9,13 +8,11 @@ use Rattle.byte_codec.specs.NumberLaws.{number_64_is}
 use Rattle.byte_codec.specs.Rows.{row}
 use Rattle.byte_codec.specs.Tasks.{task_row}
 use Rattle.host_codec.specs.Books.{back, back_of, book, book_is, front, front_of}
-use Rattle.host_codec.specs.FirstFormat.{FitsFirstBook, first_book, first_changes}
+use Rattle.host_codec.specs.FirstFormat.{first_book, first_changes}
 use Rattle.host_model.specs.Apply.{recorded}
 use Rattle.host_model.specs.Book.{Book}
 use Rattle.host_model.specs.Lawful.{Lawful}
-use Rattle.host_model.specs.MayFollow.{MayFollow}
 use Rattle.host_model.specs.declared.change.Changes.{Changes}
-use Rattle.ps_time.specs.Numbers.{greatest_moment}
 use Rattle.kept_host.specs.Stands.{IsRecord, IsSnapshot, Leads, StandsFor, StandsIn}
 
 one_value : {A : Type 0} (c : Codec A) → IsCodec c → (bytes : List ℕ) (a b : A) → c.Fits a → c.Fits b → bytes ≡ c.code a → bytes ≡ c.code b → a ≡ b

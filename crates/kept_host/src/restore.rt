@@ -1,6 +1,7 @@
 //! The book for which a list stands.
-ghost use Rattle.std.specs.Prelude.{◌≡◌, ◌⊎◌, ◌+◌, ◌<◌, ◌≤◌, Err, IfErr, IfOk, false, length, not, take, true, ℕ};
+ghost use Rattle.std.specs.Prelude.{◌∷◌, ◌≡◌, ◌⊎◌, ◌+◌, ◌<◌, ◌≤◌, Err, IfErr, IfOk, false, length, not, take, true, ℕ};
 ghost use Rattle.host_model.specs.Book.{Book};
+ghost use Rattle.machine_keep.specs.Refusal.{IsFirstRefused};
 ghost use Rattle.machine_keep.specs.declared.machine.RestoreFault.TheVariants.{NotARecord};
 ghost use Rattle.kept_host.specs.Stands.{Leads, StandsAs, StandsFor, StandsIn};
 
@@ -24,8 +25,8 @@ fn follow(
     ensures number { IfOk result (λ r. IfOk r (λ h. h.number ≡ number)) }
     ensures leads { IfOk result (λ r. IfOk r (λ h. Leads second number from.book records.now h.book)) }
     ensures within { IfOk result (λ r. IfErr r (λ index. index < length records.now)) }
-    ensures refused { IfOk result (λ r. IfErr r (λ index. (b : Book) → Leads second number from.book records.now b → ⊥)) }
     ensures front { IfOk result (λ r. IfErr r (λ index. (b : Book) × Leads second number from.book (take index records.now) b)) }
+    ensures first { IfOk result (λ r. IfErr r (λ index. (b : Book) → Leads second number from.book (take (index + 1) records.now) b → ⊥)) }
 {
     let mut book = from;
     for index in 0..records.len() {
@@ -47,9 +48,7 @@ fn restore_in(
 ) -> Result<Result<HostBook, usize>, Memory>
     ensures number { IfOk result (λ r. IfOk r (λ h. h.number ≡ number)) }
     ensures stands { IfOk result (λ r. IfOk r (λ h. StandsIn second number snapshot.now records.now h.book)) }
-    ensures within { IfOk result (λ r. IfErr r (λ index. index ≤ length records.now)) }
-    ensures refused { IfOk result (λ r. IfErr r (λ index. (b : Book) → StandsIn second number snapshot.now records.now b → ⊥)) }
-    ensures front { IfOk result (λ r. IfErr r (λ index. (n : ℕ) → index ≡ n + 1 → (b : Book) × StandsIn second number snapshot.now (take n records.now) b)) }
+    ensures first { IfOk result (λ r. IfErr r (IsFirstRefused (StandsAs second number) (snapshot.now ∷ records.now))) }
 {
     let Some(book) = open_snapshot(alloc, number, second, snapshot)? else {
         return Ok(Err(0));
@@ -61,7 +60,9 @@ fn restore_in(
 }
 
 fn later(index: usize, other: usize) -> usize
-    ensures { (result ≡ index) ⊎ (result ≡ other) }
+    ensures one { (result ≡ index) ⊎ (result ≡ other) }
+    ensures bound { index ≤ result }
+    ensures bound_too { other ≤ result }
 {
     if index < other { other } else { index }
 }
@@ -83,9 +84,7 @@ fn restore_either(
 ) -> Result<Result<Restored, usize>, Memory>
     ensures number { IfOk result (λ r. IfOk r (λ h. h.book.number ≡ number)) }
     ensures stands { IfOk result (λ r. IfOk r (λ h. StandsIn (not h.is_first) number snapshot.now records.now h.book.book)) }
-    ensures within { IfOk result (λ r. IfErr r (λ index. index ≤ length records.now)) }
-    ensures refused { IfOk result (λ r. IfErr r (λ index. (b : Book) → StandsIn true number snapshot.now records.now b ⊎ StandsIn false number snapshot.now records.now b → ⊥)) }
-    ensures front { IfOk result (λ r. IfErr r (λ index. (n : ℕ) → index ≡ n + 1 → (b : Book) × (StandsIn true number snapshot.now (take n records.now) b ⊎ StandsIn false number snapshot.now (take n records.now) b))) }
+    ensures first { IfOk result (λ r. IfErr r (IsFirstRefused (StandsFor number) (snapshot.now ∷ records.now))) }
 {
     match restore_in(alloc, number, true, snapshot, records)? {
         Ok(book) => Ok(Ok(Restored {
@@ -109,8 +108,8 @@ pub fn restore(alloc: Global, number: u16, list: &[Items<u8>]) -> Result<Restore
     ensures number { IfOk result (λ r. r.book.number ≡ number) }
     ensures stands { IfOk result (λ r. StandsAs (not r.is_first) number list.now r.book.book) }
     ensures refused { (index : ℕ) → result ≡ Err (NotARecord index) → index < length list.now × ((b : Book) → StandsFor number list.now b → ⊥) }
-    // What stands before the item that is refused still stands for a book.
-    ensures front { (n : ℕ) → result ≡ Err (NotARecord (n + 1)) → (b : Book) × StandsFor number (take (n + 1) list.now) b }
+    // The item is the first that is refused: with it the list stands for none, and what is before it still stands for a book.
+    ensures front { (index : ℕ) → result ≡ Err (NotARecord index) → IsFirstRefused (StandsFor number) list.now index }
 {
     let [snapshot, records @ ..] = list else {
         return Err(RestoreFault::Memory);

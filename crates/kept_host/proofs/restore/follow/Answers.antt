@@ -1,24 +1,26 @@
 use Rattle.std.proofs.Common.{◌≡◌, ℕ, List, get_or, subst, sym, arith}
-use Rattle.kept_host.specs.Stands.{Leads}
 use Rattle.kept_host.proofs.ListLemmas.{goes_on, one_more, stops}
 use Rattle.kept_host.proofs.restore.follow.Goals as goal
 
-pub returns-then-not-branch-clause-refused : goal.returns-then-not-branch-clause-refused
-returns-then-not-branch-clause-refused c =
+pub returns-then-not-branch-clause-first : goal.returns-then-not-branch-clause-first
+returns-then-not-branch-clause-first c =
     let records : List (List ℕ) = c.args.records.now in
     let bytes : List ℕ = c.as_slice.result.now in
     let i : ℕ = c.loop-index.index in
     let is : bytes ≡ get_or records i bytes = subst (λ (x : List ℕ). x ≡ get_or records i x) (sym c.as_slice.ensures) c.index-records-index.is in
-    stops c.args.second c.args.number records i bytes (omega (arith, c.loop-index-test.true)) is c.loop-index.book.book (Leads c.args.second c.args.number c.args.from.book records) c.loop-index.invariant.leads (c.in_ok-take_bytes.ensures.refused c.if-not-branch.true)
+    stops c.args.second c.args.number records i bytes (omega (arith, c.loop-index-test.true)) is c.args.from.book c.loop-index.book.book c.loop-index.invariant.on (c.in_ok-take_bytes.ensures.refused c.if-not-branch.true)
 
 pub loop-index-preserved : goal.loop-index-preserved
 loop-index-preserved c =
+    let second = c.args.second in
+    let number = c.args.number in
     let records : List (List ℕ) = c.args.records.now in
     let bytes : List ℕ = c.as_slice.result.now in
     let i : ℕ = c.loop-index.index in
     let is : bytes ≡ get_or records i bytes = subst (λ (x : List ℕ). x ≡ get_or records i x) (sym c.as_slice.ensures) c.index-records-index.is in
+    let taken = c.in_ok-take_bytes.ensures.taken c.if-not-branch.false in
     record {
       number = c.take_bytes.ensures.number;
-      front = one_more c.args.second c.args.number records i bytes (omega (arith, c.loop-index-test.true)) is c.loop-index.book.book c.args.from.book c.take_bytes.new.book.book c.loop-index.invariant.front (c.in_ok-take_bytes.ensures.taken c.if-not-branch.false);
-      leads = goes_on c.args.second c.args.number records i bytes (omega (arith, c.loop-index-test.true)) is c.loop-index.book.book (Leads c.args.second c.args.number c.args.from.book records) c.loop-index.invariant.leads c.take_bytes.new.book.book (c.in_ok-take_bytes.ensures.taken c.if-not-branch.false);
+      front = one_more second number records i bytes (omega (arith, c.loop-index-test.true)) is c.args.from.book c.loop-index.book.book c.take_bytes.new.book.book taken c.loop-index.invariant.front;
+      on = goes_on second number records i bytes (omega (arith, c.loop-index-test.true)) is c.args.from.book c.loop-index.book.book c.take_bytes.new.book.book taken c.loop-index.invariant.on;
     }
