@@ -14,6 +14,8 @@ ghost use Rattle.machine_keep.specs.Calls.{TellsPair, TellsSome, sync_calls};
 ghost use Rattle.machine_keep.specs.Course.{Unwritten};
 ghost use Rattle.machine_keep.specs.Kept.{IsMade, StandsEither, StandsFor};
 ghost use Rattle.machine_keep.specs.Opening.{EachUnlessUndone, StandsAsBefore};
+ghost use Rattle.machine_keep.specs.Refusal.{IsRefusedAt};
+ghost use Rattle.kept_host.specs.Stands.{StandsFor as IsListOf};
 ghost use Rattle.host_keep.specs.Opening.{Halted, IsFirstAnswer, IsFirstFault, IsStarting, KeptHost, Started, Unstarted, started};
 ghost use Rattle.host_keep.specs.Standing.{StandsNow, StoodOnce};
 
@@ -33,7 +35,8 @@ use std::alloc::Global;
 /// Why no host was opened.
 #[derive(Clone, Copy, PartialEq, Eq)]
 pub enum KeepReason {
-    /// The disks stand for no book of a host with this number: the first byte of the record or snapshot that is refused.
+    /// The disks stand for no book of a host with this number: the first byte of the first record that is refused, or of the
+    /// snapshot, or the place at which they are no journal.
     NotAJournal(DiskPlace),
     /// A disk failed.
     DiskFault,
@@ -81,6 +84,8 @@ pub fn open<D: Disk>(
     ensures told_refused { IfErr result (λ f. (f.reason ≡ KeepReason.DiskFault → ⊥) → TellsPair D.told first second f.first f.second (sync_calls false)
         ⊎ Unstarted D.premise D.seen D.told clock first second f.first f.second) }
     ensures nothing { D.premise → IfErr result (λ f. (place : _) → f.reason ≡ KeepReason.NotAJournal place → (b : Book) → StandsEither StandsNow StoodOnce (record { config = config; book = b }) (pair_of (D.seen first) (D.seen second)) → ⊥) }
+    // At the place where they are no journal, or else of the first item that is refused.
+    ensures place { D.premise → IfErr result (λ f. (place : _) → f.reason ≡ KeepReason.NotAJournal place → IsRefusedAt (IsListOf config.number) (pair_of (D.seen first) (D.seen second)) place) }
     ensures limits { D.premise → IfErr result (λ f. (wrong : _) → f.reason ≡ KeepReason.Limits wrong → (before : Book) × StandsEither StandsNow StoodOnce (record { config = config; book = before }) (pair_of (D.seen first) (D.seen second))
         × (step_reply config before clock OpenInput ≡ Reply.LimitsWrong wrong)) }
     ensures fault { IfErr result (λ f. f.reason ≡ KeepReason.DiskFault → Rose (D.disk_faults first) (D.disk_faults f.first) ⊎ Rose (D.disk_faults second) (D.disk_faults f.second)) }

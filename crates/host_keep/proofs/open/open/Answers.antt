@@ -11,13 +11,16 @@ use Rattle.host_model.specs.declared.input.Input.TheVariants.{Open}
 use Rattle.host_model.specs.declared.reply.LimitsWrong.{LimitsWrong}
 use Rattle.host_model.specs.declared.reply.Reply.{Reply}
 use Rattle.host_model.specs.declared.reply.Reply.TheVariants.{LimitsWrong as limits_wrong}
+use Rattle.kept_host.specs.Stands.{StandsFor}
 use Rattle.machine_keep.specs.Calls.{TellsPair, TellsSome, sync_calls}
 use Rattle.machine_keep.specs.Course.{Unwritten}
 use Rattle.machine_keep.specs.Kept.{IsMade, StandsEither}
 use Rattle.machine_keep.specs.Opening.{EachUnlessUndone, StandsAsBefore}
+use Rattle.machine_keep.proofs.RefusalLemmas.{place_as}
 use Rattle.host_keep.specs.Opening.{Halted, IsFirstAnswer, IsFirstFault, IsStarting, KeptHost, Started, Unstarted, started}
 use Rattle.host_keep.specs.Standing.{Standing, StandsNow, StoodOnce}
 use Rattle.host_keep.specs.declared.open.KeepReason.TheVariants.{DiskFault, Limits}
+use Rattle.host_keep.proofs.HostLemmas.{OfHost, to_book, to_host}
 use Rattle.host_keep.proofs.OpeningLemmas.{err_three, halted_so, ok_three, started_so, starting, unstarted_so}
 use Rattle.host_keep.proofs.open.open.Goals as goal
 
@@ -25,6 +28,11 @@ use Rattle.host_keep.proofs.open.open.Goals as goal
 pub returns-in-Err-clause-nothing : goal.returns-in-Err-clause-nothing
 returns-in-Err-clause-nothing g c = λ p place e b stands.
     c.in-Err.ensures.nothing p place (c.reason_of.ensures.place place e) (record { config = c.args.config; book = b }) refl stands
+
+pub returns-in-Err-clause-place : goal.returns-in-Err-clause-place
+returns-in-Err-clause-place g c = λ p place e.
+    place_as (OfHost c.args.config) (StandsFor c.args.config.number) (to_book c.args.config) (to_host c.args.config) (pair_of (g.D.Disk.seen c.args.first) (g.D.Disk.seen c.args.second)) place
+    (c.in-Err.ensures.place p place (c.reason_of.ensures.place place e))
 
 -- the opening's calls, and then those of the first step
 pub returns-in-Ok-clause-went : goal.returns-in-Ok-clause-went
