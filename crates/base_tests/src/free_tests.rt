@@ -141,8 +141,8 @@ fn gives_way(booking: &Booking, wish: &Wish) -> bool {
 }
 
 // Whether the run could start then, where it may preempt or not.
-fn can_start(bookings: &[Booking], wish: &Wish, start: u64, preempts: bool) -> bool {
-    for booking in bookings {
+fn can_start(timeline: &Timeline, wish: &Wish, start: u64, preempts: bool) -> bool {
+    for booking in timeline.bookings() {
         if overlaps(booking, wish, start)
             && clashes(wish.class, booking.class)
             && !(preempts && gives_way(booking, wish))
@@ -156,14 +156,14 @@ fn can_start(bookings: &[Booking], wish: &Wish, start: u64, preempts: bool) -> b
 // The windows of starts up to 130 at which the run could start: each start is tried.
 fn plain_windows(
     alloc: Global,
-    bookings: &[Booking],
+    timeline: &Timeline,
     wish: &Wish,
     preempts: bool,
 ) -> Result<Items<Window>, Memory> {
     let mut windows = Items::new(alloc);
     let mut first = None;
     for start in 0..132 {
-        let can = start < 131 && can_start(bookings, wish, start, preempts);
+        let can = start < 131 && can_start(timeline, wish, start, preempts);
         match first {
             None if can => first = Some(start),
             Some(first_start) if !can && first_start < start => {
@@ -186,7 +186,7 @@ fn is_plain(
     tier: &Items<Window>,
     preempts: bool,
 ) -> Result<bool, Memory> {
-    let plain = plain_windows(alloc, timeline.bookings(), wish, preempts)?;
+    let plain = plain_windows(alloc, timeline, wish, preempts)?;
     Ok(plain == *tier)
 }
 

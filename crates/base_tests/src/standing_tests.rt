@@ -2,6 +2,7 @@
 use crate::held::{Held, Line, booked, booking_of, put};
 use crate::standing_tests::Fate::{Beside, GivesWay, KeepsOut};
 use host_timeline::booking::Booking;
+use host_timeline::lent::LentBookings;
 use host_timeline::timeline::Timeline;
 use ps_time::class::Class::{Background, BackgroundMulti, Exclusive, Normal};
 use ps_time::interval::Interval;
@@ -273,10 +274,9 @@ fn an_unknown_key_changes_nothing(rt: HostRuntime) -> Result<(), Fail> {
 // Two background runs, of which the one with the greater key starts first.
 static TWO_BACKGROUND: [Line; 2] = [(1, Background, 0, 120, 170), (2, Background, 0, 100, 150)];
 
-fn has_keys(bookings: &[Booking], keys: &[RunKey]) -> bool {
+fn has_keys(bookings: LentBookings<'_>, keys: &[RunKey]) -> bool {
     bookings.len() == keys.len()
         && bookings
-            .iter()
             .zip(keys.iter())
             .all(|(booking, key)| booking.key == *key)
 }

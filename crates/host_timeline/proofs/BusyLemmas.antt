@@ -1,10 +1,9 @@
 -- What bookings take, as ranges: after one comes or goes, and how many ranges there can be.
-use Rattle.std.proofs.Common.{◌≡◌, ◌∙◌, ◌<◌, ◌≤◌, ◌+◌, ◌-◌, ℕ, zero, suc, List, [], ◌∷◌, length, get_or, drop, map, Bool, true, false, cond, not, leb, ltb, eqb, ◌&&◌, ◌||◌, Some, inl, inr, refl, sym, ap, ap₂, subst, arith}
+use Rattle.std.proofs.Common.{◌≡◌, ◌∙◌, ◌<◌, ◌≤◌, ◌+◌, ◌-◌, ℕ, zero, suc, List, [], ◌∷◌, length, get_or, map, Bool, true, false, cond, not, leb, ltb, eqb, ◌&&◌, ◌||◌, Some, inl, inr, refl, sym, ap, ap₂, subst, arith}
 use Rattle.std.specs.List.{AllByRecursion, list_all, list_any}
 use Rattle.std.specs.Ordering.{is_eq}
 use Rattle.std.proofs.lemmas.Bool.{cases_lt}
 use Rattle.std.proofs.lemmas.Bool.Decides.{nat_tests}
-use Rattle.std.proofs.lemmas.List.{drop_all}
 use Rattle.std.proofs.lemmas.List.Folds.{list_any_at}
 use Rattle.ps_time.specs.Class.{conflicting_classes}
 use Rattle.ps_time.specs.Span.{Span}
@@ -315,38 +314,29 @@ module _ (class : Class) (b : Booking) (bs : List Booking) (rs : List Span) (som
         ∙ left_over t
 
 -- ---- a pass over bookings
-any_at : (p : Booking → Bool) (bs : List Booking) (i : ℕ) (b : Booking) → i < length bs → b ≡ get_or bs i b → list_any p (drop i bs) ≡ (p b || list_any p (drop (i + 1) bs))
-any_at p [] i b within is = absurd (omega arith)
-any_at p (d ∷ bs) zero b within is = ap (λ (x : Booking). p x || list_any p bs) (sym is)
-any_at p (d ∷ bs) (suc i) b within is = let next : suc (i + 1) ≡ suc i + 1 = omega arith in any_at p bs i b (omega arith) is ∙ ap (λ n. p b || list_any p (drop n (d ∷ bs))) next
-
-pub passes_at : (p : Booking → Bool) (bs : List Booking) (i : ℕ) (b : Booking) → i < length bs → b ≡ get_or bs i b → list_all p bs ≡ true → p b ≡ true
-passes_at p [] i b within is all = absurd (omega arith)
-passes_at p (d ∷ bs) zero b within is all = ap p is ∙ (both_true (p d) (list_all p bs) all).0
-passes_at p (d ∷ bs) (suc i) b within is all = passes_at p bs i b (omega arith) is (both_true (p d) (list_all p bs) all).1
-
-module _ (class : Class) (s : Span) (bs : List Booking) (i : ℕ) (b : Booking) (within : i < length bs) (is : b ≡ get_or bs i b) (t : ℕ) where
-  pub take_one : conflicts_with class s b ≡ true → (x : Bool) → (x || list_any (takes_beside class s t) (drop i bs)) ≡ ((x || has_second b.interval t) || list_any (takes_beside class s t) (drop (i + 1) bs))
+module _ (class : Class) (s : Span) (bs : List Booking) (b : Booking) (rest : List Booking) (here : bs ≡ b ∷ rest) (t : ℕ) where
+  pub take_one : conflicts_with class s b ≡ true → (x : Bool) → (x || list_any (takes_beside class s t) bs) ≡ ((x || has_second b.interval t) || list_any (takes_beside class s t) rest)
   take_one conflicts x =
       let takes : takes_beside class s t b ≡ has_second b.interval t = rw conflicts refl in
-      ap (λ y. x || y) (any_at (takes_beside class s t) bs i b within is ∙ ap (λ y. y || list_any (takes_beside class s t) (drop (i + 1) bs)) takes) ∙ or_assoc x (has_second b.interval t) (list_any (takes_beside class s t) (drop (i + 1) bs))
+      ap (λ y. x || y) (ap (list_any (takes_beside class s t)) here ∙ ap (λ y. y || list_any (takes_beside class s t) rest) takes) ∙ or_assoc x (has_second b.interval t) (list_any (takes_beside class s t) rest)
 
-  pub pass_one : conflicts_with class s b ≡ false → (x : Bool) → (x || list_any (takes_beside class s t) (drop i bs)) ≡ (x || list_any (takes_beside class s t) (drop (i + 1) bs))
+  pub pass_one : conflicts_with class s b ≡ false → (x : Bool) → (x || list_any (takes_beside class s t) bs) ≡ (x || list_any (takes_beside class s t) rest)
   pass_one apart x =
       let takes : takes_beside class s t b ≡ false = rw apart refl in
-      ap (λ y. x || y) (any_at (takes_beside class s t) bs i b within is ∙ ap (λ y. y || list_any (takes_beside class s t) (drop (i + 1) bs)) takes)
-
-pub take_none : (class : Class) (s : Span) (bs : List Booking) (i t : ℕ) (x : Bool) → length bs ≤ i → (x || list_any (takes_beside class s t) (drop i bs)) ≡ x
-take_none class s bs i t x over = ap (λ l. x || list_any (takes_beside class s t) l) (drop_all i bs over) ∙ or_none x where
-  or_none : (x : Bool) → (x || false) ≡ x
-  or_none true = refl
-  or_none false = refl
+      ap (λ y. x || y) (ap (list_any (takes_beside class s t)) here ∙ ap (λ y. y || list_any (takes_beside class s t) rest) takes)
 
 -- the ranges before and after
-pub begins_coming : (begins : ℕ → Bool) (class : Class) (s : Span) (bs : List Booking) (i : ℕ) (b : Booking) → i < length bs → b ≡ get_or bs i b → conflicts_with class s b ≡ true → conflicts_begin_at begins class s bs ≡ true → begins b.interval.start ≡ true
-begins_coming begins class s bs i b within is conflicts all =
-    let one : (not (conflicts_with class s b) || begins b.interval.start) ≡ true = passes_at (λ d. not (conflicts_with class s d) || begins d.interval.start) bs i b within is all in
-    rw conflicts at one
+module _ (begins : ℕ → Bool) (class : Class) (s : Span) (bs : List Booking) (b : Booking) (rest : List Booking) (here : bs ≡ b ∷ rest) (coming : conflicts_begin_at begins class s bs ≡ true) where
+  both_coming : record { first : (not (conflicts_with class s b) || begins b.interval.start) ≡ true; rest : conflicts_begin_at begins class s rest ≡ true }
+  both_coming =
+      let both = both_true (not (conflicts_with class s b) || begins b.interval.start) (conflicts_begin_at begins class s rest) (ap (conflicts_begin_at begins class s) (sym here) ∙ coming) in
+      record { first = both.0; rest = both.1 }
+
+  pub rest_coming : conflicts_begin_at begins class s rest ≡ true
+  rest_coming = both_coming.rest
+
+  pub begins_coming : conflicts_with class s b ≡ true → begins b.interval.start ≡ true
+  begins_coming conflicts = let first = both_coming.first in rw conflicts at first
 
 -- nothing is taken for a class that conflicts with none
 pub never_busy : (class : Class) (bs : List Booking) (t : ℕ) → ((k : Class) → conflicting_classes class k ≡ false) → is_busy class bs t ≡ false

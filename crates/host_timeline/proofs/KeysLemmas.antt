@@ -1,6 +1,5 @@
 -- The keys of the bookings in conflict with a run, gathered from lists that have them all, and sorted.
-use Rattle.std.proofs.Common.{◌≡◌, ◌∙◌, ◌<◌, ◌+◌, ℕ, suc, List, [], ◌∷◌, ◌++◌, length, get_or, drop, Bool, true, false, cond, ◌&&◌, Some, refl, sym, ap, ap₂, subst, drop-cons, arith}
-use Rattle.std.proofs.lemmas.List.{append_assoc, append-nil}
+use Rattle.std.proofs.Common.{◌≡◌, ◌∙◌, ◌<◌, ◌+◌, ℕ, suc, List, [], ◌∷◌, ◌++◌, length, get_or, Bool, true, false, cond, ◌&&◌, Some, refl, sym, ap, ap₂, subst, arith}
 use Rattle.std.proofs.lemmas.List.Sorted.{ranks_by, sorted_far, sum_by-IsPermutation}
 use Rattle.std.proofs.lemmas.List.Sums.{sum_by-cons}
 use Rattle.std.specs.List.{filter, sum_by, AllByRecursion}
@@ -103,15 +102,3 @@ sorted_conflicts class s bs xs ys keys have up moved sorted =
     ∙ ap₂ (λ m n. m + n) (times_of p k xs) (times_of p k ys)
     ∙ have test (λ b off. let no : conflicts_with class s b ≡ false = off in rw no refl)
     ∙ sym (times_of p k bs))
-
--- a turn of a loop that gathers keys
-pub keys_turn : (p : Booking → Bool) (keys : List RunKey) (items : List Booking) (i : ℕ) (b : Booking) → i < length items → b ≡ get_or items i b → keys ++ keys_of (filter p (drop i items)) ≡ (keys ++ (cond (p b) (b.key ∷ []) [])) ++ keys_of (filter p (drop (i + 1) items))
-keys_turn p keys items i b within is =
-    let one : suc i ≡ i + 1 = omega arith in
-    let rest = drop (i + 1) items in
-    let here : drop i items ≡ b ∷ rest = drop-cons items i b within ∙ ap (λ x. x ∷ drop (suc i) items) (sym is) ∙ ap (λ n. b ∷ drop n items) one in
-    ap (λ l. keys ++ keys_of (filter p l)) here
-    ∙ elim (p b) as (λ x. keys ++ keys_of (cond x (b ∷ filter p rest) (filter p rest)) ≡ (keys ++ (cond x (b.key ∷ []) [])) ++ keys_of (filter p rest)) [
-      | true ↦ sym (append_assoc keys (b.key ∷ []) (keys_of (filter p rest)))
-      | false ↦ ap (λ l. l ++ keys_of (filter p rest)) (sym (append-nil keys))
-    ]

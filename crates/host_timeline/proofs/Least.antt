@@ -1,5 +1,5 @@
 -- The least key of those that a test lets through.
-use Rattle.std.proofs.Common.{◌≡◌, ◌∙◌, ℕ, suc, ◌+◌, ◌<◌, List, [], ◌∷◌, ◌++◌, length, get_or, drop, Bool, true, false, cond, not, ◌&&◌, ◌||◌, map, Option, Some, None, refl, sym, ap, subst, drop-cons, arith}
+use Rattle.std.proofs.Common.{◌≡◌, ◌∙◌, ℕ, List, [], ◌∷◌, ◌++◌, Bool, true, false, cond, not, ◌&&◌, ◌||◌, map, Option, Some, None, refl, sym, ap, subst}
 use Rattle.std.proofs.lemmas.Cmp.{upto}
 use Rattle.std.proofs.lemmas.List.Folds.{list_all-append}
 use Rattle.std.specs.List.{filter, list_all, AllByRecursion}
@@ -140,11 +140,8 @@ module _ (p : Booking → Bool) where
       ]
 
   -- a turn of a loop that keeps the least so far
-  pub least_turn : (least : Option RunKey) (items : List Booking) (i : ℕ) (b : Booking) → i < length items → b ≡ get_or items i b → lesser_of least (least_of (drop i items)) ≡ lesser_of (lesser_of least (cond (p b) (Some b.key) None)) (least_of (drop (i + 1) items))
-  least_turn least items i b within is =
-      let one : suc i ≡ i + 1 = omega arith in
-      let here : drop i items ≡ b ∷ drop (i + 1) items = drop-cons items i b within ∙ ap (λ x. x ∷ drop (suc i) items) (sym is) ∙ ap (λ n. b ∷ drop n items) one in
-      let rest = drop (i + 1) items in
+  pub least_turn : (least : Option RunKey) (items : List Booking) (b : Booking) (rest : List Booking) → items ≡ b ∷ rest → lesser_of least (least_of items) ≡ lesser_of (lesser_of least (cond (p b) (Some b.key) None)) (least_of rest)
+  least_turn least items b rest here =
       let turn : lesser_of least (least_of (b ∷ rest)) ≡ lesser_of (lesser_of least (cond (p b) (Some b.key) None)) (least_of rest) =
       elim (p b) as (λ x. lesser_of least (least_key (keys_of (cond x (b ∷ filter p rest) (filter p rest)))) ≡ lesser_of (lesser_of least (cond x (Some b.key) None)) (least_of rest)) [
         | true ↦ sym (lesser_of_assoc least (Some b.key) (least_of rest))

@@ -1,6 +1,7 @@
 mod BesideLemmas
 mod BusyLemmas
 mod CountLemmas
+pub mod FoundLemmas
 pub mod Free
 mod GatherLemmas
 mod HoldLemmas

@@ -8,6 +8,7 @@ ghost use Rattle.host_timeline.specs.Lane.{starts_by};
 ghost use Rattle.host_timeline.specs.Sweep.{barred_from, is_near, is_clear, IsSwept, window_before, window_to, with_window};
 
 use crate::booking::Booking;
+use crate::lent::LentBookings;
 use ps_time::class::{Class, classes_conflict};
 use ps_time::interval::Window;
 use ps_time::items::Items;
@@ -21,13 +22,13 @@ pub const MAX_WINDOWS: usize = 128;
 /// The bookings of two lists that bar a run of this class and length from some start of the window, ascending by start.
 pub(crate) fn near_bookings(
     alloc: Global,
-    some: &[Booking],
-    others: &[Booking],
+    some: LentBookings<'_>,
+    others: LentBookings<'_>,
     class: Class,
     length: Length,
     window: &Window,
 ) -> Result<Vec<Booking>, Memory>
-    ensures all { IfOk result (λ near. IsPermutation (filter (is_near class length window.now) some.now ++ filter (is_near class length window.now) others.now) near.items) }
+    ensures all { IfOk result (λ near. IsPermutation (filter (is_near class length window.now) some.entry ++ filter (is_near class length window.now) others.entry) near.items) }
     ensures swept { IfOk result (λ near. IsSwept length near.items) }
 {
     let mut near = Vec::new(alloc);
@@ -40,12 +41,12 @@ pub(crate) fn near_bookings(
 // Adds those that bar the run from some start of the window.
 fn add_near(
     near: &mut Vec<Booking>,
-    bookings: &[Booking],
+    bookings: LentBookings<'_>,
     class: Class,
     length: Length,
     window: &Window,
 ) -> Result<(), Memory>
-    ensures { OnOk result (near.new.items ≡ near.old.items ++ filter (is_near class length window.now) bookings.now) }
+    ensures { OnOk result (near.new.items ≡ near.old.items ++ filter (is_near class length window.now) bookings.entry) }
 {
     for booking in bookings {
         if is_near(booking, class, length, window) {

@@ -6,10 +6,11 @@ ghost use Rattle.host_timeline.specs.declared.booking.Booking.{Booking as SeenBo
 ghost use Rattle.host_timeline.specs.Lane.{find_place, how_many, place_cmp, place_of, places_of, reaches, spans, starts_between, starts_by, with_place, without_place, with_started_place, IsAscendingPlaces, IsFoundAt, IsLane, IsOpenAt, FailsOthers, FailsOutside};
 
 use crate::booking::{Booking, started};
+use crate::lent::LentBookings;
+use placed_list::placed_list::PlacedList;
 use ps_time::key::RunKey;
 use ps_time::memory::Memory;
 use ps_time::moment::{Length, Moment};
-use sliding_list::sliding_list::SlidingList;
 use std::alloc::Global;
 use std::cmp::Ordering;
 use std::marker::Model;
@@ -43,7 +44,7 @@ pub(crate) fn place_of(booking: &Booking) -> Place
 /// Bookings, ascending by start and then by key, and places that are reserved for more.
 #[derive(Drop)]
 pub(crate) struct Lane {
-    bookings: SlidingList<Booking>,
+    bookings: PlacedList<Booking>,
     // no booking is longer
     longest: Length,
 }
@@ -64,7 +65,7 @@ impl Lane {
         ensures { result.list ≡ [] }
     {
         Lane {
-            bookings: SlidingList::new(alloc),
+            bookings: PlacedList::new(alloc),
             longest: 0,
         }
     }
@@ -79,11 +80,11 @@ impl Lane {
     }
 
     /// All of them.
-    pub(crate) fn bookings(&self) -> &[Booking]
-        ensures list { result.now ≡ self.now.list }
+    pub(crate) fn bookings(&self) -> LentBookings<'_>
+        ensures list { result ≡ self.now.list }
         ensures ascending { IsAscendingPlaces self.now.list }
     {
-        self.bookings.as_slice()
+        LentBookings::of(self.bookings.in_order())
     }
 
     /// Takes a booking in.
@@ -110,7 +111,8 @@ impl Lane {
     {
         match self.search(place) {
             Ok(at) => {
-                self.bookings.remove(at);
+                let last = last_place(&self.bookings);
+                self.bookings.remove(at, last);
             }
             Err(_) => {}
         }
@@ -124,7 +126,7 @@ impl Lane {
         match self.search(place) {
             Ok(at) => {
                 let booking = self.bookings[at];
-                self.bookings.set(at, started(&booking));
+                self.bookings[at] = started(&booking);
             }
             Err(_) => {}
         }
@@ -132,19 +134,24 @@ impl Lane {
 
     /// Some of the bookings in a row: all that have a second from `from` on, before `until`, if there is such an end. None
     /// of them starts from `until` on, or so long before `from` that even the longest would have ended, or before `earliest`.
-    pub(crate) fn near(&self, earliest: Moment, from: Moment, until: Option<Moment>) -> &[Booking]
+    pub(crate) fn near(
+        &self,
+        earliest: Moment,
+        from: Moment,
+        until: Option<Moment>,
+    ) -> LentBookings<'_>
         requires { list_all (reaches earliest from) self.now.list ≡ true }
-        ensures { (test : SeenBooking → Bool) → FailsOutside (spans from until) test → how_many test result.now ≡ how_many test self.now.list }
+        ensures { (test : SeenBooking → Bool) → FailsOutside (spans from until) test → how_many test result ≡ how_many test self.now.list }
     {
         let first = from.saturating_sub(self.longest).max(earliest);
-        between(self.bookings.as_slice(), first, until)
+        between(&self.bookings(), first, until)
     }
 
     /// None of them.
-    pub(crate) fn nothing(&self) -> &[Booking]
-        ensures { result.now ≡ [] }
+    pub(crate) fn nothing(&self) -> LentBookings<'_>
+        ensures { result ≡ [] }
     {
-        &self.bookings.as_slice()[..0]
+        self.bookings().part(0, 0)
     }
 
     // Where the booking with the place is, or where it would go.
@@ -152,39 +159,38 @@ impl Lane {
         ensures found { IfOk result (IsFoundAt self.now.list place) }
         ensures absent { IfErr result (IsOpenAt self.now.list place) }
     {
-        self.bookings
-            .as_slice()
-            .binary_search_by_key(&place, |booking| place_of(booking))
+        self.bookings().search_place(place)
     }
 }
 
-// Those that start from one moment on, before an end.
-fn between(bookings: &[Booking], from: Moment, until: Option<Moment>) -> &[Booking]
-    requires { IsAscendingPlaces bookings.now }
-    ensures { (test : SeenBooking → Bool) → FailsOthers bookings.now (starts_between from until) test → how_many test result.now ≡ how_many test bookings.now }
+// Where the booking in the last cell stands.
+fn last_place(bookings: &PlacedList<Booking>) -> usize
+    requires some { 0 < length bookings.now.list }
+    requires ascending { IsAscendingPlaces bookings.now.list }
+    ensures { result ≡ bookings.now.last }
 {
-    let first = starts_before(bookings, from);
+    let place = place_of(bookings.last_cell());
+    LentBookings::of(bookings.in_order()).before_place(place)
+}
+
+// Those that start from one moment on, before an end.
+fn between<'a>(bookings: &LentBookings<'a>, from: Moment, until: Option<Moment>) -> LentBookings<'a>
+    requires { IsAscendingPlaces bookings.now }
+    ensures { (test : SeenBooking → Bool) → FailsOthers bookings.now (starts_between from until) test → how_many test result ≡ how_many test bookings.now }
+{
+    let first = bookings.starting_before(from);
     let end = start_by(bookings, until).max(first);
-    &bookings[first..end]
+    bookings.part(first, end)
 }
 
 // How many of them start before an end.
-fn start_by(bookings: &[Booking], until: Option<Moment>) -> usize
+fn start_by(bookings: &LentBookings<'_>, until: Option<Moment>) -> usize
     requires { IsAscendingPlaces bookings.now }
     ensures within { result ≤ length bookings.now }
     ensures others { AllWithin (λ b. starts_by until b.interval.start ≡ false) bookings.now result (length bookings.now) }
 {
     match until {
-        Some(until) => starts_before(bookings, until),
+        Some(until) => bookings.starting_before(until),
         None => bookings.len(),
     }
-}
-
-// How many of them start before the moment.
-fn starts_before(bookings: &[Booking], moment: Moment) -> usize
-    requires { IsAscendingPlaces bookings.now }
-    ensures within { result ≤ length bookings.now }
-    ensures parted { IsPartitionPoint (λ b. nat_lt b.interval.start moment ≡ true) (λ b. nat_lt b.interval.start moment ≡ false) bookings.now result }
-{
-    bookings.partition_point(|booking| booking.interval.start < moment)
 }

@@ -6,6 +6,7 @@ ghost use Rattle.host_timeline.specs.Lane.{find_place, lane_of, place_of, places
 
 use crate::booking::Booking;
 use crate::lane::{Lane, place_of};
+use crate::lent::LentBookings;
 use ps_time::class::Class;
 use ps_time::memory::Memory;
 use ps_time::moment::Moment;
@@ -54,8 +55,8 @@ impl Lanes {
     }
 
     /// The bookings of a class.
-    pub(crate) fn of(&self, class: Class) -> &[Booking]
-        ensures list { result.now ≡ (lane_of class self.now).list }
+    pub(crate) fn of(&self, class: Class) -> LentBookings<'_>
+        ensures list { result ≡ (lane_of class self.now).list }
         ensures ascending { IsAscendingPlaces (lane_of class self.now).list }
     {
         match class {
@@ -115,10 +116,10 @@ impl Lanes {
         earliest: Moment,
         from: Moment,
         until: Option<Moment>,
-    ) -> (&[Booking], &[Booking])
+    ) -> (LentBookings<'_>, LentBookings<'_>)
         requires { Reach class earliest from self.now }
-        ensures have { (bookings : List SeenBooking) → HoldLanes bookings self.now → Have class from until bookings result.0.now result.1.now }
-        ensures decide { (bookings : List SeenBooking) → HoldLanes bookings self.now → Decide class from until bookings result.0.now result.1.now }
+        ensures have { (bookings : List SeenBooking) → HoldLanes bookings self.now → Have class from until bookings result.0 result.1 }
+        ensures decide { (bookings : List SeenBooking) → HoldLanes bookings self.now → Decide class from until bookings result.0 result.1 }
     {
         match class {
             Class::Exclusive => (

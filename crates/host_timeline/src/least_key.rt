@@ -4,6 +4,7 @@ ghost use Rattle.std.specs.List.{list_all};
 ghost use Rattle.host_timeline.specs.Booking.{conflicting, conflicting_after, conflicts_with, firm, is_after, is_other, keys_of, least_key, lesser, lesser_of};
 
 use crate::booking::Booking;
+use crate::lent::LentBookings;
 use ps_time::class::Class;
 use ps_time::interval::Interval;
 use ps_time::key::RunKey;
@@ -12,13 +13,13 @@ use ps_time::moment::Moment;
 
 /// The least key of those that stand in the way of a run.
 pub(crate) fn least_firm(
-    bookings: &[Booking],
+    bookings: LentBookings<'_>,
     class: Class,
     interval: &Interval,
     priority: i16,
     moment: Moment,
 ) -> Option<RunKey>
-    ensures { result ≡ least_key (keys_of (firm class interval.now priority moment bookings.now)) }
+    ensures { result ≡ least_key (keys_of (firm class interval.now priority moment bookings.entry)) }
 {
     let mut least = None;
     for booking in bookings {
@@ -30,12 +31,12 @@ pub(crate) fn least_firm(
 
 /// The least key above another of those that conflict with a run.
 pub(crate) fn least_conflict(
-    bookings: &[Booking],
+    bookings: LentBookings<'_>,
     class: Class,
     interval: &Interval,
     after: Option<RunKey>,
 ) -> Option<RunKey>
-    ensures { result ≡ least_key (keys_of (conflicting_after class interval.now after bookings.now)) }
+    ensures { result ≡ least_key (keys_of (conflicting_after class interval.now after bookings.entry)) }
 {
     let mut least = None;
     for booking in bookings {
@@ -47,12 +48,12 @@ pub(crate) fn least_conflict(
 
 /// The key of the first of those that conflict with a run.
 pub(crate) fn first_conflict(
-    bookings: &[Booking],
+    bookings: LentBookings<'_>,
     class: Class,
     interval: &Interval,
 ) -> Option<RunKey>
-    ensures there { IfSome result (λ key. list_all (is_other class interval.now key) bookings.now ≡ false) }
-    ensures none { IfNone result (list_all (λ b. not (conflicts_with class interval.now b)) bookings.now ≡ true) }
+    ensures there { IfSome result (λ key. list_all (is_other class interval.now key) bookings.entry ≡ false) }
+    ensures none { IfNone result (list_all (λ b. not (conflicts_with class interval.now b)) bookings.entry ≡ true) }
 {
     for booking in bookings {
         if booking.conflicts_with(class, interval) {
@@ -65,11 +66,11 @@ pub(crate) fn first_conflict(
 /// Adds the keys of those that conflict with a run.
 pub(crate) fn add_conflicts(
     keys: &mut Vec<RunKey>,
-    bookings: &[Booking],
+    bookings: LentBookings<'_>,
     class: Class,
     interval: &Interval,
 ) -> Result<(), Memory>
-    ensures { OnOk result (keys.new.items ≡ keys.old.items ++ keys_of (conflicting class interval.now bookings.now)) }
+    ensures { OnOk result (keys.new.items ≡ keys.old.items ++ keys_of (conflicting class interval.now bookings.entry)) }
 {
     for booking in bookings {
         if booking.conflicts_with(class, interval) {

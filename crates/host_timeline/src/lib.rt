@@ -7,5 +7,6 @@ pub mod free_starts;
 pub mod lane;
 mod lanes;
 mod least_key;
+pub mod lent;
 mod ranges;
 pub mod timeline;

@@ -5,7 +5,7 @@ ghost use Rattle.std.specs.List.{list_any};
 ghost use Rattle.ps_time.specs.Span.{Span};
 ghost use Rattle.host_timeline.specs.Busy.{begin_at, conflicts_begin_at, covers, has_second, pieces, range_places, span_between, takes_beside, with_range, without_range, HavePlacesFor, IsApart, IsCovered};
 
-use crate::booking::Booking;
+use crate::lent::LentBookings;
 use ps_time::class::Class;
 use ps_time::interval::Interval;
 use ps_time::memory::Memory;
@@ -176,12 +176,12 @@ pub(crate) fn add_conflicts(
     ranges: &mut Ranges,
     class: Class,
     interval: &Interval,
-    bookings: &[Booking],
+    bookings: LentBookings<'_>,
 )
-    requires room { HavePlacesFor class interval.now ranges.old bookings.now }
-    ensures covers { (second : ℕ) → covers ranges.new.list second ≡ (covers ranges.old.list second || list_any (takes_beside class interval.now second) bookings.now) }
+    requires room { HavePlacesFor class interval.now ranges.old bookings }
+    ensures covers { (second : ℕ) → covers ranges.new.list second ≡ (covers ranges.old.list second || list_any (takes_beside class interval.now second) bookings.entry) }
     ensures apart { IsApart ranges.new.list }
-    ensures begin { (begins : ℕ → Bool) → begin_at begins ranges.old.list ≡ true → conflicts_begin_at begins class interval.now bookings.now ≡ true → begin_at begins ranges.new.list ≡ true }
+    ensures begin { (begins : ℕ → Bool) → begin_at begins ranges.old.list ≡ true → conflicts_begin_at begins class interval.now bookings.entry ≡ true → begin_at begins ranges.new.list ≡ true }
     ensures places { range_places ranges.new ≡ range_places ranges.old }
 {
     for booking in bookings {

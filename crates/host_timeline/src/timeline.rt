@@ -1,5 +1,5 @@
 //! The timeline: the bookings of a host, ascending by key, with reserved places.
-ghost use Rattle.std.specs.Prelude.{◌≡◌, ◌+◌, ◌<◌, ◌≤◌, ◌&&◌, [], ℕ, Bool, false, None, Some, IfOk, IfErr, IfNone, IfSome, OnOk, is_some, if◌then◌else◌};
+ghost use Rattle.std.specs.Prelude.{◌≡◌, ◌+◌, ◌<◌, ◌≤◌, ◌&&◌, [], ℕ, Bool, false, None, Some, IfOk, IfErr, IfNone, IfSome, OnOk, is_some, if◌then◌else◌, length};
 ghost use Rattle.std.specs.List.{list_all};
 ghost use Rattle.std.specs.Option.{is_none};
 ghost use Rattle.ps_time.specs.Key.{key_cmp};
@@ -18,6 +18,8 @@ use crate::busy::Busy;
 use crate::free_starts::{keep_firm, near_bookings, reach, windows_beside};
 use crate::lanes::Lanes;
 use crate::least_key::{add_conflicts, first_conflict, least_conflict, least_firm, lesser_of};
+use crate::lent::LentBookings;
+use placed_list::placed_list::PlacedList;
 use ps_time::class::Class;
 use ps_time::interval::{Interval, Window};
 use ps_time::items::Items;
@@ -25,19 +27,18 @@ use ps_time::key::RunKey;
 use ps_time::memory::Memory;
 use ps_time::moment::{Length, Moment};
 use ps_time::tiers::Tiers;
-use sliding_list::sliding_list::SlidingList;
 use std::alloc::Global;
 use std::marker::Model;
 
 /// The bookings of a host, at most one of a key, and places that are reserved for more.
 #[derive(Drop)]
 pub struct Timeline {
-    bookings: SlidingList<Booking>,
+    bookings: PlacedList<Booking>,
     // the same bookings, by class and start
     lanes: Lanes,
     // what they take, by class
     busy: Busy,
-    // how many are reserved in each vector, taken or not
+    // how many are reserved in each list, taken or not
     places: usize,
 }
 
@@ -58,7 +59,7 @@ impl Timeline {
         ensures { result.list ≡ [] }
     {
         Timeline {
-            bookings: SlidingList::new(alloc),
+            bookings: PlacedList::new(alloc),
             lanes: Lanes::new(alloc),
             busy: Busy::new(alloc),
             places: 0,
@@ -71,8 +72,9 @@ impl Timeline {
         ensures never_less { self.old.room ≤ self.new.room }
         ensures ok { OnOk result (count ≤ self.new.room) }
     {
+        let wanted = self.bookings.len().checked_add(count).ok_or(Memory)?;
         self.bookings.reserve(count)?;
-        let places = self.places.max(self.bookings.len() + count);
+        let places = self.places.max(wanted);
         self.lanes.reserve(places)?;
         self.busy.reserve(places)?;
         self.places = places;
@@ -80,18 +82,18 @@ impl Timeline {
     }
 
     /// All bookings, ascending by key.
-    pub fn bookings(&self) -> &[Booking]
-        ensures list { result.now ≡ self.now.list }
+    pub fn bookings(&self) -> LentBookings<'_>
+        ensures list { result ≡ self.now.list }
         ensures ascending { IsAscendingBookings self.now.list }
         ensures conflict_free { IsConflictFree self.now.list }
     {
-        self.bookings.as_slice()
+        LentBookings::of(self.bookings.in_order())
     }
 
     /// The bookings of a class, ascending by start and then by key.
-    pub fn by_start(&self, class: Class) -> &[Booking]
-        ensures same { (test : SeenBooking → Bool) → how_many test result.now ≡ how_many (λ b. same_class class b.class && test b) self.now.list }
-        ensures ascending { IsAscendingPlaces result.now }
+    pub fn by_start(&self, class: Class) -> LentBookings<'_>
+        ensures same { (test : SeenBooking → Bool) → how_many test result ≡ how_many (λ b. same_class class b.class && test b) self.now.list }
+        ensures ascending { IsAscendingPlaces result }
     {
         self.lanes.of(class)
     }
@@ -219,7 +221,8 @@ impl Timeline {
     {
         match self.search(key) {
             Ok(at) => {
-                let booking = self.bookings.remove(at);
+                let last = last_place(&self.bookings);
+                let booking = self.bookings.remove(at, last);
                 self.lanes.remove(&booking);
                 self.busy.uncover(&booking, &self.lanes);
                 true
@@ -247,7 +250,7 @@ impl Timeline {
             Ok(at) => {
                 let booking = self.bookings[at];
                 self.lanes.mark_started(&booking);
-                self.bookings.set(at, started(&booking));
+                self.bookings[at] = started(&booking);
             }
             Err(_) => {}
         }
@@ -268,9 +271,14 @@ impl Timeline {
     }
 
     // The exclusive and the normal bookings that a run of the class has to look at.
-    fn beside(&self, class: Class, from: Moment, until: Option<Moment>) -> (&[Booking], &[Booking])
-        ensures have { Have class from until self.now.list result.0.now result.1.now }
-        ensures decide { Decide class from until self.now.list result.0.now result.1.now }
+    fn beside(
+        &self,
+        class: Class,
+        from: Moment,
+        until: Option<Moment>,
+    ) -> (LentBookings<'_>, LentBookings<'_>)
+        ensures have { Have class from until self.now.list result.0 result.1 }
+        ensures decide { Decide class from until self.now.list result.0 result.1 }
     {
         let _ = &self.bookings;
         let earliest = self.busy.reach_back(class, from);
@@ -283,8 +291,16 @@ impl Timeline {
         ensures absent { IfErr result (IsGapFor self.now.list key) }
         ensures ordered { IsInOrder self.now.list }
     {
-        self.bookings
-            .as_slice()
-            .binary_search_by_key(&key, |booking| booking.key)
+        self.bookings().search_key(key)
     }
+}
+
+// Where the booking in the last cell stands.
+fn last_place(bookings: &PlacedList<Booking>) -> usize
+    requires some { 0 < length bookings.now.list }
+    requires ascending { IsAscendingBookings bookings.now.list }
+    ensures { result ≡ bookings.now.last }
+{
+    let key = bookings.last_cell().key;
+    LentBookings::of(bookings.in_order()).below(key)
 }

@@ -16,8 +16,8 @@ cut-requires-clause-covered c =
     is_covered c.args.class c.args.booking.now c.requires.bookings c.args.ranges.now.list some (sym c.classes_conflict.ensures ∙ c.if-classes_conflict.true) c.requires.busy
 
 -- none of those that it overlaps starts before the range
-pub beside-requires : goal.beside-requires
-beside-requires c =
+pub beside-some-requires : goal.beside-some-requires
+beside-some-requires c =
     busy_reach_beside c.args.class c.reach_back-earliest.result c.interval.inside.start c.requires.bookings c.args.lanes.now c.requires.hold c.args.booking.now c.args.ranges.now.list c.requires.busy c.reach_back-earliest.ensures
 
 pub add_conflicts-requires : goal.add_conflicts-requires
@@ -29,14 +29,14 @@ add_conflicts-requires c = record {
       let rs = c.args.ranges.now.list in
       let some = subst (λ (i : Span). i.start < i.end) c.interval.view_is c.interval.invariant in
       let conflict = sym c.classes_conflict.ensures ∙ c.if-classes_conflict.true in
-      let decide : Decide class b.interval.start (Some b.interval.end) bs c.beside.result.0.now c.beside.result.1.now = subst (λ (i : Span). Decide class i.start (Some i.end) bs c.beside.result.0.now c.beside.result.1.now) c.interval.view_is (c.beside.ensures.decide bs c.requires.hold) in
+      let decide : Decide class b.interval.start (Some b.interval.end) bs c.beside-some.result.0 c.beside-some.result.1 = subst (λ (i : Span). Decide class i.start (Some i.end) bs c.beside-some.result.0 c.beside-some.result.1) c.interval.view_is (c.beside-some.ensures.decide bs c.requires.hold) in
       let places : length bs + 1 < range_places c.cut.new.self = omega (arith, c.requires.places, c.cut.ensures.places) in
       record {
         begins = one_of (places_to_begin class b bs rs some conflict c.requires.busy);
         apart = c.cut.ensures.apart;
         leaves = cut_room class b bs rs some conflict c.requires.busy (range_places c.cut.new.self) places;
         standing = ap (λ l. begin_at (one_of (places_to_begin class b bs rs some conflict c.requires.busy)) l) c.cut.ensures.list ∙ cut_begins class b bs rs some conflict c.requires.busy;
-        coming = (both_begin class b bs rs some conflict c.requires.busy c.beside.result.0.now c.beside.result.1.now decide).0;
+        coming = (both_begin class b bs rs some conflict c.requires.busy c.beside-some.result.0 c.beside-some.result.1 decide).0;
       };
 }
 
@@ -49,11 +49,11 @@ add_conflicts-requires-then-classes_conflict c = record {
       let rs = c.args.ranges.now.list in
       let some = subst (λ (i : Span). i.start < i.end) c.interval.view_is c.interval.invariant in
       let conflict = sym c.classes_conflict.ensures ∙ c.if-classes_conflict.true in
-      let decide : Decide class b.interval.start (Some b.interval.end) bs c.beside.result.0.now c.beside.result.1.now = subst (λ (i : Span). Decide class i.start (Some i.end) bs c.beside.result.0.now c.beside.result.1.now) c.interval.view_is (c.beside.ensures.decide bs c.requires.hold) in
+      let decide : Decide class b.interval.start (Some b.interval.end) bs c.beside-some.result.0 c.beside-some.result.1 = subst (λ (i : Span). Decide class i.start (Some i.end) bs c.beside-some.result.0 c.beside-some.result.1) c.interval.view_is (c.beside-some.ensures.decide bs c.requires.hold) in
       let places : length bs + 1 < range_places c.add_conflicts.new.ranges = omega (arith, c.requires.places, c.cut.ensures.places, c.add_conflicts.ensures.places) in
       let begins = one_of (places_to_begin class b bs rs some conflict c.requires.busy) in
       let standing = ap (λ l. begin_at begins l) c.cut.ensures.list ∙ cut_begins class b bs rs some conflict c.requires.busy in
-      let both = both_begin class b bs rs some conflict c.requires.busy c.beside.result.0.now c.beside.result.1.now decide in
+      let both = both_begin class b bs rs some conflict c.requires.busy c.beside-some.result.0 c.beside-some.result.1 decide in
       record {
         begins = begins;
         apart = c.add_conflicts.ensures.apart;
@@ -68,11 +68,11 @@ returns-then-classes_conflict-clause-busy c bookings hold busy =
     let class = c.args.class in
     let b = c.args.booking.now in
     let rs = c.args.ranges.now.list in
-    let xs = c.beside.result.0.now in
-    let ys = c.beside.result.1.now in
+    let xs = c.beside-some.result.0 in
+    let ys = c.beside-some.result.1 in
     let some = subst (λ (i : Span). i.start < i.end) c.interval.view_is c.interval.invariant in
     let conflict = sym c.classes_conflict.ensures ∙ c.if-classes_conflict.true in
-    let decide : Decide class b.interval.start (Some b.interval.end) bookings xs ys = subst (λ (i : Span). Decide class i.start (Some i.end) bookings xs ys) c.interval.view_is (c.beside.ensures.decide bookings hold) in
+    let decide : Decide class b.interval.start (Some b.interval.end) bookings xs ys = subst (λ (i : Span). Decide class i.start (Some i.end) bookings xs ys) c.interval.view_is (c.beside-some.ensures.decide bookings hold) in
     record {
       covered = λ t.
           c.add_conflicts-then-classes_conflict.ensures.covers t

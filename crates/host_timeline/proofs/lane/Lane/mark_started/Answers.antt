@@ -9,14 +9,14 @@ pub invariant_of-self : goal.invariant_of-self
 invariant_of-self c =
     let seen : c.self.inside.bookings.list ≡ c.args.self.now.list = ap (λ (l : Lane). l.list) c.self.view_is in
     let found : IsFoundAt c.self.inside.bookings.list c.args.place c.in-Ok.at = rw seen c.in-Ok.ensures.found in
-    let written = c.set.ensures.list ∙ ap (set c.self.inside.bookings.list c.in-Ok.at) (c.started.ensures ∙ ap started_booking c.index.ensures) in
+    let written = ap (set c.self.inside.bookings.list c.in-Ok.at) (c.started.ensures ∙ ap started_booking c.index.ensures) in
     subst (λ l. IsLane l c.self.inside.longest) (sym (written ∙ start_found _ _ c.self.invariant _ _ _ found)) (lane_after_start _ _ c.self.invariant _)
 
 pub returns-in-Ok-clause-list : goal.returns-in-Ok-clause-list
 returns-in-Ok-clause-list c =
     let seen : c.self.inside.bookings.list ≡ c.args.self.now.list = ap (λ (l : Lane). l.list) c.self.view_is in
     let found : IsFoundAt c.self.inside.bookings.list c.args.place c.in-Ok.at = rw seen c.in-Ok.ensures.found in
-    let written = c.set.ensures.list ∙ ap (set c.self.inside.bookings.list c.in-Ok.at) (c.started.ensures ∙ ap started_booking c.index.ensures) in
+    let written = ap (set c.self.inside.bookings.list c.in-Ok.at) (c.started.ensures ∙ ap started_booking c.index.ensures) in
     rw (← seen) (written ∙ start_found _ _ c.self.invariant _ _ _ found)
 
 -- no booking has the place

@@ -25,21 +25,21 @@ pub returns-in-Exclusive-clause-have : goal.returns-in-Exclusive-clause-have
 returns-in-Exclusive-clause-have c bookings hold test outside =
     let others : FailsOutside (is_beside Exclusive c.args.from c.args.until) test = subst (λ k. FailsOutside (is_beside k c.args.from c.args.until) test) c.in-Exclusive.is outside in
     let inside = outside_spans c.args.from c.args.until test Exclusive others in
-    have_exclusive bookings _ (subst (HoldLanes bookings) (sym c.self.view_is) hold) c.args.from c.args.until test c.near.result.now c.near-in-Exclusive.result.now others (c.near.ensures test inside) (c.near-in-Exclusive.ensures test inside)
+    have_exclusive bookings _ (subst (HoldLanes bookings) (sym c.self.view_is) hold) c.args.from c.args.until test c.near.result c.near-in-Exclusive.result others (c.near.ensures test inside) (c.near-in-Exclusive.ensures test inside)
 
 pub returns-in-Exclusive-clause-decide : goal.returns-in-Exclusive-clause-decide
-returns-in-Exclusive-clause-decide c bookings hold = have_decide c.args.class c.args.from c.args.until bookings c.near.result.now c.near-in-Exclusive.result.now (returns-in-Exclusive-clause-have c bookings hold)
+returns-in-Exclusive-clause-decide c bookings hold = have_decide c.args.class c.args.from c.args.until bookings c.near.result c.near-in-Exclusive.result (returns-in-Exclusive-clause-have c bookings hold)
 
 -- it looks at the exclusive ones
 pub returns-in-Normal-clause-have : goal.returns-in-Normal-clause-have
 returns-in-Normal-clause-have c bookings hold test outside =
     let others : FailsOutside (is_beside Normal c.args.from c.args.until) test = subst (λ k. FailsOutside (is_beside k c.args.from c.args.until) test) c.in-Normal.is outside in
     let inside = outside_spans c.args.from c.args.until test Normal others in
-    ap (λ l. how_many test c.near-in-Normal.result.now + how_many test l) c.nothing.ensures
-    ∙ have_normal bookings _ (subst (HoldLanes bookings) (sym c.self.view_is) hold) c.args.from c.args.until test c.near-in-Normal.result.now others (c.near-in-Normal.ensures test inside)
+    ap (λ l. how_many test c.near-in-Normal.result + how_many test l) c.nothing.ensures
+    ∙ have_normal bookings _ (subst (HoldLanes bookings) (sym c.self.view_is) hold) c.args.from c.args.until test c.near-in-Normal.result others (c.near-in-Normal.ensures test inside)
 
 pub returns-in-Normal-clause-decide : goal.returns-in-Normal-clause-decide
-returns-in-Normal-clause-decide c bookings hold = have_decide c.args.class c.args.from c.args.until bookings c.near-in-Normal.result.now c.nothing.result.now (returns-in-Normal-clause-have c bookings hold)
+returns-in-Normal-clause-decide c bookings hold = have_decide c.args.class c.args.from c.args.until bookings c.near-in-Normal.result c.nothing.result (returns-in-Normal-clause-have c bookings hold)
 
 -- it conflicts with none
 pub returns-in_default-clause-have : goal.returns-in_default-clause-have
@@ -48,4 +48,4 @@ returns-in_default-clause-have c bookings hold test outside =
     ∙ have_none bookings c.args.self.now hold c.args.from c.args.until test c.args.class (none_conflicts c.args.class c.in_default.not-Normal c.in_default.not-Exclusive) outside
 
 pub returns-in_default-clause-decide : goal.returns-in_default-clause-decide
-returns-in_default-clause-decide c bookings hold = have_decide c.args.class c.args.from c.args.until bookings c.nothing-in_default.result.now c.nothing-in_default-2.result.now (returns-in_default-clause-have c bookings hold)
+returns-in_default-clause-decide c bookings hold = have_decide c.args.class c.args.from c.args.until bookings c.nothing-in_default.result c.nothing-in_default-2.result (returns-in_default-clause-have c bookings hold)

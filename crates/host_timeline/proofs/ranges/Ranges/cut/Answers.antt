@@ -1,6 +1,5 @@
-use Rattle.std.proofs.Common.{◌≡◌, ◌∙◌, ◌<◌, ◌+◌, Some, None, ap, length, subst, sym, arith}
+use Rattle.std.proofs.Common.{◌∙◌, ◌<◌, ◌+◌, Some, None, ap, length, subst, sym, arith}
 use Rattle.std.specs.List.{insert}
-use Rattle.ps_time.specs.Span.{Span}
 use Rattle.host_timeline.specs.Busy.{Ranges, IsApart, without_range}
 use Rattle.host_timeline.proofs.RangeLemmas.{apart_seen, cut_found, none_for_one, one_for_one, two_for_one}
 use Rattle.host_timeline.proofs.ranges.Ranges.cut.Goals as goal

@@ -16,10 +16,10 @@ returns-clause-keys c =
     let class = c.args.class in
     let s = c.args.interval.now in
     let bs = c.args.self.now.list in
-    let xs = c.beside.result.0.now in
-    let ys = c.beside.result.1.now in
+    let xs = c.beside-exclusive.result.0 in
+    let ys = c.beside-exclusive.result.1 in
     let seen : c.self.inside.bookings.list ≡ bs = ap (λ (t : Timeline). t.list) c.self.view_is in
-    let have : Have class s.start (Some s.end) bs xs ys = subst (λ (i : Span). Have class i.start (Some i.end) bs xs ys) c.interval.view_is c.beside.ensures.have in
+    let have : Have class s.start (Some s.end) bs xs ys = subst (λ (i : Span). Have class i.start (Some i.end) bs xs ys) c.interval.view_is c.beside-exclusive.ensures.have in
     let gathered : c.add_conflicts-2.new.keys.items ≡ keys_of (conflicting class s xs) ++ keys_of (conflicting class s ys) =
     c.in_ok-add_conflicts-2.ensures ∙ ap (λ l. l ++ keys_of (conflicting class s ys)) (c.in_ok-add_conflicts.ensures ∙ ap (λ l. l ++ keys_of (conflicting class s xs)) c.new-keys.ensures.items) in
     let moved : IsPermutation (keys_of (conflicting class s xs) ++ keys_of (conflicting class s ys)) c.sort.new.self.items = subst (λ l. IsPermutation l c.sort.new.self.items) gathered c.in_ok-sort.ensures.permutation in

@@ -13,11 +13,11 @@ pub returns-clause-least : goal.returns-clause-least
 returns-clause-least c =
     let interval = c.args.interval.now in
     let passes : Booking → Bool = is_firm c.args.class interval c.args.priority c.args.moment in
-    let decide : Decide c.args.class interval.start (Some interval.end) c.args.self.now.list c.beside.result.0.now c.beside.result.1.now = subst (λ (s : Span). Decide c.args.class s.start (Some s.end) c.args.self.now.list c.beside.result.0.now c.beside.result.1.now) c.interval.view_is c.beside.ensures.decide in
+    let decide : Decide c.args.class interval.start (Some interval.end) c.args.self.now.list c.beside-exclusive.result.0 c.beside-exclusive.result.1 = subst (λ (s : Span). Decide c.args.class s.start (Some s.end) c.args.self.now.list c.beside-exclusive.result.0 c.beside-exclusive.result.1) c.interval.view_is c.beside-exclusive.ensures.decide in
     let some = rw (to_z-of_z c.ranges.priority) at c.least_firm.ensures in
     let others = rw (to_z-of_z c.ranges.priority) at c.least_firm-2.ensures in
     c.lesser_of.ensures ∙ ap₂ lesser_of some others
-    ∙ decided_least passes c.args.class interval.start (Some interval.end) c.args.self.now.list c.beside.result.0.now c.beside.result.1.now decide (λ b off. ap (λ x. x && not (can_preempt c.args.priority c.args.moment b)) off)
+    ∙ decided_least passes c.args.class interval.start (Some interval.end) c.args.self.now.list c.beside-exclusive.result.0 c.beside-exclusive.result.1 decide (λ b off. ap (λ x. x && not (can_preempt c.args.priority c.args.moment b)) off)
 
 pub returns-clause-none : goal.returns-clause-none
 returns-clause-none c =

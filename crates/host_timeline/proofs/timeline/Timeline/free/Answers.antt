@@ -26,8 +26,8 @@ returns c =
     let near = c.in_ok-near.near.items in
     let stays : Booking → Bool = λ b. not (can_preempt c.args.priority c.args.moment b) in
     let first_is : c.window.inside.first ≡ c.args.window.first = ap (λ (w : Range). w.first) c.window.view_is in
-    let decide : Decide c.args.class c.args.window.first c.reach-until.result bookings c.beside.result.0.now c.beside.result.1.now = subst (λ f. Decide c.args.class f c.reach-until.result bookings c.beside.result.0.now c.beside.result.1.now) first_is c.beside.ensures.decide in
-    let alike : AllAlike (filter (is_near c.args.class c.args.length c.args.window) bookings) near = near_alike c.args.class c.args.length c.args.window c.reach-until.result c.reach-until.ensures bookings c.beside.result.0.now c.beside.result.1.now near decide c.in_ok-near.ensures.all in
+    let decide : Decide c.args.class c.args.window.first c.reach-until.result bookings c.beside-exclusive.result.0 c.beside-exclusive.result.1 = subst (λ f. Decide c.args.class f c.reach-until.result bookings c.beside-exclusive.result.0 c.beside-exclusive.result.1) first_is c.beside-exclusive.ensures.decide in
+    let alike : AllAlike (filter (is_near c.args.class c.args.length c.args.window) bookings) near = near_alike c.args.class c.args.length c.args.window c.reach-until.result c.reach-until.ensures bookings c.beside-exclusive.result.0 c.beside-exclusive.result.1 near decide c.in_ok-near.ensures.all in
     let firm : c.keep_firm.new.near.items ≡ filter stays near = subst (λ p. c.keep_firm.new.near.items ≡ filter (λ b. not (can_preempt p c.args.moment b)) near) (to_z-of_z c.ranges.priority) c.keep_firm.ensures in
     let first : c.in_ok-first.first ≡ tier_of (is_free c.args.class c.args.length bookings) c.args.window =
     c.in_ok-first.ensures ∙ ap (λ l. tier_of (is_clear c.args.length l) c.args.window) c.as_slice.ensures.value ∙ first_tier c.args.class c.args.length c.args.window bookings near alike in

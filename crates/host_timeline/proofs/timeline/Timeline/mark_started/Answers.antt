@@ -10,16 +10,15 @@ pub invariant_of-self : goal.invariant_of-self
 invariant_of-self c =
     let seen : c.self.inside.bookings.list ≡ c.args.self.now.list = ap (λ (t : Timeline). t.list) c.self.view_is in
     let place : IsPlaceOf c.self.inside.bookings.list c.args.key c.in-Ok.at = rw seen c.in-Ok.ensures.found in
-    let written = c.set.ensures.list ∙ ap (set c.self.inside.bookings.list c.in-Ok.at) (c.started.ensures ∙ ap started_booking c.index.ensures) in
-    subst (λ n. IsIndexed c.set.new.self.list n c.self.inside.places c.mark_started.new.self c.self.inside.busy) (sym c.set.ensures.places)
-    (subst (λ l. IsIndexed l c.self.inside.bookings.places c.self.inside.places c.mark_started.new.self c.self.inside.busy) (sym (written ∙ start_place _ c.self.invariant.in_order _ _ _ place))
-    (indexed_start c.self.inside.bookings.list _ c.self.inside.places c.self.inside.lanes _ c.self.inside.busy c.self.invariant c.args.key c.in-Ok.at c.index.result.now place c.index.ensures c.mark_started.ensures))
+    let written = ap (set c.self.inside.bookings.list c.in-Ok.at) (c.started.ensures ∙ ap started_booking c.index.ensures) in
+    subst (λ l. IsIndexed l c.self.inside.bookings.places c.self.inside.places c.mark_started.new.self c.self.inside.busy) (sym (written ∙ start_place _ c.self.invariant.in_order _ _ _ place))
+    (indexed_start c.self.inside.bookings.list _ c.self.inside.places c.self.inside.lanes _ c.self.inside.busy c.self.invariant c.args.key c.in-Ok.at c.index.result.now place c.index.ensures c.mark_started.ensures)
 
 pub returns-in-Ok-clause-list : goal.returns-in-Ok-clause-list
 returns-in-Ok-clause-list c =
     let seen : c.self.inside.bookings.list ≡ c.args.self.now.list = ap (λ (t : Timeline). t.list) c.self.view_is in
     let place : IsPlaceOf c.self.inside.bookings.list c.args.key c.in-Ok.at = rw seen c.in-Ok.ensures.found in
-    let written = c.set.ensures.list ∙ ap (set c.self.inside.bookings.list c.in-Ok.at) (c.started.ensures ∙ ap started_booking c.index.ensures) in
+    let written = ap (set c.self.inside.bookings.list c.in-Ok.at) (c.started.ensures ∙ ap started_booking c.index.ensures) in
     rw (← seen) (written ∙ start_place _ c.self.invariant.in_order _ _ _ place)
 
 -- no booking has the key

@@ -14,9 +14,9 @@ pub returns-clause-least : goal.returns-clause-least
 returns-clause-least c =
     let interval = c.args.interval.now in
     let passes : Booking → Bool = λ b. is_after c.args.after b.key && conflicts_with c.args.class interval b in
-    let decide : Decide c.args.class interval.start (Some interval.end) c.args.self.now.list c.beside.result.0.now c.beside.result.1.now = subst (λ (s : Span). Decide c.args.class s.start (Some s.end) c.args.self.now.list c.beside.result.0.now c.beside.result.1.now) c.interval.view_is c.beside.ensures.decide in
+    let decide : Decide c.args.class interval.start (Some interval.end) c.args.self.now.list c.beside-exclusive.result.0 c.beside-exclusive.result.1 = subst (λ (s : Span). Decide c.args.class s.start (Some s.end) c.args.self.now.list c.beside-exclusive.result.0 c.beside-exclusive.result.1) c.interval.view_is c.beside-exclusive.ensures.decide in
     c.lesser_of.ensures ∙ ap₂ lesser_of c.least_conflict.ensures c.least_conflict-2.ensures
-    ∙ decided_least passes c.args.class interval.start (Some interval.end) c.args.self.now.list c.beside.result.0.now c.beside.result.1.now decide (λ b off. ap (λ x. is_after c.args.after b.key && x) off ∙ and_false (is_after c.args.after b.key))
+    ∙ decided_least passes c.args.class interval.start (Some interval.end) c.args.self.now.list c.beside-exclusive.result.0 c.beside-exclusive.result.1 decide (λ b off. ap (λ x. is_after c.args.after b.key && x) off ∙ and_false (is_after c.args.after b.key))
 
 pub returns-clause-walk : goal.returns-clause-walk
 returns-clause-walk c =
