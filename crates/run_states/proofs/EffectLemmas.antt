@@ -1,6 +1,5 @@
 -- A write at a place is the change of what stands there.
-use Rattle.std.proofs.Common.{◌≡◌, ℕ, zero, suc, ◌+◌, ◌-◌, ◌<◌, ◌≤◌, List, [], ◌∷◌, length, get_or, set, refl, ap, subst, arith}
-use Rattle.std.proofs.lemmas.List.Elements.{All-set}
+use Rattle.std.proofs.Common.{◌≡◌, ℕ, zero, suc, ◌+◌, ◌<◌, ◌≤◌, List, [], ◌∷◌, length, get_or, set, refl, ap, subst, arith}
 use Rattle.std.specs.Prelude.{All}
 use Rattle.run_states.specs.declared.answer.Other.{Other}
 use Rattle.run_states.specs.declared.row.RunRow.{RunRow}

@@ -1,5 +1,5 @@
 -- What keeps the rules of a row: time that passes, settling, each step of its life, and each fact.
-use Rattle.std.proofs.Common.{◌≡◌, ℕ, zero, suc, ◌+◌, ◌≤◌, Bool, true, false, not, cond, ◌&&◌, nat_le, nat_lt, min, IsTrue, List, [], ◌∷◌, Option, Some, None, is_some, option_map, option_and_then, IfSome, IsSome, IsNone, length, All, get_or, refl, ap, subst, ◌∙◌, arith}
+use Rattle.std.proofs.Common.{◌≡◌, ℕ, zero, suc, ◌+◌, ◌≤◌, Bool, true, false, not, cond, ◌&&◌, nat_le, nat_lt, min, IsTrue, List, [], ◌∷◌, Option, Some, None, is_some, option_map, option_and_then, IfSome, IsSome, IsNone, All, get_or, refl, ap, subst, ◌∙◌, arith}
 use Rattle.std.proofs.lemmas.Bool.Decides.{nat_tests}
 use Rattle.std.proofs.lemmas.List.Elements.{All-map}
 use Rattle.ps_time.specs.Numbers.{grace, greatest_moment, hold}
@@ -23,7 +23,7 @@ use Rattle.run_states.specs.declared.why.Cause.TheVariants.{Silent, HoldEnded}
 use Rattle.run_states.specs.declared.why.Closing.{Closing}
 use Rattle.run_states.specs.declared.why.Why.{Why}
 use Rattle.run_states.specs.declared.why.Why.TheVariants.{Missed, Nonstart}
-use Rattle.run_states.specs.Effect.{accept_row, change_at, change_other, confirmed_by, confirmed_complete, confirmed_if, is_acceptance, is_alone, is_complete, material_row, merge_row, noted_row, or_else, tried_row, with_answer}
+use Rattle.run_states.specs.Effect.{accept_row, change_at, change_other, confirmed_complete, confirmed_if, is_acceptance, is_alone, is_complete, material_row, merge_row, noted_row, or_else, tried_row, with_answer}
 use Rattle.run_states.specs.LawfulRow.{BringsAnswer, BringsHeard, BringsResults, CanNote, CanTake, HasArchives, HasOrigin, IsDueInTime, IsFreeAnswer, IsLawfulRow, IsOther, IsUpTo, IsWhy, Needs, Reserves}
 use Rattle.run_states.specs.Life.{first, close_row, closed_by, confirm_row, end_row, start_row, is_booked, lapse_asked, lapse_at, lapse_held, lapse_missed, lapse_of, marked_row, settled_row, settled_rows}
 use Rattle.run_states.specs.Rows.{change_row, find_row, IsAscendingRows}

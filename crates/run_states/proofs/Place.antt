@@ -1,12 +1,15 @@
 -- What a search finds among rows, and what an edit at that place does.
-use Rattle.std.proofs.Common.{◌≡◌, ℕ, zero, suc, ◌&&◌, ◌∷◌, [], All, Bool, List, not, length, get_or, set, Result, Ok, Err, IfOk, IfErr, IfSome, Option, Some, None, map, refl, sym, ap, subst, ◌∙◌, true, false, cond}
+use Rattle.std.proofs.Common.{◌≡◌, ℕ, zero, suc, ◌&&◌, ◌∷◌, [], All, Bool, List, not, length, get_or, set, IfSome, Option, Some, None, map, refl, sym, ap, subst, ◌∙◌, true, false, cond, ◌≢◌, ◌⊎◌, inl, inr, ◌<◌, ◌≤◌, ap₂, arith}
+use Rattle.std.proofs.lemmas.Bool.{cases_eq, cases_lt}
+use Rattle.std.proofs.lemmas.List.{get_or_default}
 use Rattle.std.proofs.lemmas.List.Elements.{recursion_from_All, All-from_recursion}
 use Rattle.std.specs.Cmp.{Equal-is}
 use Rattle.std.specs.List.{AllByRecursion}
-use Rattle.std.specs.Ordering.{is_eq, ordering_reverse}
-use Rattle.std.specs.declared.cmp.Ordering.TheVariants.{Less}
+use Rattle.std.specs.Ordering.{is_eq, is_lt, ordering_reverse}
+use Rattle.std.specs.declared.cmp.Ordering.{Ordering}
+use Rattle.std.specs.declared.cmp.Ordering.TheVariants.{Less, Equal, Greater}
 use Rattle.std.specs.List.{insert, remove}
-use Rattle.std.specs.List.Sorted.{IsSearchInRange, IsBinarySearchResult}
+use Rattle.std.specs.List.Sorted.{IsPartitionedBy, IsPartitionPoint}
 use Rattle.ps_time.specs.declared.key.RunKey.{RunKey}
 use Rattle.run_states.specs.declared.row.RunRow.{RunRow}
 use Rattle.run_states.specs.declared.why.Closing.{Closing}
@@ -23,13 +26,70 @@ use Rattle.run_states.specs.declared.fact.Fact.TheVariants.{Planned, Answered, M
 use Rattle.run_states.specs.Effect.{accept_row, change_other, confirmed_complete, confirmed_if, is_acceptance, is_alone, is_complete, noted_row, with_answer}
 use Rattle.run_states.specs.Life.{is_booked, close_row, closed_by, lapse_of, marked_row, settled_row}
 use Rattle.ps_time.proofs.KeyLemmas.{key_cmp_same, key_cmp_total, same_key}
-use Rattle.ps_time.proofs.SortedLemmas.{searchable, find_in_gap, insert_in_gap, find_at, without_at, without_in_gap, ascending-without, ascending-insert, ascending-map, set_changes, ascending-change, change_in_gap, insert-without}
-use Rattle.run_states.specs.Rows.{find_row, put_row, lift_row, change_row, IsAscendingRows, IsPlaceOf, IsGapFor}
+use Rattle.ps_time.proofs.SortedLemmas.{ascending_at, find_in_gap, insert_in_gap, find_at, without_at, without_in_gap, ascending-without, ascending-insert, ascending-map, set_changes, ascending-change, change_in_gap, insert-without}
+use Rattle.run_states.specs.Rows.{find_row, put_row, lift_row, change_row, is_below, IsAscendingRows, IsPlaceOf, IsGapFor}
+
+is_Less : (o : Ordering) → is_lt o ≡ true → o ≡ Less
+is_Less Less is = refl
+is_Less Equal is = cc
+is_Less Greater is = cc
 
 module _ (rows : List RunRow) (up : IsAscendingRows rows) (k : RunKey) where
-  pub searched : (r : Result ℕ ℕ) → IsSearchInRange r (length rows) → IsBinarySearchResult (λ row. key_cmp row.key k) rows r → record { found : IfOk r (IsPlaceOf rows k); absent : IfErr r (IsGapFor rows k) }
-  searched (Ok at) within equal = record { found = record { within = within; same = equal }; absent = tt }
-  searched (Err at) within parted = record { found = tt; absent = record { within = within; parted = parted (searchable key_cmp_total (λ r. r.key) rows up k) } }
+  below_key : (a b : RunRow) → key_cmp a.key b.key ≡ Less → is_below k b ≡ true → is_below k a ≡ true
+  below_key a b lower below = ap is_lt (key_cmp_total.trans a.key b.key k lower (is_Less (key_cmp b.key k) below))
+
+  -- the rows below the key stand first
+  pub below_parted : IsPartitionedBy (is_below k) rows
+  below_parted i j d le lt below = go (cases_lt i j)
+    where
+      go : (i < j) ⊎ (j ≤ i) → is_below k (get_or rows i d) ≡ true
+      go (inl less) = below_key (get_or rows i d) (get_or rows j d) (ascending_at key_cmp_total (λ r. r.key) rows up i j d less lt) below
+      go (inr same) = let here : j ≡ i = omega (arith, le, same) in subst (λ n. is_below k (get_or rows n d) ≡ true) here below
+
+  -- where the row behind them has the key
+  pub place_found : (at : ℕ) (d : RunRow) → at < length rows → is_eq (key_cmp (get_or rows at d).key k) ≡ true → IsPlaceOf rows k at
+  place_found at d within same = record {
+    within = within;
+    same = λ e. is_Equal (key_cmp (get_or rows at e).key k) (ap (λ (r : RunRow). is_eq (key_cmp r.key k)) (get_or_default rows at e d within) ∙ same);
+  }
+    where
+      is_Equal : (o : Ordering) → is_eq o ≡ true → o ≡ Equal
+      is_Equal Less is = cc
+      is_Equal Equal is = refl
+      is_Equal Greater is = cc
+
+  -- and where it hasn't, or there is none
+  pub gap_found : (at : ℕ) → at ≤ length rows → IsPartitionPoint (λ r. is_below k r ≡ true) (λ r. is_below k r ≡ false) rows at
+      → (at < length rows → (d : RunRow) → is_eq (key_cmp (get_or rows at d).key k) ≡ false) → IsGapFor rows k at
+  gap_found at within part apart = record {
+    within = within;
+    parted = (λ i d low high. is_Less (key_cmp (get_or rows i d).key k) (part.0 i d low high), λ i d low high. above i d low high (key_cmp (get_or rows i d).key k) refl (cases_eq at i));
+  }
+    where
+      above : (i : ℕ) (d : RunRow) → at ≤ i → i < length rows → (o : Ordering) → key_cmp (get_or rows i d).key k ≡ o → (at ≡ i) ⊎ (at ≢ i) → o ≡ Greater
+      above i d low high Less is c = let wrong = sym (ap is_lt is) ∙ part.1 i d low high in cc
+      above i d low high Greater is c = refl
+      above i d low high Equal is (inl same) =
+          let wrong = sym (ap is_eq is) ∙ ap (λ n. is_eq (key_cmp (get_or rows n d).key k)) (sym same) ∙ apart (omega (arith, same, high)) d in cc
+      above i d low high Equal is (inr other) =
+          let lower = ascending_at key_cmp_total (λ r. r.key) rows up at i d (omega (arith, low, other)) high in
+          let below = subst (λ j. key_cmp (get_or rows at d).key j ≡ Less) (same_key (get_or rows i d).key k is) lower in
+          let wrong = sym (ap is_lt below) ∙ part.1 at d (omega arith) (omega (arith, low, high)) in cc
+
+  -- no two places have it
+  pub one_place : (i j : ℕ) (d : RunRow) → IsPlaceOf rows k i → IsPlaceOf rows k j → i ≡ j
+  one_place i j d first second = go (cases_lt i j) (cases_lt j i)
+    where
+      apart : (a b : ℕ) → IsPlaceOf rows k a → IsPlaceOf rows k b → a < b → ⊥
+      apart a b one other less =
+          let lower = ascending_at key_cmp_total (λ r. r.key) rows up a b d less other.within in
+          let same = ap₂ key_cmp (same_key (get_or rows a d).key k (one.same d)) (same_key (get_or rows b d).key k (other.same d)) ∙ key_cmp_same k in
+          cc (lower, same)
+
+      go : (i < j) ⊎ (j ≤ i) → (j < i) ⊎ (i ≤ j) → i ≡ j
+      go (inl less) c = absurd (apart i j first second less)
+      go (inr le) (inl less) = absurd (apart j i second first less)
+      go (inr le) (inr ge) = omega (arith, le, ge)
 
   pub find_place : (i : ℕ) (d : RunRow) → IsPlaceOf rows k i → find_row rows k ≡ Some (get_or rows i d)
   find_place i d place = find_at key_cmp_total (λ r. r.key) rows k i d up place.within (place.same d)

@@ -1,17 +1,16 @@
 -- The rows of one task stand side by side.
-use Rattle.std.proofs.Common.{◌≡◌, ℕ, zero, suc, ◌+◌, ◌-◌, take_all, length-drop, ◌<◌, ◌≤◌, ◌&&◌, ◌==◌, ◌||◌, nat_lt, max, cond, Bool, true, false, List, [], ◌∷◌, length, get_or, take, drop, filter, All, Option, Some, None, refl, sym, ap, ap₂, ◌∙◌, subst, drop-cons, arith}
+use Rattle.std.proofs.Common.{◌≡◌, ℕ, zero, suc, ◌-◌, take_all, length-drop, ◌<◌, ◌≤◌, ◌&&◌, ◌==◌, ◌||◌, nat_lt, max, cond, Bool, not, true, false, List, [], ◌∷◌, length, get_or, take, drop, filter, All, Option, Some, None, refl, sym, ap, ◌∙◌, subst, drop-cons, arith}
 use Rattle.std.proofs.lemmas.Bool.Decides.{nat_tests}
-use Rattle.std.specs.Cmp.{Equal-is}
 use Rattle.std.specs.List.{AllByRecursion, last_or, list_any, slice_get}
 use Rattle.std.specs.List.Sorted.{IsPartitionPoint, IsPartitionedBy}
 use Rattle.std.specs.declared.cmp.Ordering.TheVariants.{Less, Equal}
 use Rattle.ps_time.specs.Key.{key_cmp}
 use Rattle.ps_time.specs.declared.key.RunKey.{RunKey}
-use Rattle.ps_time.proofs.KeyLemmas.{key_cmp_same, key_cmp_total, same_key}
-use Rattle.ps_time.proofs.SortedLemmas.{ascending_at, below_all}
+use Rattle.ps_time.proofs.KeyLemmas.{key_cmp_total, same_key}
+use Rattle.ps_time.proofs.SortedLemmas.{ascending_at}
 use Rattle.run_states.specs.declared.row.RunRow.{RunRow}
 use Rattle.run_states.specs.Purging.{is_later}
-use Rattle.run_states.specs.Rows.{IsAscendingRows}
+use Rattle.run_states.specs.Rows.{IsAscendingRows, is_above}
 use Rattle.run_states.specs.TaskRows.{greatest_number, is_before_task, is_of_task, newest_row, number_of, rows_of_task}
 
 module _ (k : RunKey) where
@@ -180,3 +179,32 @@ last_at o x (y ∷ ys) = last_at (Some x) y ys
 pub last_get : {X : Type 0} (xs : List X) → slice_get xs (length xs - 1) ≡ last_or None xs
 last_get [] = refl
 last_get (x ∷ xs) = let last : length (x ∷ xs) - 1 ≡ length xs = omega arith in ap (slice_get (x ∷ xs)) last ∙ sym (last_at None x xs)
+
+-- ---- rows above a key
+module _ (key : RunKey) where
+  not_above : (a b : RunRow) → key_cmp a.key b.key ≡ Less → not (is_above key b) ≡ true → not (is_above key a) ≡ true
+  not_above a b below low = grind (arith, nat_tests)
+
+  pub above_parted : (rows : List RunRow) → IsAscendingRows rows → IsPartitionedBy (λ r. not (is_above key r)) rows
+  above_parted rows up i j d le lt low = go (nat_lt i j) refl
+    where
+      go : (b : Bool) → nat_lt i j ≡ b → not (is_above key (get_or rows i d)) ≡ true
+      go true less = not_above (get_or rows i d) (get_or rows j d) (ascending_at key_cmp_total (λ r. r.key) rows up i j d (grind (arith, nat_tests)) lt) low
+      go false same = let here : j ≡ i = grind (arith, nat_tests) in subst (λ k. not (is_above key (get_or rows k d)) ≡ true) here low
+
+  -- they are the last
+  pub above_part : (rows : List RunRow) (i : ℕ) → IsPartitionPoint (λ r. not (is_above key r) ≡ true) (λ r. not (is_above key r) ≡ false) rows i → filter (is_above key) rows ≡ drop i rows
+  above_part [] zero part = refl
+  above_part [] (suc i) part = refl
+  above_part (r ∷ rs) zero part =
+      rw (is_true (is_above key r) (part.1 0 r (omega arith) (omega arith))) (ap (λ l. r ∷ l) (above_part rs zero (λ j d low high. absurd (omega arith), λ j d low high. part.1 (suc j) d (omega arith) (omega arith))))
+    where
+      is_true : (b : Bool) → not b ≡ false → b ≡ true
+      is_true true is = refl
+      is_true false is = sym is
+  above_part (r ∷ rs) (suc i) part =
+      rw (is_false (is_above key r) (part.0 0 r (omega arith) (omega arith))) (above_part rs i (λ j d low high. part.0 (suc j) d (omega arith) (omega arith), λ j d low high. part.1 (suc j) d (omega arith) (omega arith)))
+    where
+      is_false : (b : Bool) → not b ≡ true → b ≡ false
+      is_false true is = sym is
+      is_false false is = refl

@@ -1,6 +1,6 @@
 -- What each fact does to a row. What is set once stays: `first` keeps it.
 use Rattle.std.specs.List.{list_all}
-use Rattle.std.specs.Prelude.{◌&&◌, ◌==◌, ◌∷◌, Bool, List, None, Option, Some, [], false, if◌then◌else◌, length, suc, true, zero, ℕ}
+use Rattle.std.specs.Prelude.{◌&&◌, ◌==◌, ◌∷◌, Bool, List, Option, Some, [], false, if◌then◌else◌, length, suc, true, zero, ℕ}
 use Rattle.ps_time.specs.Span.{Span}
 use Rattle.archive_retry.specs.declared.state.ArchiveState.{ArchiveState}
 use Rattle.run_states.specs.Life.{confirm_row, first, is_booked}

@@ -1,5 +1,6 @@
 -- The rows of a host, and the places that are reserved for more.
-use Rattle.std.specs.Prelude.{◌≡◌, ℕ, ◌<◌, ◌≤◌, List, Option, length, slice_index_or}
+use Rattle.std.specs.Prelude.{◌≡◌, ℕ, ◌<◌, ◌≤◌, Bool, List, None, Option, Some, filter, length, slice_index_or}
+use Rattle.std.specs.Ordering.{is_lt}
 use Rattle.std.specs.List.Sorted.{IsPartitionPoint}
 use Rattle.std.specs.declared.cmp.Ordering.TheVariants.{Less, Equal, Greater}
 use Rattle.ps_time.specs.declared.key.RunKey.{RunKey}
@@ -31,6 +32,19 @@ change_row f = change_key key_cmp (λ r. r.key) f
 -- each key is below those after it
 abbrev pub IsAscendingRows : List RunRow → Type 0
 IsAscendingRows = IsAscending key_cmp (λ r. r.key)
+
+-- the row is above the key
+abbrev pub is_above : RunKey → RunRow → Bool
+is_above key r = is_lt (key_cmp key r.key)
+
+-- the row is below the key
+abbrev pub is_below : RunKey → RunRow → Bool
+is_below key r = is_lt (key_cmp r.key key)
+
+-- those above a key; all of them where there is none
+abbrev pub rows_above : Option RunKey → List RunRow → List RunRow
+rows_above None rows = rows
+rows_above (Some key) rows = filter (is_above key) rows
 
 -- the row at place i has the key
 pub record IsPlaceOf (rows : List RunRow) (key : RunKey) (i : ℕ) : Type 0 where

@@ -5,6 +5,7 @@ pub mod answer;
 mod conflict;
 pub mod content;
 pub mod fact;
+pub mod lent;
 pub mod life;
 mod note;
 pub mod proposal;

@@ -8,12 +8,15 @@ ghost use Rattle.std.specs.List.Sorted.{IsPartitionPoint};
 ghost use Rattle.run_states.specs.TaskRows.{greatest_number, is_before_task, is_of_task, newest_row, number_of, rows_of_task};
 ghost use Rattle.run_states.specs.Purging.{is_later, is_purgeable_key};
 ghost use Rattle.run_states.specs.Life.{confirm_row, close_row, marked_row, settled_rows, HasMoments};
-ghost use Rattle.run_states.specs.Rows.{find_row, put_row, lift_row, change_row, IsAscendingRows, IsPlaceOf, IsGapFor};
+ghost use Rattle.run_states.specs.Rows.{find_row, put_row, lift_row, change_row, is_below, IsAscendingRows, IsPlaceOf, IsGapFor};
 
 use crate::fact::Fact;
+use crate::lent::LentRows;
 use crate::life::LifeStep;
 use crate::row::RunRow;
 use crate::why::Closing;
+use placed_list::lent::Lent;
+use placed_list::placed_list::PlacedList;
 use ps_time::items::Items;
 use ps_time::key::RunKey;
 use ps_time::memory::Memory;
@@ -21,21 +24,22 @@ use ps_time::moment::Moment;
 use std::alloc::Global;
 use std::marker::Model;
 
-/// Rows with different keys. Places for more can be reserved, so that putting rows takes no memory.
+/// Rows with different keys. Places for more can be reserved, so that putting rows takes no memory. A row stays in a cell of its
+/// own: where others come or go before it, only its number moves.
 #[derive(Drop)]
 pub struct Rows {
-    rows: Vec<RunRow>,
+    rows: PlacedList<RunRow>,
 }
 
 impl Model for Rows {
-    ghost use Rattle.std.specs.Prelude.{◌-◌, vec_len, vec_capacity};
+    ghost use Rattle.std.specs.Prelude.{◌-◌, length};
     ghost use Rattle.run_states.specs.Rows.{Rows as Table, IsAscendingRows};
 
     ghost Value = { Table };
 
-    ghost view = { λ t. record { list = t.rows.items; room = vec_capacity t.rows - vec_len t.rows } };
+    ghost view = { λ t. record { list = t.rows.list; room = t.rows.places - length t.rows.list } };
 
-    ghost invariant = { λ t. IsAscendingRows t.rows.items };
+    ghost invariant = { λ t. IsAscendingRows t.rows.list };
 }
 
 impl Rows {
@@ -44,18 +48,17 @@ impl Rows {
         ensures { result.list ≡ [] }
     {
         Rows {
-            rows: Vec::new(alloc),
+            rows: PlacedList::new(alloc),
         }
     }
 
-    /// These rows, where they are; nothing is copied, and no place is reserved anew.
-    pub fn of(rows: Items<RunRow>) -> Rows
+    /// These rows, where they are; none is copied. Takes memory for their order.
+    pub fn of(alloc: Global, rows: Items<RunRow>) -> Result<Rows, Memory>
         requires { IsAscendingRows rows }
-        ensures { result.list ≡ rows }
+        ensures { IfOk result (λ made. made.list ≡ rows) }
     {
-        Rows {
-            rows: rows.into_vec(),
-        }
+        let rows = PlacedList::of(alloc, rows.into_vec())?;
+        Ok(Rows { rows })
     }
 
     /// Makes room for so many more rows than there are now.
@@ -69,11 +72,26 @@ impl Rows {
     }
 
     /// All rows, ascending by key.
-    pub fn list(&self) -> &[RunRow]
-        ensures rows { result.now ≡ self.now.list }
+    pub fn in_order(&self) -> LentRows<'_>
+        ensures rows { result ≡ self.now.list }
         ensures ascending { IsAscendingRows self.now.list }
     {
-        self.rows.as_slice()
+        LentRows::of(self.rows.in_order())
+    }
+
+    /// How many rows there are.
+    pub fn len(&self) -> usize
+        ensures { result ≡ length self.now.list }
+    {
+        self.rows.len()
+    }
+
+    /// The rows of this lead's task with this serial, ascending by key. They stand side by side, and are
+    /// found by two searches.
+    pub fn task_rows(&self, lead: u16, serial: u32) -> LentRows<'_>
+        ensures { result ≡ rows_of_task lead serial self.now.list }
+    {
+        LentRows::of(task_rows(&self.rows.in_order(), lead, serial))
     }
 
     /// The row of the key, if there is one.
@@ -86,30 +104,22 @@ impl Rows {
         }
     }
 
-    /// The rows of this lead's task with this serial, ascending by key. They stand side by side, and are
-    /// found by two searches.
-    pub fn of_task(&self, lead: u16, serial: u32) -> &[RunRow]
-        ensures { result.now ≡ rows_of_task lead serial self.now.list }
-    {
-        task_rows(self.rows.as_slice(), lead, serial)
-    }
-
     /// The row of the task with the greatest number and attempt.
     pub fn newest_of_task(&self, lead: u16, serial: u32) -> Option<&RunRow>
         ensures { option_copied result ≡ newest_row lead serial self.now.list }
     {
-        self.of_task(lead, serial).last()
+        self.task_rows(lead, serial).greatest()
     }
 
     /// The greatest number of a run of the task; 0 where it has none.
     pub fn greatest_number(&self, lead: u16, serial: u32) -> u32
         ensures { result ≡ greatest_number lead serial self.now.list }
     {
-        let newest = task_rows(self.rows.as_slice(), lead, serial).last();
+        let newest = task_rows(&self.rows.in_order(), lead, serial).back();
         number_of(newest)
     }
 
-    /// Takes no memory.
+    /// Takes no memory. Where the row goes amid others, four bytes move for each one on the shorter side of it.
     pub fn put(&mut self, row: RunRow)
         requires room { 0 < self.old.room }
         requires new_key { find_row self.old.list row.key ≡ None }
@@ -118,12 +128,13 @@ impl Rows {
     {
         match self.search(row.key) {
             Ok(_) => unreachable!(),
-            Err(at) => self.rows.insert(at, row).unwrap(),
+            Err(at) => self.rows.insert(at, row),
         }
     }
 
     /// Takes the row out; its place stays reserved. Where it is put back changed, it comes into its place
-    /// again.
+    /// again. Four bytes move for each row on the shorter side of it, and the row in the last cell moves into
+    /// the one that is free now; that row's place is found by a search.
     pub fn lift(&mut self, key: RunKey) -> Option<RunRow>
         ensures row { result ≡ find_row self.old.list key }
         ensures rows { self.new.list ≡ lift_row self.old.list key }
@@ -132,7 +143,10 @@ impl Rows {
         ensures room { self.new.room ≡ self.old.room + (if is_some result then 1 else 0) }
     {
         match self.search(key) {
-            Ok(at) => Some(self.rows.remove(at)),
+            Ok(at) => {
+                let moved = place_of_moved(&self.rows);
+                Some(self.rows.remove(at, moved))
+            }
             Err(_) => None,
         }
     }
@@ -246,7 +260,8 @@ impl Rows {
     pub fn copy(&self, alloc: Global) -> Result<Rows, Memory>
         ensures { IfOk result (λ made. made.list ≡ self.now.list) }
     {
-        let rows = copy_all(alloc, &self.rows)?;
+        let rows = copy_all(alloc, self.rows.in_order())?;
+        let rows = PlacedList::of(alloc, rows)?;
         Ok(Rows { rows })
     }
 
@@ -255,7 +270,7 @@ impl Rows {
         ensures found { IfOk result (IsPlaceOf self.now.list key) }
         ensures absent { IfErr result (IsGapFor self.now.list key) }
     {
-        self.rows.binary_search_by_key(&key, |row| row.key)
+        place_of(&self.rows, key)
     }
 }
 
@@ -268,16 +283,54 @@ fn number_of(row: Option<&RunRow>) -> u32
     }
 }
 
-fn task_rows(rows: &[RunRow], lead: u16, serial: u32) -> &[RunRow]
-    requires { IsAscendingRows rows.now }
-    ensures { result.now ≡ rows_of_task lead serial rows.now }
+// Where the key is among the rows, or where it would go.
+fn place_of(rows: &PlacedList<RunRow>, key: RunKey) -> Result<usize, usize>
+    requires { IsAscendingRows rows.now.list }
+    ensures found { IfOk result (IsPlaceOf rows.now.list key) }
+    ensures absent { IfErr result (IsGapFor rows.now.list key) }
 {
-    let rest = &rows[before_task(rows, lead, serial)..];
-    &rest[..in_task(rest, lead, serial)]
+    let at = place_below(&rows.in_order(), key);
+    if at == rows.len() {
+        return Err(at);
+    }
+    if rows[at].key.order(&key).is_eq() {
+        Ok(at)
+    } else {
+        Err(at)
+    }
+}
+
+// The place of the row in the last cell, found by its key.
+fn place_of_moved(rows: &PlacedList<RunRow>) -> usize
+    requires ascending { IsAscendingRows rows.now.list }
+    requires some { 0 < length rows.now.list }
+    ensures { result ≡ rows.now.last }
+{
+    match place_of(rows, rows.last_cell().key) {
+        Ok(last) => last,
+        Err(_) => unreachable!(),
+    }
+}
+
+// How many rows are below the key.
+fn place_below(rows: &Lent<'_, RunRow>, key: RunKey) -> usize
+    requires { IsAscendingRows rows.now }
+    ensures within { result ≤ length rows.now }
+    ensures parted { IsPartitionPoint (λ r. is_below key r ≡ true) (λ r. is_below key r ≡ false) rows.now result }
+{
+    rows.partition_point(|row| row.key.order(&key).is_lt())
+}
+
+fn task_rows<'a>(rows: &Lent<'a, RunRow>, lead: u16, serial: u32) -> Lent<'a, RunRow>
+    requires { IsAscendingRows rows.now }
+    ensures { result ≡ rows_of_task lead serial rows.now }
+{
+    let rest = rows.from(before_task(rows, lead, serial));
+    rest.until(in_task(&rest, lead, serial))
 }
 
 // How many rows stand before those of the task.
-fn before_task(rows: &[RunRow], lead: u16, serial: u32) -> usize
+fn before_task(rows: &Lent<'_, RunRow>, lead: u16, serial: u32) -> usize
     requires { IsAscendingRows rows.now }
     ensures within { result ≤ length rows.now }
     ensures parted { IsPartitionPoint (λ r. is_before_task lead serial r ≡ true) (λ r. is_before_task lead serial r ≡ false) rows.now result }
@@ -286,7 +339,7 @@ fn before_task(rows: &[RunRow], lead: u16, serial: u32) -> usize
 }
 
 // How many of these rows, none of which stands before those of the task, are of it.
-fn in_task(rows: &[RunRow], lead: u16, serial: u32) -> usize
+fn in_task(rows: &Lent<'_, RunRow>, lead: u16, serial: u32) -> usize
     requires ascending { IsAscendingRows rows.now }
     requires none_before { All (λ r. is_before_task lead serial r ≡ false) rows.now }
     ensures within { result ≤ length rows.now }
@@ -295,17 +348,19 @@ fn in_task(rows: &[RunRow], lead: u16, serial: u32) -> usize
     rows.partition_point(|row| row.is_of_task(lead, serial))
 }
 
-fn settle_all(rows: &mut [RunRow], moment: Moment)
-    requires { All HasMoments rows.old }
-    ensures { rows.new ≡ settled_rows moment rows.old }
+fn settle_all(rows: &mut PlacedList<RunRow>, moment: Moment)
+    requires { All HasMoments rows.old.list }
+    ensures rows { rows.new.list ≡ settled_rows moment rows.old.list }
+    ensures places { rows.new.places ≡ rows.old.places }
 {
-    for row in rows.iter_mut() {
+    for at in 0..rows.len() {
+        let row = &mut rows[at];
         row.settle(moment);
     }
 }
 
-fn copy_all(alloc: Global, rows: &[RunRow]) -> Result<Vec<RunRow>, Memory>
-    ensures { IfOk result (λ made. made.items ≡ rows.now) }
+fn copy_all(alloc: Global, rows: Lent<'_, RunRow>) -> Result<Vec<RunRow>, Memory>
+    ensures { IfOk result (λ made. made.items ≡ rows.entry) }
 {
     let mut made = Vec::new(alloc);
     for row in rows {

@@ -195,7 +195,7 @@ fn an_asked_row_is_copied_and_takes_facts(rt: HostRuntime) -> Result<(), Memory>
 fn room(rt: HostRuntime) -> Result<(), Memory> {
     let mut rows = Rows::new(rt.alloc());
     rows.reserve(50_000)?;
-    assert!(rt; rows.list().is_empty());
+    assert!(rt; rows.len() == 0);
     assert!(rt; !rows.purge(KEY));
     Ok(())
 }

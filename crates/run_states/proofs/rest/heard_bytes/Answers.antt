@@ -1,4 +1,4 @@
-use Rattle.std.proofs.Common.{◌≡◌, ◌≤◌, length, arith}
+use Rattle.std.proofs.Common.{arith}
 use Rattle.run_states.specs.ResultBytes.{bytes_in, other_result}
 use Rattle.run_states.proofs.BytesLemmas.{count_end}
 use Rattle.run_states.proofs.rest.heard_bytes.Goals as goal

@@ -1,4 +1,4 @@
-use Rattle.std.proofs.Common.{◌≡◌, ◌+◌, ◌-◌, ◌<◌, ◌≤◌, length, get_or, set, sym, ap, ◌∙◌, arith}
+use Rattle.std.proofs.Common.{◌≡◌, ◌+◌, ◌-◌, ◌<◌, length, get_or, set, sym, ap, ◌∙◌, arith}
 use Rattle.run_states.specs.Effect.{with_answer}
 use Rattle.run_states.proofs.EffectLemmas.{other_beyond, other_lead, other_there}
 use Rattle.run_states.proofs.row.RunRow.hear.Goals.{else-at-gt0-via-then-at-gt0+else-at-len, else-at-gt0-via-else-at-gt0}

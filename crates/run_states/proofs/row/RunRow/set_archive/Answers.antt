@@ -1,4 +1,4 @@
-use Rattle.std.proofs.Common.{◌≡◌, ◌<◌, ◌≤◌, length, set, sym, ap, ◌∙◌, arith}
+use Rattle.std.proofs.Common.{◌<◌, ◌≤◌, length, set, sym, ap, ◌∙◌, arith}
 use Rattle.run_states.proofs.EffectLemmas.{change_past, change_set}
 use Rattle.run_states.proofs.row.RunRow.set_archive.Goals as goal
 

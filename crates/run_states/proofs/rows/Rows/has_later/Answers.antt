@@ -1,4 +1,4 @@
-use Rattle.std.proofs.Common.{◌≡◌, ◌<◌, ◌≤◌, ◌+◌, suc, length, sym, ap, subst, ◌∙◌, add-one, arith}
+use Rattle.std.proofs.Common.{◌≡◌, ◌<◌, ◌≤◌, suc, length, sym, ap, ◌∙◌, add-one, arith}
 use Rattle.std.specs.List.{list_any}
 use Rattle.run_states.specs.Purging.{is_later}
 use Rattle.run_states.specs.Rows.{Rows}
@@ -9,7 +9,7 @@ use Rattle.run_states.proofs.rows.Rows.has_later.Goals as goal
 -- the next row tells
 pub returns-then-len-at-gt1 : goal.returns-then-len-at-gt1
 returns-then-len-at-gt1 c =
-    let rows = c.self.inside.rows.items in
+    let rows = c.self.inside.rows.list in
     let seen : rows ≡ c.args.self.now.list = ap (λ (t : Rows). t.list) c.self.view_is in
     let d = c.index.result.now in
     let within : c.args.at < length rows = rw seen c.requires.within in
@@ -23,7 +23,7 @@ returns-then-len-at-gt1 c =
 -- there is none
 pub returns-else-len-at-gt1 : goal.returns-else-len-at-gt1
 returns-else-len-at-gt1 c =
-    let rows = c.self.inside.rows.items in
+    let rows = c.self.inside.rows.list in
     let seen : rows ≡ c.args.self.now.list = ap (λ (t : Rows). t.list) c.self.view_is in
     let within : c.args.at < length rows = rw seen c.requires.within in
     let last : length rows ≤ suc c.args.at = omega (arith, c.len.ensures, c.if-len-at-gt1.false) in

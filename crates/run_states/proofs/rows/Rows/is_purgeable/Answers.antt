@@ -1,4 +1,4 @@
-use Rattle.std.proofs.Common.{◌≡◌, ◌&&◌, ◌||◌, Bool, true, false, not, Some, None, refl, sym, ap, ◌∙◌, nat_eq, arith}
+use Rattle.std.proofs.Common.{◌≡◌, ◌&&◌, ◌||◌, Bool, true, false, not, Some, refl, sym, ap, ◌∙◌, nat_eq, arith}
 use Rattle.std.proofs.lemmas.Bool.Decides.{nat_tests}
 use Rattle.std.specs.List.{list_any}
 use Rattle.ps_time.specs.Key.{key_cmp}
@@ -34,8 +34,8 @@ led x false later fails is = cc
 
 pub returns-then-row-host : goal.returns-then-row-host
 returns-then-row-host c =
-    let seen : c.self.inside.rows.items ≡ c.args.self.now.list = ap (λ (t : Rows). t.list) c.self.view_is in
-    let place : IsPlaceOf c.self.inside.rows.items c.args.key c.in-Ok.at = rw seen c.in-Ok.ensures.found in
+    let seen : c.self.inside.rows.list ≡ c.args.self.now.list = ap (λ (t : Rows). t.list) c.self.view_is in
+    let place : IsPlaceOf c.self.inside.rows.list c.args.key c.in-Ok.at = rw seen c.in-Ok.ensures.found in
     let r = c.index-row.result.now in
     let found : Some r ≡ find_row c.args.self.now.list c.args.key = rw (← seen, find_place _ c.self.invariant _ _ r place) (ap Some c.index-row.ensures) in
     let past = sym c.is_long_past.ensures ∙ c.if-is_long_past.true in
@@ -44,8 +44,8 @@ returns-then-row-host c =
 
 pub returns-then-is_archived : goal.returns-then-is_archived
 returns-then-is_archived c =
-    let seen : c.self.inside.rows.items ≡ c.args.self.now.list = ap (λ (t : Rows). t.list) c.self.view_is in
-    let place : IsPlaceOf c.self.inside.rows.items c.args.key c.in-Ok.at = rw seen c.in-Ok.ensures.found in
+    let seen : c.self.inside.rows.list ≡ c.args.self.now.list = ap (λ (t : Rows). t.list) c.self.view_is in
+    let place : IsPlaceOf c.self.inside.rows.list c.args.key c.in-Ok.at = rw seen c.in-Ok.ensures.found in
     let r = c.index-row.result.now in
     let found : Some r ≡ find_row c.args.self.now.list c.args.key = rw (← seen, find_place _ c.self.invariant _ _ r place) (ap Some c.index-row.ensures) in
     let past = sym c.is_long_past.ensures ∙ c.if-is_long_past.true in
@@ -58,8 +58,8 @@ returns-then-is_archived c =
 
 pub returns-else-is_archived : goal.returns-else-is_archived
 returns-else-is_archived c =
-    let seen : c.self.inside.rows.items ≡ c.args.self.now.list = ap (λ (t : Rows). t.list) c.self.view_is in
-    let place : IsPlaceOf c.self.inside.rows.items c.args.key c.in-Ok.at = rw seen c.in-Ok.ensures.found in
+    let seen : c.self.inside.rows.list ≡ c.args.self.now.list = ap (λ (t : Rows). t.list) c.self.view_is in
+    let place : IsPlaceOf c.self.inside.rows.list c.args.key c.in-Ok.at = rw seen c.in-Ok.ensures.found in
     let r = c.index-row.result.now in
     let found : Some r ≡ find_row c.args.self.now.list c.args.key = rw (← seen, find_place _ c.self.invariant _ _ r place) (ap Some c.index-row.ensures) in
     let past = sym c.is_long_past.ensures ∙ c.if-is_long_past.true in
@@ -70,8 +70,8 @@ returns-else-is_archived c =
 
 pub returns-else-is_long_past : goal.returns-else-is_long_past
 returns-else-is_long_past c =
-    let seen : c.self.inside.rows.items ≡ c.args.self.now.list = ap (λ (t : Rows). t.list) c.self.view_is in
-    let place : IsPlaceOf c.self.inside.rows.items c.args.key c.in-Ok.at = rw seen c.in-Ok.ensures.found in
+    let seen : c.self.inside.rows.list ≡ c.args.self.now.list = ap (λ (t : Rows). t.list) c.self.view_is in
+    let place : IsPlaceOf c.self.inside.rows.list c.args.key c.in-Ok.at = rw seen c.in-Ok.ensures.found in
     let r = c.index-row.result.now in
     let found : Some r ≡ find_row c.args.self.now.list c.args.key = rw (← seen, find_place _ c.self.invariant _ _ r place) (ap Some c.index-row.ensures) in
     not_past c.is_long_past.result (is_long_past c.args.moment r) (not (nat_eq r.key.lead c.args.host) || is_led_out c.args.self.now.list r) c.is_long_past.ensures c.if-is_long_past.false ∙ ap (is_purgeable_row c.args.host c.args.moment c.args.self.now.list) found

@@ -6,21 +6,21 @@ use Rattle.run_states.proofs.rows.Rows.lift.Goals as goal
 -- the row at the place goes, and the order stays
 pub invariant_of-self : goal.invariant_of-self
 invariant_of-self c =
-    let seen : c.self.inside.rows.items ≡ c.args.self.now.list = ap (λ (t : Rows). t.list) c.self.view_is in
-    let place : IsPlaceOf c.self.inside.rows.items c.args.key c.in-Ok.at = rw seen c.in-Ok.ensures.found in
-    rw c.remove.ensures.items (ascending_lift _ c.self.invariant _ _ c.remove.result place)
+    let seen : c.self.inside.rows.list ≡ c.args.self.now.list = ap (λ (t : Rows). t.list) c.self.view_is in
+    let place : IsPlaceOf c.self.inside.rows.list c.args.key c.in-Ok.at = rw seen c.in-Ok.ensures.found in
+    rw c.remove.ensures.list (ascending_lift _ c.self.invariant _ _ c.remove.result place)
 
 pub returns-in-Ok-clause-row : goal.returns-in-Ok-clause-row
 returns-in-Ok-clause-row c =
-    let seen : c.self.inside.rows.items ≡ c.args.self.now.list = ap (λ (t : Rows). t.list) c.self.view_is in
-    let place : IsPlaceOf c.self.inside.rows.items c.args.key c.in-Ok.at = rw seen c.in-Ok.ensures.found in
+    let seen : c.self.inside.rows.list ≡ c.args.self.now.list = ap (λ (t : Rows). t.list) c.self.view_is in
+    let place : IsPlaceOf c.self.inside.rows.list c.args.key c.in-Ok.at = rw seen c.in-Ok.ensures.found in
     rw (← seen, find_place _ c.self.invariant _ _ c.remove.result place) (ap Some c.remove.ensures.value)
 
 pub returns-in-Ok-clause-rows : goal.returns-in-Ok-clause-rows
 returns-in-Ok-clause-rows c =
-    let seen : c.self.inside.rows.items ≡ c.args.self.now.list = ap (λ (t : Rows). t.list) c.self.view_is in
-    let place : IsPlaceOf c.self.inside.rows.items c.args.key c.in-Ok.at = rw seen c.in-Ok.ensures.found in
-    rw (← seen, lift_place _ c.self.invariant _ _ c.remove.result place) c.remove.ensures.items
+    let seen : c.self.inside.rows.list ≡ c.args.self.now.list = ap (λ (t : Rows). t.list) c.self.view_is in
+    let place : IsPlaceOf c.self.inside.rows.list c.args.key c.in-Ok.at = rw seen c.in-Ok.ensures.found in
+    rw (← seen, lift_place _ c.self.invariant _ _ c.remove.result place) c.remove.ensures.list
 
 -- no row has the key
 pub returns-in-Err-clause-row : goal.returns-in-Err-clause-row

@@ -9,15 +9,15 @@ use Rattle.run_states.proofs.rows.Rows.note.Goals as goal
 -- the row at the place is changed, and keeps its key
 pub invariant_of-self : goal.invariant_of-self
 invariant_of-self c =
-    let seen : c.self.inside.rows.items ≡ c.args.self.now.list = ap (λ (t : Rows). t.list) c.self.view_is in
-    let place : IsPlaceOf c.self.inside.rows.items c.args.key c.in-Ok.at = rw seen c.in-Ok.ensures.found in
+    let seen : c.self.inside.rows.list ≡ c.args.self.now.list = ap (λ (t : Rows). t.list) c.self.view_is in
+    let place : IsPlaceOf c.self.inside.rows.list c.args.key c.in-Ok.at = rw seen c.in-Ok.ensures.found in
     rw (c.note.ensures, c.index_mut-row.ensures.value, change_place (noted_row c.args.fact c.args.moment) _ _ c.self.invariant _ c.index_mut-row.result.now place)
     (ascending_change (noted_row c.args.fact c.args.moment) _ _ (λ r. noted_key c.args.fact c.args.moment r) c.self.invariant)
 
 pub returns-in-Ok-clause-rows : goal.returns-in-Ok-clause-rows
 returns-in-Ok-clause-rows c =
-    let seen : c.self.inside.rows.items ≡ c.args.self.now.list = ap (λ (t : Rows). t.list) c.self.view_is in
-    let place : IsPlaceOf c.self.inside.rows.items c.args.key c.in-Ok.at = rw seen c.in-Ok.ensures.found in
+    let seen : c.self.inside.rows.list ≡ c.args.self.now.list = ap (λ (t : Rows). t.list) c.self.view_is in
+    let place : IsPlaceOf c.self.inside.rows.list c.args.key c.in-Ok.at = rw seen c.in-Ok.ensures.found in
     rw (← seen, c.note.ensures, c.index_mut-row.ensures.value) (change_place (noted_row c.args.fact c.args.moment) _ _ c.self.invariant _ c.index_mut-row.result.now place)
 
 pub returns-in-Err-clause-rows : goal.returns-in-Err-clause-rows
