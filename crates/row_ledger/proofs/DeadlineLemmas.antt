@@ -1,23 +1,25 @@
 -- Deadlines in order: what a search finds, which are there as one comes or goes, and which have come.
-use Rattle.std.proofs.Common.{◌≡◌, ◌+◌, ◌<◌, ◌≤◌, ◌==◌, ◌||◌, ◌∙◌, ℕ, suc, Bool, true, false, cond, not, List, [], ◌∷◌, length, drop, get_or, nat_le, Option, Some, None, IfSome, Result, Ok, Err, IfOk, IfErr, refl, ap, ap₂, sym, subst, drop-cons, add-one, arith, rules}
+use Rattle.std.proofs.Common.{◌≡◌, ◌+◌, ◌<◌, ◌≤◌, ◌==◌, ◌||◌, ◌∙◌, ◌⊎◌, inl, inr, ℕ, suc, Bool, true, false, cond, not, List, [], ◌∷◌, length, drop, get_or, nat_le, Option, Some, None, IfSome, refl, ap, ap₂, sym, subst, drop-cons, add-one, arith, rules}
 use Rattle.std.proofs.Math.Bool.{or-true}
 use Rattle.std.proofs.Math.ListN.{drop_of_length-le}
+use Rattle.std.proofs.lemmas.Bool.{cases_lt}
 use Rattle.std.proofs.lemmas.Bool.Decides.{nat_tests}
 use Rattle.std.proofs.lemmas.Cmp.{tied_itself}
+use Rattle.std.proofs.lemmas.List.{get_or_default}
 use Rattle.std.specs.Cmp.{Equal-is, IsTotalOrder}
 use Rattle.std.specs.Cmp.Rules.{comparing}
 use Rattle.std.specs.List.{list_any, insert, remove, AllByRecursion}
-use Rattle.std.specs.List.Sorted.{IsSearchInRange, IsBinarySearchResult}
+use Rattle.std.specs.List.Sorted.{IsPartitionedBy, IsPartitionPoint}
 use Rattle.std.specs.Option.{option_eq}
-use Rattle.std.specs.Ordering.{is_eq, match_ordering, nat_cmp, ordering_then}
+use Rattle.std.specs.Ordering.{is_eq, is_lt, match_ordering, nat_cmp, ordering_then}
 use Rattle.std.specs.declared.cmp.Ordering.{Ordering}
 use Rattle.std.specs.declared.cmp.Ordering.TheVariants.{Less, Equal, Greater}
 use Rattle.ps_time.specs.Key.{key_cmp}
 use Rattle.ps_time.specs.Sorted.{replace_key}
 use Rattle.ps_time.specs.declared.key.RunKey.{RunKey}
 use Rattle.ps_time.proofs.KeyLemmas.{key_cmp_same, same_key}
-use Rattle.ps_time.proofs.SortedLemmas.{searchable, find_in_gap, insert_in_gap, insert-without, find_at, without_at, without_in_gap, ascending-without, ascending-insert}
-use Rattle.row_ledger.specs.Deadlines.{deadline_cmp, drop_deadline, due_keys, filed, has_deadline, is_among, lifted, one_if, refiled, with_deadline, IsAscendingDeadlines, IsGapFor, IsPlaceOf}
+use Rattle.ps_time.proofs.SortedLemmas.{ascending_at, find_in_gap, insert_in_gap, insert-without, find_at, without_at, without_in_gap, ascending-without, ascending-insert}
+use Rattle.row_ledger.specs.Deadlines.{deadline_cmp, drop_deadline, due_keys, filed, has_deadline, is_among, is_before, lifted, one_if, refiled, with_deadline, IsAscendingDeadlines, IsGapFor, IsPlaceOf}
 use Rattle.row_ledger.specs.declared.deadlines.Deadline.{Deadline}
 
 -- ---- the order
@@ -45,16 +47,51 @@ itself d = ap is_eq (tied_itself deadline_cmp_total d)
 abbrev own : Deadline → Deadline
 own d = d
 
+is_less : (o : Ordering) → is_lt o ≡ true → o ≡ Less
+is_less Less is = refl
+is_less Equal is = cc
+is_less Greater is = cc
+
+-- so many stand before the deadline
+abbrev pub Parts : List Deadline → Deadline → ℕ → Type 0
+Parts ds d at = IsPartitionPoint (λ e. is_before d e ≡ true) (λ e. is_before d e ≡ false) ds at
+
 module _ (ds : List Deadline) (up : IsAscendingDeadlines ds) (d : Deadline) where
-  pub searched : (r : Result ℕ ℕ) → IsSearchInRange r (length ds) → IsBinarySearchResult (λ e. deadline_cmp e d) ds r → record { found : IfOk r (IsPlaceOf ds d); absent : IfErr r (IsGapFor ds d) }
-  searched (Ok at) within equal = record { found = record { within = within; same = equal }; absent = tt }
-  searched (Err at) within parted = record { found = tt; absent = record { within = within; parted = parted (searchable deadline_cmp_total own ds up d) } }
+  pub before_parted : IsPartitionedBy (is_before d) ds
+  before_parted i j e le within before = go (cases_lt i j)
+    where
+      go : (i < j) ⊎ (j ≤ i) → is_before d (get_or ds i e) ≡ true
+      go (inl less) =
+          ap is_lt (deadline_cmp_total.trans (get_or ds i e) (get_or ds j e) d (ascending_at deadline_cmp_total own ds up i j e less within) (is_less (deadline_cmp (get_or ds j e) d) before))
+      go (inr same) = subst (λ n. is_before d (get_or ds n e) ≡ true) (omega (arith, le, same)) before
+
+  -- one that equals it is the first that doesn't stand before it
+  pub parted_at : (at i : ℕ) (e : Deadline) → Parts ds d at → i < length ds → deadline_cmp (get_or ds i e) d ≡ Equal → at ≡ i
+  parted_at at i e parts within same = go (cases_lt i at) (cases_lt at i)
+    where
+      go : (i < at) ⊎ (at ≤ i) → (at < i) ⊎ (i ≤ at) → at ≡ i
+      go (inl less) c = let wrong = sym (ap is_lt same) ∙ parts.0 i e (omega arith) less in cc
+      go (inr le) (inl less) =
+          let below = ascending_at deadline_cmp_total own ds up at i e less within in
+          let before = subst (λ x. deadline_cmp (get_or ds at e) x ≡ Less) (same_deadline (get_or ds i e) d same) below in
+          let wrong = sym (ap is_lt before) ∙ parts.1 at e (omega arith) (omega (arith, less, within)) in cc
+      go (inr le) (inr ge) = omega (arith, le, ge)
+
+  pub gap_found : (at : ℕ) → at ≤ length ds → Parts ds d at → (at < length ds → (e : Deadline) → is_eq (deadline_cmp (get_or ds at e) d) ≡ false) → IsGapFor ds d at
+  gap_found at within parts other = record {
+    within = within;
+    parted = (λ i e low high. is_less (deadline_cmp (get_or ds i e) d) (parts.0 i e low high), λ i e low high. above i e high (parts.1 i e low high) (deadline_cmp (get_or ds i e) d) refl);
+  }
+    where
+      above : (i : ℕ) (e : Deadline) → i < length ds → is_before d (get_or ds i e) ≡ false → (o : Ordering) → deadline_cmp (get_or ds i e) d ≡ o → o ≡ Greater
+      above i e high late Less is = let wrong = sym (ap is_lt is) ∙ late in cc
+      above i e high late Equal is =
+          let here : at ≡ i = parted_at at i e parts high is in
+          let wrong = sym (ap (λ n. is_eq (deadline_cmp (get_or ds n e) d)) here ∙ ap is_eq is) ∙ other (omega (arith, here, high)) e in cc
+      above i e high late Greater is = refl
 
   pub drop_place : (i : ℕ) → IsPlaceOf ds d i → drop_deadline ds d ≡ remove ds i
   drop_place i place = without_at deadline_cmp_total own ds d i d up place.within (place.same d)
-
-  pub ascending_drop : (i : ℕ) → IsPlaceOf ds d i → IsAscendingDeadlines (remove ds i)
-  ascending_drop i place = rw (← drop_place i place) (ascending-without deadline_cmp_total own ds d up)
 
   replaced : (es : List Deadline) → replace_key deadline_cmp own es d d ≡ es
   replaced [] = refl
@@ -77,9 +114,11 @@ put_gap ds d i gap = ap (λ l. with_deadline l d) (drop_gap ds d i gap) ∙ inse
 pub ascending_put : (ds : List Deadline) (d : Deadline) (i : ℕ) → IsAscendingDeadlines ds → IsGapFor ds d i → IsAscendingDeadlines (insert ds i d)
 ascending_put ds d i up gap = rw (← insert_in_gap deadline_cmp_total own ds d i gap.within gap.parted) (ascending-insert deadline_cmp_total own ds d up (find_in_gap deadline_cmp_total own ds d i gap.parted))
 
-pub ascending_rest : (ds : List Deadline) → IsAscendingDeadlines ds → IsAscendingDeadlines (drop 1 ds)
-ascending_rest [] up = tt
-ascending_rest (d ∷ ds) up = up.1
+pub ascending_remove : (ds : List Deadline) (i : ℕ) (d : Deadline) → IsAscendingDeadlines ds → i < length ds → IsAscendingDeadlines (remove ds i)
+ascending_remove ds i d up within =
+    let e = get_or ds i d in
+    let place : IsPlaceOf ds e i = record { within = within; same = λ x. ap (λ y. deadline_cmp y e) (get_or_default ds i x d within) ∙ tied_itself deadline_cmp_total e } in
+    rw (← drop_place ds up e i place) (ascending-without deadline_cmp_total own ds e up)
 
 -- ---- which are there
 pub swap : (a b c : Bool) → (a || (b || c)) ≡ (b || (a || c))

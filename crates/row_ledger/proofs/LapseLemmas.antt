@@ -1,12 +1,11 @@
 -- When a row lapses, and what settles as rows close.
-use Rattle.std.proofs.Common.{◌≡◌, ℕ, ◌≤◌, ◌<◌, ◌+◌, Bool, true, false, cond, List, [], ◌∷◌, Option, Some, None, option_and_then, All, suc, length, get_or, drop, nat_le, nat_lt, min, refl, ap, ap₂, sym, subst, ◌∙◌, add-one, arith}
+use Rattle.std.proofs.Common.{◌≡◌, ℕ, ◌≤◌, ◌<◌, ◌+◌, Bool, true, false, cond, List, [], ◌∷◌, Option, Some, None, option_and_then, All, nat_le, nat_lt, min, refl, ap, ap₂, sym, ◌∙◌, arith}
 use Rattle.std.specs.Ordering.{is_eq}
 use Rattle.ps_time.specs.Key.{key_cmp}
 use Rattle.ps_time.specs.declared.key.RunKey.{RunKey}
 use Rattle.std.proofs.lemmas.Bool.Decides.{nat_tests}
-use Rattle.std.proofs.lemmas.List.Elements.{recursion_from_All, All-from_recursion}
+use Rattle.std.proofs.lemmas.List.Elements.{recursion_from_All}
 use Rattle.std.specs.List.{AllByRecursion}
-use Rattle.std.proofs.Math.Seq.{drop-cons}
 use Rattle.ps_time.specs.Span.{Span}
 use Rattle.run_states.specs.declared.row.RunRow.{RunRow}
 use Rattle.run_states.specs.declared.why.Closing.{Closing}
@@ -157,12 +156,6 @@ settled_at m c k rows up lapses = go (find_row rows k) refl lapses
     go : (o : Option RunRow) → find_row rows k ≡ o → option_and_then (lapse_of m) o ≡ Some c → settled_rows m (change_row (close_row c) rows k) ≡ settled_rows m rows
     go None at e = cc
     go (Some r) at e = settled_closed m c k r rows up at e
-
--- ---- what holds of the rows that are left ----
-pub all_left : (P : RunRow → Type 0) (rows : List RunRow) (i : ℕ) (r : RunRow) → i < length rows → r ≡ get_or rows i r → P r → All P (drop (i + 1) rows) → All P (drop i rows)
-all_left P rows i r within is here rest =
-    let left : drop i rows ≡ r ∷ drop (suc i) rows = drop-cons rows i r within ∙ ap (λ x. x ∷ drop (suc i) rows) (sym is) in
-    subst (All P) (sym left) (All-from_recursion P (r ∷ drop (suc i) rows) (here, recursion_from_All P (drop (suc i) rows) (subst (λ n. All P (drop n rows)) (add-one i) rest)))
 
 -- ---- closing ----
 pub moments_closed : (c : Closing) (r : RunRow) → HasMoments r → HasMoments (close_row c r)

@@ -2,7 +2,7 @@
 use Rattle.std.specs.Ordering.{is_eq, match_ordering}
 use Rattle.std.specs.declared.cmp.Ordering.{Ordering}
 use Rattle.std.specs.declared.cmp.Ordering.TheVariants.{Less, Equal, Greater}
-use Rattle.std.proofs.Common.{◌≡◌, ℕ, ◌≤◌, ◌<◌, Bool, true, false, not, cond, ◌||◌, List, [], ◌∷◌, length, get_or, Option, Some, None, IfSome, All, refl, ap, ap₂, sym, subst, ◌∙◌, arith}
+use Rattle.std.proofs.Common.{◌≡◌, ℕ, ◌≤◌, Bool, true, false, not, cond, ◌||◌, List, [], ◌∷◌, get_or, Option, Some, None, IfSome, All, refl, ap, ap₂, sym, subst, ◌∙◌, arith}
 use Rattle.std.proofs.Math.Bool.{or-true}
 use Rattle.std.proofs.lemmas.List.Elements.{All-filter, All-from_recursion, All-weaker}
 use Rattle.ps_time.specs.Key.{key_cmp}
@@ -32,11 +32,6 @@ all_found rows up = All-from_recursion (λ x. find_row rows x.key ≡ Some x) ro
 -- each row is found by its own key
 pub own_key : (rows : List RunRow) (k : RunKey) (r : RunRow) → find_row rows k ≡ Some r → find_row rows r.key ≡ Some r
 own_key rows k r at = ap (λ j. find_row rows j) (key_is r.key k (found_is k rows r at)) ∙ at
-
-pub found_at : (rows items : List RunRow) → items ≡ rows → IsAscendingRows rows → (i : ℕ) (r : RunRow) → i < length items → r ≡ get_or items i r → find_row rows r.key ≡ Some r
-found_at rows items same up i r lt is =
-    let all : All (λ x. find_row rows x.key ≡ Some x) items = subst (All (λ x. find_row rows x.key ≡ Some x)) (sym same) (all_found rows up) in
-    subst (λ x. find_row rows x.key ≡ Some x) (sym is) (all i r lt)
 
 -- ---- a row changes
 module _ (f : RunRow → RunRow) (same : (r : RunRow) → (f r).key ≡ r.key) where

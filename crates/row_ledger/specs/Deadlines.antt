@@ -2,7 +2,7 @@
 use Rattle.std.specs.List.{list_any}
 use Rattle.std.specs.List.Sorted.{IsPartitionPoint}
 use Rattle.std.specs.Option.{option_eq}
-use Rattle.std.specs.Ordering.{is_eq, nat_cmp, on, then_cmp}
+use Rattle.std.specs.Ordering.{is_eq, is_lt, nat_cmp, on, then_cmp}
 use Rattle.std.specs.Prelude.{◌==◌, ◌≡◌, ◌<◌, ◌≤◌, All, Bool, IfSome, List, None, Option, Some, [], ◌∷◌, if◌then◌else◌, is_some, length, map, nat_le, option_and_then, option_map, slice_index_or, sum, true, ℕ}
 use Rattle.std.specs.declared.cmp.Ordering.{Ordering}
 use Rattle.std.specs.declared.cmp.Ordering.TheVariants.{Less, Equal, Greater}
@@ -21,6 +21,10 @@ pub record Deadlines : Type 0 where
 -- the earlier moment first, then the lesser key
 abbrev pub deadline_cmp : Deadline → Deadline → Ordering
 deadline_cmp = then_cmp (on (λ d. d.moment) nat_cmp) (on (λ d. d.key) key_cmp)
+
+-- e stands before d
+abbrev pub is_before : Deadline → Deadline → Bool
+is_before d e = is_lt (deadline_cmp e d)
 
 -- the deadlines with one more, in its place
 abbrev pub with_deadline : List Deadline → Deadline → List Deadline

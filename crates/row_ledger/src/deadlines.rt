@@ -1,9 +1,12 @@
 //! The moments from which rows lapse, in order, so that those which have come are found first.
-ghost use Rattle.std.specs.Prelude.{◌≡◌, ◌≤◌, ◌<◌, ◌+◌, [], All, IfErr, IfOk, IfSome, OnOk, drop, length, option_and_then};
+ghost use Rattle.std.specs.Prelude.{◌≡◌, ◌≤◌, ◌<◌, ◌+◌, [], All, IfErr, IfOk, IfSome, OnOk, drop, false, length, option_and_then, true};
+ghost use Rattle.std.specs.List.{remove};
+ghost use Rattle.std.specs.List.Sorted.{IsPartitionPoint};
 ghost use Rattle.run_states.specs.Life.{lapse_of, HasMoments};
 ghost use Rattle.run_states.specs.Rows.{find_row, IsAscendingRows};
-ghost use Rattle.row_ledger.specs.Deadlines.{deadline_at, deadline_of, due_keys, filed, key_then, lifted, refiled, waiting, IsAscendingDeadlines, IsGapFor, IsPlaceOf, Waits};
+ghost use Rattle.row_ledger.specs.Deadlines.{deadline_at, deadline_of, due_keys, filed, is_before, key_then, lifted, refiled, waiting, IsAscendingDeadlines, IsGapFor, IsPlaceOf, Waits};
 
+use placed_list::placed_list::PlacedList;
 use ps_time::key::RunKey;
 use ps_time::memory::Memory;
 use ps_time::moment::Moment;
@@ -11,7 +14,6 @@ use run_states::row::RunRow;
 use run_states::rows::Rows;
 use run_states::why::Closing;
 use std::alloc::Global;
-use std::collections::VecDeque;
 use std::marker::Model;
 
 /// From when on the row of a key lapses.
@@ -23,22 +25,21 @@ pub struct Deadline {
     pub key: RunKey,
 }
 
-/// Different deadlines in ascending order, in places that were reserved. What comes or goes moves the shorter side of the others,
-/// so the first goes at no cost.
+/// Different deadlines in ascending order, in places that were reserved. Each stays in a cell of its own: where one comes or goes,
+/// four bytes move for each other one on the shorter side. Where one goes, another is found by a search and moves into its cell.
 #[derive(Drop)]
 pub struct Deadlines {
-    entries: VecDeque<Deadline>,
+    entries: PlacedList<Deadline>,
 }
 
 impl Model for Deadlines {
-    ghost use Rattle.std.specs.VecDeque.{deque_capacity};
     ghost use Rattle.row_ledger.specs.Deadlines.{Deadlines as Seen, IsAscendingDeadlines};
 
     ghost Value = { Seen };
 
-    ghost view = { λ d. record { list = d.entries.items; places = deque_capacity d.entries } };
+    ghost view = { λ d. record { list = d.entries.list; places = d.entries.places } };
 
-    ghost invariant = { λ d. IsAscendingDeadlines d.entries.items };
+    ghost invariant = { λ d. IsAscendingDeadlines d.entries.list };
 }
 
 impl Deadlines {
@@ -47,19 +48,18 @@ impl Deadlines {
         ensures { result.list ≡ [] }
     {
         Deadlines {
-            entries: VecDeque::new(alloc),
+            entries: PlacedList::new(alloc),
         }
     }
 
-    /// Makes so many places, those of the deadlines that are there among them.
+    /// Makes so many places, those of the deadlines that are there among them. Fails also where these are more than 2^32.
     pub(crate) fn reserve(&mut self, places: usize) -> Result<(), Memory>
         ensures same { self.new.list ≡ self.old.list }
         ensures never_less { self.old.places ≤ self.new.places }
         ensures ok { OnOk result (places ≤ self.new.places) }
     {
         self.entries
-            .reserve(places.saturating_sub(self.entries.len()))?;
-        Ok(())
+            .reserve(places.saturating_sub(self.entries.len()))
     }
 
     /// How many there are.
@@ -76,7 +76,10 @@ impl Deadlines {
         ensures walk { due_keys moment (drop place self.now.list) ≡ key_then result (due_keys moment (drop (place + 1) self.now.list)) }
         ensures ascending { IsAscendingDeadlines self.now.list }
     {
-        let deadline = self.entries.get(place)?;
+        if self.entries.len() <= place {
+            return None;
+        }
+        let deadline = self.entries[place];
         if deadline.moment <= moment {
             Some(deadline.key)
         } else {
@@ -89,14 +92,16 @@ impl Deadlines {
         ensures list { self.new.list ≡ drop 1 self.old.list }
         ensures places { self.new.places ≡ self.old.places }
     {
-        self.entries.pop_front();
+        if self.entries.len() != 0 {
+            self.take_out(0);
+        }
     }
 
     /// Puts the deadline that a row has after a change in place of the one that it had. Takes no memory.
     pub(crate) fn refile(&mut self, key: RunKey, before: Option<Moment>, after: Option<Moment>)
         requires { IfSome after (λ _. length (lifted key before self.old.list) < self.old.places) }
         ensures list { self.new.list ≡ refiled key before after self.old.list }
-        ensures places { self.old.places ≤ self.new.places }
+        ensures places { self.new.places ≡ self.old.places }
     {
         if before == after {
             return;
@@ -114,9 +119,7 @@ impl Deadlines {
             return;
         };
         match self.search(&Deadline { moment, key }) {
-            Ok(at) => {
-                self.entries.remove(at);
-            }
+            Ok(at) => self.take_out(at),
             Err(_) => {}
         }
     }
@@ -125,7 +128,7 @@ impl Deadlines {
     fn file(&mut self, key: RunKey, moment: Option<Moment>)
         requires { IfSome moment (λ _. length self.old.list < self.old.places) }
         ensures list { self.new.list ≡ filed key moment self.old.list }
-        ensures places { self.old.places ≤ self.new.places }
+        ensures places { self.new.places ≡ self.old.places }
     {
         let Some(moment) = moment else {
             return;
@@ -133,7 +136,7 @@ impl Deadlines {
         let deadline = Deadline { moment, key };
         match self.search(&deadline) {
             Ok(_) => {}
-            Err(at) => self.entries.insert(at, deadline).unwrap(),
+            Err(at) => self.entries.insert(at, deadline),
         }
     }
 
@@ -142,7 +145,36 @@ impl Deadlines {
         ensures found { IfOk result (IsPlaceOf self.now.list deadline.now) }
         ensures absent { IfErr result (IsGapFor self.now.list deadline.now) }
     {
-        self.entries.binary_search(deadline)
+        let at = self.count_before(deadline);
+        if at == self.entries.len() {
+            return Err(at);
+        }
+        if self.entries[at].cmp(deadline).is_eq() {
+            Ok(at)
+        } else {
+            Err(at)
+        }
+    }
+
+    // How many deadlines stand before it.
+    fn count_before(&self, deadline: &Deadline) -> usize
+        ensures within { result ≤ length self.now.list }
+        ensures parted { IsPartitionPoint (λ e. is_before deadline.now e ≡ true) (λ e. is_before deadline.now e ≡ false) self.now.list result }
+    {
+        self.entries
+            .in_order()
+            .partition_point(|entry| entry.cmp(deadline).is_lt())
+    }
+
+    // Takes the deadline at the place out.
+    fn take_out(&mut self, at: usize)
+        requires { at < length self.old.list }
+        ensures list { self.new.list ≡ remove self.old.list at }
+        ensures ascending { IsAscendingDeadlines self.old.list }
+        ensures places { self.new.places ≡ self.old.places }
+    {
+        let moved = self.count_before(self.entries.last_cell());
+        self.entries.remove(at, moved);
     }
 }
 
@@ -166,7 +198,7 @@ pub(crate) fn deadline_at(rows: &Rows, key: RunKey) -> Option<Moment>
     ensures value { result ≡ deadline_at (find_row rows.now.list key) }
     ensures ascending { IsAscendingRows rows.now.list }
 {
-    let _ = rows.list();
+    let _ = rows.in_order();
     match rows.find(key) {
         Some(row) => deadline_of(row),
         None => None,

@@ -1,5 +1,5 @@
-//! Rows, with the bytes of their results, the moments from which they lapse, the keys of those that aren't still, and a moment
-//! before which none of the others may go.
+//! Rows, with the bytes of their results, the moments from which they lapse, the keys of those that are live, and a moment before
+//! which none of the others may go.
 ghost use Rattle.std.specs.Prelude.{◌≡◌, ◌≤◌, ◌<◌, ◌+◌, ◌-◌, [], ◌∷◌, All, IfOk, IsFalse, OnOk, None, drop, length, min};
 ghost use Rattle.run_states.specs.Effect.{noted_row};
 ghost use Rattle.run_states.specs.LawfulRow.{BringsResult, BringsResults};
@@ -43,7 +43,7 @@ pub struct Ledger {
     deadlines: Deadlines,
     // of the host
     number: u16,
-    // the keys of the rows that aren't still, with a place for each row
+    // the keys of the rows that are live, with a place for each row
     live: LiveKeys,
     // no other row may go before this moment
     next_purge: Moment,
@@ -84,7 +84,8 @@ impl Ledger {
         }
     }
 
-    /// These rows, which ascend by key, for the host with this number, and places for no more.
+    /// These rows, which ascend by key, for the host with this number, and places for no more. Fails also where there are more than
+    /// 2^32 of them.
     pub fn restore(alloc: Global, number: u16, rows: Items<RunRow>) -> Result<Ledger, Memory>
         requires ascending { IsAscendingRows rows }
         requires moments { All HasMoments rows }
@@ -93,13 +94,13 @@ impl Ledger {
     {
         let mut live = LiveKeys::new(alloc);
         live.reserve(rows.len())?;
+        live.refill(rows.as_slice(), number);
         let mut deadlines = Deadlines::new(alloc);
         deadlines.reserve(rows.len())?;
-        let rows = Rows::of(rows);
-        let bytes = counted_bytes(rows.list())?;
-        file_each(&mut deadlines, rows.list());
+        file_each(&mut deadlines, rows.as_slice());
+        let bytes = counted_bytes(rows.as_slice())?;
+        let rows = Rows::of(alloc, rows)?;
         let next_purge = next_purge(&rows, number);
-        live.refill(rows.list(), number);
         Ok(Ledger {
             rows,
             bytes,
@@ -117,7 +118,7 @@ impl Ledger {
         ensures ascending { IsAscendingRows self.now.list }
         ensures moments { All HasMoments self.now.list }
     {
-        let _ = self.rows.list();
+        let _ = self.rows.in_order();
         &self.rows
     }
 
@@ -134,7 +135,7 @@ impl Ledger {
         ensures { IfOk result (λ keys. keys.list ≡ keys_live_by self.now.number moment self.now.list) }
     {
         let mut keys = self.live.copy(alloc)?;
-        let _ = self.rows.list();
+        let _ = self.rows.in_order();
         let _ = self.deadlines.len();
         add_called(&mut keys, &self.deadlines, &self.rows, moment)?;
         Ok(keys)
@@ -157,7 +158,7 @@ impl Ledger {
         self.bytes
     }
 
-    /// Makes room for so many more rows than there are now.
+    /// Makes room for so many more rows than there are now. Fails also where there would be more than 2^32 of them.
     pub fn reserve(&mut self, count: usize) -> Result<(), Memory>
         ensures number { self.new.number ≡ self.old.number }
         ensures same { self.new.list ≡ self.old.list }
@@ -165,7 +166,7 @@ impl Ledger {
         ensures ok { OnOk result (count ≤ self.new.room) }
     {
         self.rows.reserve(count)?;
-        let Some(places) = self.rows.list().len().checked_add(count) else {
+        let Some(places) = self.rows.len().checked_add(count) else {
             return Err(Memory);
         };
         self.live.reserve(places)?;
@@ -283,7 +284,7 @@ impl Ledger {
         ensures rows { self.new.list ≡ put_row self.old.list row }
         ensures room { self.old.room ≤ self.new.room + 1 }
     {
-        let _ = self.rows.list();
+        let _ = self.rows.in_order();
         let key = row.key;
         let older = newest_beside(&self.rows, key);
         self.rows.put(row);
@@ -348,7 +349,7 @@ fn bytes_at(rows: &Rows, key: RunKey) -> u64
     ensures value { result ≡ min (bytes_at (find_row rows.now.list key)) most_counted }
     ensures ascending { IsAscendingRows rows.now.list }
 {
-    let _ = rows.list();
+    let _ = rows.in_order();
     match rows.find(key) {
         Some(row) => row.result_bytes(),
         None => 0,

@@ -1,5 +1,5 @@
 //! The rows of a host's book with what is kept of them beside: how many bytes of results they have, when each of them may
-//! lapse, which of them aren't still, and when the first of the others may go.
+//! lapse, which of them are live, and when the first of the others may go.
 #![tactic(auto)]
 
 mod called;

@@ -16,7 +16,7 @@ pub(crate) fn next_purge(rows: &Rows, number: u16) -> Moment
     ensures { All (StaysUntil number rows.now.list result) rows.now.list }
 {
     let mut next = Moment::MAX;
-    for row in rows.list() {
+    for row in rows.in_order() {
         next = next.min(stays_until(rows, row, number));
     }
     next

@@ -1,10 +1,19 @@
-use Rattle.std.proofs.Common.{length, subst}
-use Rattle.std.specs.List.Sorted.{IsSearchInRange}
-use Rattle.row_ledger.proofs.DeadlineLemmas.{searched}
+use Rattle.std.proofs.Common.{◌≡◌, ◌∙◌, false, get_or, ap, subst, sym}
+use Rattle.std.proofs.lemmas.List.{get_or_default}
+use Rattle.std.specs.Ordering.{is_eq}
+use Rattle.row_ledger.specs.Deadlines.{deadline_cmp, Deadlines, IsAscendingDeadlines}
+use Rattle.row_ledger.proofs.DeadlineLemmas.{gap_found}
 use Rattle.row_ledger.proofs.deadlines.Deadlines.search.Goals as goal
 
-pub returns-clause-absent : goal.returns-clause-absent
-returns-clause-absent c =
-    let facts = c.binary_search.ensures in
-    let bound : IsSearchInRange c.binary_search.result (length c.self.inside.entries.items) = subst (IsSearchInRange c.binary_search.result) c.self.inside.entries.ok.0 facts.bound in
-    rw (← c.self.view_is) (searched c.self.inside.entries.items c.self.invariant c.args.deadline.now c.binary_search.result bound facts.position).absent
+-- the one behind those before it is another
+pub returns-else-is_eq-clause-absent : goal.returns-else-is_eq-clause-absent
+returns-else-is_eq-clause-absent c =
+    let ds = c.args.self.now.list in
+    let d = c.args.deadline.now in
+    let at = c.count_before-at.result in
+    let seen = ap (λ (t : Deadlines). t.list) c.self.view_is in
+    let up : IsAscendingDeadlines ds = subst IsAscendingDeadlines seen c.self.invariant in
+    let x = c.index.result.now in
+    let here : x ≡ get_or ds at x = subst (λ l. x ≡ get_or l at x) seen c.index.ensures in
+    let other : is_eq (deadline_cmp x d) ≡ false = ap is_eq (sym c.cmp.ensures) ∙ (sym c.is_eq.ensures ∙ c.if-is_eq.false) in
+    gap_found ds up d at c.count_before-at.ensures.within c.count_before-at.ensures.parted (λ within e. ap (λ y. is_eq (deadline_cmp y d)) (get_or_default ds at e x within ∙ sym here) ∙ other)

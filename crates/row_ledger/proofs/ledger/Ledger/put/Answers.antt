@@ -22,7 +22,7 @@ invariant_of-self c =
     let first = c.sooner-own.ensures.earlier in
     let second = c.sooner-self-inside.ensures.earlier in
     let none : find_row c.self.inside.rows.list c.args.row.key ≡ None = subst (λ (t : Ledger). find_row t.list c.args.row.key ≡ None) (sym c.self.view_is) c.requires.new_key in
-    let moves : Moves c.self.inside.deadlines.list c.self.inside.rows.list c.put.new.self.list c.args.row.key = subst (λ l. Moves c.self.inside.deadlines.list c.self.inside.rows.list l c.args.row.key) (sym c.put.ensures.rows) (moves_put c.self.inside.deadlines.list c.self.inside.rows.list c.args.row c.list.ensures.ascending none c.self.invariant.filed.waits) in
+    let moves : Moves c.self.inside.deadlines.list c.self.inside.rows.list c.put.new.self.list c.args.row.key = subst (λ l. Moves c.self.inside.deadlines.list c.self.inside.rows.list l c.args.row.key) (sym c.put.ensures.rows) (moves_put c.self.inside.deadlines.list c.self.inside.rows.list c.args.row c.in_order.ensures.ascending none c.self.invariant.filed.waits) in
     record {
       counted =
           subst (λ l. IsCounted l c.self.inside.bytes) (sym c.put.ensures.rows)
@@ -34,7 +34,7 @@ invariant_of-self c =
       places = omega (arith, many, places, room, some);
       stay =
           subst (λ l. All (StaysUntil n l next) l) (sym c.put.ensures.rows)
-          (stays_put n c.self.inside.rows.list c.args.row c.self.inside.next_purge next c.list.ensures.ascending none (omega (arith, first, second))
+          (stays_put n c.self.inside.rows.list c.args.row c.self.inside.next_purge next c.in_order.ensures.ascending none (omega (arith, first, second))
           (λ w newest at.
           let key : c.newest_beside-older.result ≡ w.key = subst (λ o. IfSome o (λ r. c.newest_beside-older.result ≡ r.key)) newest c.newest_beside-older.ensures in
           let there : find_row c.put.new.self.list c.newest_beside-older.result ≡ Some w = ap₂ (λ l k. find_row l k) c.put.ensures.rows key ∙ at in
@@ -54,7 +54,7 @@ pub refile-requires : goal.refile-requires
 refile-requires c =
     let rows = c.self.inside.rows.list in
     let none : find_row rows c.args.row.key ≡ None = subst (λ (t : Ledger). find_row t.list c.args.row.key ≡ None) (sym c.self.view_is) c.requires.new_key in
-    let moves : Moves c.self.inside.deadlines.list rows c.put.new.self.list c.args.row.key = subst (λ l. Moves c.self.inside.deadlines.list rows l c.args.row.key) (sym c.put.ensures.rows) (moves_put c.self.inside.deadlines.list rows c.args.row c.list.ensures.ascending none c.self.invariant.filed.waits) in
+    let moves : Moves c.self.inside.deadlines.list rows c.put.new.self.list c.args.row.key = subst (λ l. Moves c.self.inside.deadlines.list rows l c.args.row.key) (sym c.put.ensures.rows) (moves_put c.self.inside.deadlines.list rows c.args.row c.in_order.ensures.ascending none c.self.invariant.filed.waits) in
     let many : length c.put.new.self.list ≡ suc (length rows) = ap length c.put.ensures.rows ∙ length_put rows c.args.row in
     let room = ap (λ (t : Ledger). t.room) c.self.view_is in
     let some = c.requires.room in
@@ -67,7 +67,7 @@ review-requires-clause-marked c =
     let n = c.self.inside.number in
     let none : find_row rows c.args.row.key ≡ None = subst (λ (t : Ledger). find_row t.list c.args.row.key ≡ None) (sym c.self.view_is) c.requires.new_key in
     subst (λ l. marked (is_live_at n (find_row l c.args.row.key)) c.self.inside.live.list c.args.row.key ≡ live_keys n l) (sym c.put.ensures.rows)
-    (ap (λ ks. marked (is_live_at n (find_row (put_row rows c.args.row) c.args.row.key)) ks c.args.row.key) c.self.invariant.live ∙ live_new n rows c.args.row c.list.ensures.ascending none)
+    (ap (λ ks. marked (is_live_at n (find_row (put_row rows c.args.row) c.args.row.key)) ks c.args.row.key) c.self.invariant.live ∙ live_new n rows c.args.row c.in_order.ensures.ascending none)
 
 pub review-requires-clause-places : goal.review-requires-clause-places
 review-requires-clause-places c =
