@@ -46,7 +46,7 @@ pub(crate) fn fits_task(number: u16, book: &HostBook, task: &TaskRow) -> bool
 fn has_room(book: &HostBook) -> bool
     ensures { IsTrue result ↔ HasRoom book.now.book }
 {
-    book.rows().list().len() < MOST_ROWS
+    book.rows().len() < MOST_ROWS
 }
 
 fn is_new(book: &HostBook, key: RunKey) -> bool

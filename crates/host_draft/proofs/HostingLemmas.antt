@@ -1,21 +1,16 @@
 -- What a host reads of a draft is what its book says: the tasks, and the runs from key to key.
 use Rattle.std.specs.Prelude.{◌==◌, All, IfSome, find}
 use Rattle.std.specs.List.{AllByRecursion, slice_get}
-use Rattle.std.specs.List.Sorted.{IsPartitionPoint, IsPartitionedBy}
-use Rattle.std.specs.declared.cmp.Ordering.TheVariants.{Less}
-use Rattle.std.proofs.Common.{◌≡◌, ◌∙◌, ◌&&◌, ℕ, zero, suc, Bool, true, false, cond, not, nat_lt, List, [], ◌∷◌, drop, filter, get_or, Option, Some, None, option_map, refl, sym, ap, ap₂, subst, arith}
-use Rattle.std.proofs.lemmas.Bool.Decides.{nat_tests}
+use Rattle.std.proofs.Common.{◌≡◌, ◌∙◌, ◌&&◌, ℕ, Bool, true, false, cond, not, List, [], ◌∷◌, filter, Option, Some, None, option_map, refl, sym, ap, ap₂}
 use Rattle.std.proofs.lemmas.List.Elements.{All-weaker, recursion_from_All}
-use Rattle.ps_time.specs.Key.{key_cmp}
 use Rattle.ps_time.specs.declared.key.RunKey.{RunKey}
 use Rattle.ps_time.proofs.KeyLemmas.{key_cmp_total}
-use Rattle.ps_time.proofs.SortedLemmas.{ascending-filter, ascending_at}
+use Rattle.ps_time.proofs.SortedLemmas.{ascending-filter}
 use Rattle.task_spec.specs.Bounds.{IsArchive}
-use Rattle.run_states.specs.Rows.{IsAscendingRows}
+use Rattle.run_states.specs.Rows.{IsAscendingRows, is_above, rows_above}
 use Rattle.run_states.specs.TaskRows.{is_of_task, rows_of_task}
 use Rattle.run_states.specs.declared.row.RunRow.{RunRow}
 use Rattle.host_timeline.specs.Booking.{is_after, lesser_of}
-use Rattle.host_timeline.proofs.Least.{below_far}
 use Rattle.host_model.specs.Book.{Book, find_task, keys_of_rows}
 use Rattle.host_model.specs.Lawful.{IsLawfulTask, Lawful}
 use Rattle.host_model.specs.declared.task_row.TaskRow.{TaskRow}
@@ -42,61 +37,18 @@ policies_found tasks serial all = found_by tasks serial (recursion_from_All HasP
 pub policies_of : (number : ℕ) (b : Book) → Lawful number b → All HasPolicies b.tasks
 policies_of number b lawful = All-weaker (IsLawfulTask b.moment) HasPolicies (λ t is. All-weaker IsArchive HasPolicy (λ a is. is.policy) t.task.archives is.task.rest.archives) b.tasks lawful.tasks
 
--- ---- rows above a key stand behind the others
-module _ (after : Option RunKey) where
-  abbrev pub isnt_after : RunRow → Bool
-  isnt_after r = not (is_after after r.key)
+-- ---- rows above a key
+-- the first of them that passes is the first above the key that passes
+pub find_above : (after : Option RunKey) (g : RunRow → Bool) (rows : List RunRow) → find g (rows_above after rows) ≡ find (λ r. is_after after r.key && g r) rows
+find_above None g rows = refl
+find_above (Some low) g rows = find_passing (is_above low) g rows
 
-  later_after : (a b : RunRow) → key_cmp a.key b.key ≡ Less → isnt_after b ≡ true → isnt_after a ≡ true
-  later_after a b less not_later = go (is_after after a.key) refl
-    where
-      later : (low : Option RunKey) → is_after low a.key ≡ true → is_after low b.key ≡ true
-      later None first = refl
-      later (Some low) first = below_far low a.key b.key first (rw less refl)
-
-      go : (t : Bool) → is_after after a.key ≡ t → not t ≡ true
-      go false e = refl
-      go true e = let over : is_after after b.key ≡ true = later after e in let never : not true ≡ true = ap not (sym over) ∙ not_later in cc
-
-  pub after_parted : (rows : List RunRow) → IsAscendingRows rows → IsPartitionedBy isnt_after rows
-  after_parted rows up i j d le lt late = go (nat_lt i j) refl
-    where
-      go : (b : Bool) → nat_lt i j ≡ b → isnt_after (get_or rows i d) ≡ true
-      go true less = later_after (get_or rows i d) (get_or rows j d) (ascending_at key_cmp_total (λ r. r.key) rows up i j d (grind (arith, nat_tests)) lt) late
-      go false same = let here : j ≡ i = grind (arith, nat_tests) in subst (λ k. isnt_after (get_or rows k d) ≡ true) here late
-
-  -- the first above the key that passes is the first that passes behind that place
-  pub find_behind : (g : RunRow → Bool) (rows : List RunRow) (n : ℕ) → IsPartitionPoint (λ r. isnt_after r ≡ true) (λ r. isnt_after r ≡ false) rows n → find g (drop n rows) ≡ find (λ r. is_after after r.key && g r) rows
-  find_behind g [] zero part = refl
-  find_behind g [] (suc n) part = refl
-  find_behind g (r ∷ rs) zero part =
-      go (is_after after r.key) (part.1 0 r (omega arith) (omega arith)) (find_behind g rs zero (λ j d low high. absurd (omega arith), λ j d low high. part.1 (suc j) d (omega arith) (omega arith)))
-    where
-      go : (t : Bool) → not t ≡ false → find g rs ≡ find (λ x. is_after after x.key && g x) rs → cond (g r) (Some r) (find g rs) ≡ cond (t && g r) (Some r) (find (λ x. is_after after x.key && g x) rs)
-      go true e rest = ap (cond (g r) (Some r)) rest
-      go false e rest = cc
-  find_behind g (r ∷ rs) (suc n) part =
-      go (is_after after r.key) (part.0 0 r (omega arith) (omega arith)) (find_behind g rs n (λ j d low high. part.0 (suc j) d (omega arith) (omega arith), λ j d low high. part.1 (suc j) d (omega arith) (omega arith)))
-    where
-      go : (t : Bool) → not t ≡ true → find g (drop n rs) ≡ find (λ x. is_after after x.key && g x) rs → find g (drop n rs) ≡ cond (t && g r) (Some r) (find (λ x. is_after after x.key && g x) rs)
-      go true e rest = cc
-      go false e rest = rest
-
-  -- the first above the key stands there
-  pub found_at : (rows : List RunRow) (n : ℕ) → IsPartitionPoint (λ r. isnt_after r ≡ true) (λ r. isnt_after r ≡ false) rows n → slice_get (drop n rows) 0 ≡ find (λ r. is_after after r.key) rows
-  found_at [] zero part = refl
-  found_at [] (suc n) part = refl
-  found_at (r ∷ rs) zero part = go (is_after after r.key) (part.1 0 r (omega arith) (omega arith))
-    where
-      go : (t : Bool) → not t ≡ false → Some r ≡ cond t (Some r) (find (λ x. is_after after x.key) rs)
-      go true e = refl
-      go false e = cc
-  found_at (r ∷ rs) (suc n) part =
-      go (is_after after r.key) (part.0 0 r (omega arith) (omega arith)) (found_at rs n (λ j d low high. part.0 (suc j) d (omega arith) (omega arith), λ j d low high. part.1 (suc j) d (omega arith) (omega arith)))
-    where
-      go : (t : Bool) → not t ≡ true → slice_get (drop n rs) 0 ≡ find (λ x. is_after after x.key) rs → slice_get (drop n rs) 0 ≡ cond t (Some r) (find (λ x. is_after after x.key) rs)
-      go true e rest = cc
-      go false e rest = rest
+-- the first of them is the first above the key
+pub first_above : (after : Option RunKey) (rows : List RunRow) → slice_get (rows_above after rows) 0 ≡ find (λ r. is_after after r.key) rows
+first_above None [] = refl
+first_above None (r ∷ rs) = refl
+first_above (Some low) [] = refl
+first_above (Some low) (r ∷ rs) = elim (is_above low r) as (λ b. slice_get (cond b (r ∷ filter (is_above low) rs) (filter (is_above low) rs)) 0 ≡ cond b (Some r) (find (is_above low) rs)) [ true ↦ refl | false ↦ first_above (Some low) rs ]
 
 -- ---- from key to key
 -- the first key that passes is that of the first row

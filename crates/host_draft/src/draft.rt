@@ -90,7 +90,7 @@ impl<'a> Draft<'a> {
             epoch,
             touched,
             gone: Vec::new(alloc),
-            count: book.rows().list().len(),
+            count: book.rows().len(),
             bytes,
             log: Log::new(alloc, MOST_CHANGES, MOST_CHANGE_BYTES),
         })

@@ -6,6 +6,7 @@ ghost use Rattle.host_draft.specs.Overlay.{Takes, booked, hides, is_near, near_b
 
 use crate::overlay::is_hidden;
 use host_timeline::booking::{Booking, firm_from};
+use host_timeline::lent::LentBookings;
 use host_timeline::timeline::Timeline;
 use plugin_core::test_spec::class_of;
 use ps_time::class::Class;
@@ -13,6 +14,7 @@ use ps_time::interval::{Interval, Window};
 use ps_time::key::RunKey;
 use ps_time::memory::Memory;
 use ps_time::moment::Length;
+use run_states::lent::LentRows;
 use run_states::row::RunRow;
 use run_states::rows::Rows;
 use std::alloc::Global;
@@ -32,16 +34,16 @@ pub(crate) fn reach(length: Length, window: &Window) -> Option<Interval>
 /// class within the interval, if there is one.
 pub(crate) fn bookings_over(
     alloc: Global,
-    bookings: &[Booking],
+    bookings: LentBookings<'_>,
     touched: &Rows,
     gone: &[RunKey],
     class: Class,
     reach: &Option<Interval>,
 ) -> Result<Vec<Booking>, Memory>
-    ensures made { IfOk result (λ made. made.items ≡ near_gathered class reach.now touched.now.list gone.now bookings.now) }
+    ensures made { IfOk result (λ made. made.items ≡ near_gathered class reach.now touched.now.list gone.now bookings.entry) }
     ensures ascending { IsAscendingRows touched.now.list }
 {
-    let rows = touched.list();
+    let rows = touched.in_order();
     let mut made = near_bookings(alloc, bookings, touched, gone, class, reach)?;
     add_bookings(&mut made, rows)?;
     Ok(made)
@@ -49,13 +51,13 @@ pub(crate) fn bookings_over(
 
 fn near_bookings(
     alloc: Global,
-    bookings: &[Booking],
+    bookings: LentBookings<'_>,
     touched: &Rows,
     gone: &[RunKey],
     class: Class,
     reach: &Option<Interval>,
 ) -> Result<Vec<Booking>, Memory>
-    ensures { IfOk result (λ made. made.items ≡ near_bookings class reach.now touched.now.list gone.now bookings.now) }
+    ensures { IfOk result (λ made. made.items ≡ near_bookings class reach.now touched.now.list gone.now bookings.entry) }
 {
     let mut made = Vec::new(alloc);
     for booking in bookings {
@@ -88,8 +90,8 @@ fn is_near(booking: &Booking, class: Class, reach: &Option<Interval>) -> bool
     }
 }
 
-fn add_bookings(made: &mut Vec<Booking>, rows: &[RunRow]) -> Result<(), Memory>
-    ensures { OnOk result (made.new.items ≡ made.old.items ++ bookings_of rows.now) }
+fn add_bookings(made: &mut Vec<Booking>, rows: LentRows<'_>) -> Result<(), Memory>
+    ensures { OnOk result (made.new.items ≡ made.old.items ++ bookings_of rows.entry) }
 {
     for row in rows {
         if let Some(booking) = booking_of(row) {

@@ -19,6 +19,7 @@ use ps_time::interval::Interval;
 use ps_time::key::RunKey;
 use ps_time::memory::Memory;
 use ps_time::moment::Moment;
+use run_states::lent::LentRows;
 use run_states::row::RunRow;
 use run_states::rows::Rows;
 use run_states::why::{Closing, Why};
@@ -65,7 +66,7 @@ pub(crate) fn copy_way(
 {
     touch_conflicts(alloc, touched, gone, book, timeline, run)?;
     touch(alloc, touched, gone, book, run.key)?;
-    keys_in_conflict(alloc, touched.list(), run)
+    keys_in_conflict(alloc, touched.in_order(), run)
 }
 
 fn touch_conflicts(
@@ -87,8 +88,12 @@ fn touch_conflicts(
     Ok(())
 }
 
-fn keys_in_conflict(alloc: Global, rows: &[RunRow], run: &Incoming) -> Result<Vec<RunKey>, Memory>
-    ensures { IfOk result (λ keys. keys.items ≡ keys_of_rows (conflicts run.now.key run.now.class run.now.interval rows.now)) }
+fn keys_in_conflict(
+    alloc: Global,
+    rows: LentRows<'_>,
+    run: &Incoming,
+) -> Result<Vec<RunKey>, Memory>
+    ensures { IfOk result (λ keys. keys.items ≡ keys_of_rows (conflicts run.now.key run.now.class run.now.interval rows.entry)) }
 {
     let mut keys = Vec::new(alloc);
     for row in rows {

@@ -32,14 +32,14 @@ impl<'a> Hosting for Draft<'a> {
     }
 
     fn greatest_number(&self, lead: u16, serial: u32) -> u32 {
-        let _ = self.touched.list();
+        let _ = self.touched.in_order();
         number_of(self.newest(lead, serial))
     }
 
     fn next_of_task(&self, lead: u16, serial: u32, after: Option<RunKey>) -> Option<RunKey> {
-        let _ = self.touched.list();
-        let over = first_after(self.touched.of_task(lead, serial), after);
-        let rows = self.book.rows().of_task(lead, serial);
+        let _ = self.touched.in_order();
+        let over = first_after(self.touched.task_rows(lead, serial), after);
+        let rows = self.book.rows().task_rows(lead, serial);
         let gone = self.gone.as_slice();
         lesser_of(over, first_bare_after(rows, &self.touched, gone, after))
     }
@@ -51,8 +51,8 @@ impl<'a> Showing for Draft<'a> {
     }
 
     fn next_row(&self, after: Option<RunKey>) -> Option<RunKey> {
-        let over = first_after(self.touched.list(), after);
-        let rows = self.book.rows().list();
+        let over = first_after(self.touched.in_order(), after);
+        let rows = self.book.rows().in_order();
         let gone = self.gone.as_slice();
         lesser_of(over, first_bare_after(rows, &self.touched, gone, after))
     }

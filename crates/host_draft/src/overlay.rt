@@ -20,6 +20,7 @@ use ps_time::key::RunKey;
 use ps_time::memory::Memory;
 use ps_time::moment::{Moment, ON_DECK};
 use row_ledger::deadlines::Deadlines;
+use run_states::lent::LentRows;
 use run_states::row::RunRow;
 use run_states::rows::Rows;
 use std::alloc::Global;
@@ -152,9 +153,9 @@ pub(crate) fn is_hidden(touched: &Rows, gone: &[RunKey], key: RunKey) -> bool
 }
 
 /// The first of these rows that is sought.
-pub(crate) fn first_sought(rows: &[RunRow], sought: &Sought, moment: Moment) -> Option<RunKey>
+pub(crate) fn first_sought(rows: LentRows<'_>, sought: &Sought, moment: Moment) -> Option<RunKey>
     requires { moment ≤ MAX_MOMENT }
-    ensures { result ≡ option_map (λ r. r.key) (find (meets moment sought.now) rows.now) }
+    ensures { result ≡ option_map (λ r. r.key) (find (meets moment sought.now) rows.entry) }
 {
     for row in rows {
         if meets(row, sought, moment) {
@@ -173,7 +174,7 @@ fn meets(row: &RunRow, sought: &Sought, moment: Moment) -> bool
         && is_hard(row, sought.priority, moment)
 }
 
-pub(crate) fn is_after(low: Option<RunKey>, key: RunKey) -> bool
+fn is_after(low: Option<RunKey>, key: RunKey) -> bool
     ensures { result ≡ is_after low key }
 {
     match low {
@@ -271,16 +272,16 @@ pub(crate) fn lesser_of(a: Option<RunKey>, b: Option<RunKey>) -> Option<RunKey>
 
 /// The last of these rows that is as it was.
 pub(crate) fn last_bare<'a>(
-    rows: &'a [RunRow],
+    rows: LentRows<'a>,
     touched: &Rows,
     gone: &[RunKey],
 ) -> Option<&'a RunRow>
-    ensures { option_copied result ≡ last_or None (filter (λ r. not (hides touched.now.list gone.now r.key)) rows.now) }
+    ensures { option_copied result ≡ last_or None (filter (λ r. not (hides touched.now.list gone.now r.key)) rows.entry) }
 {
     let mut end = rows.len();
     while 0 < end {
         end -= 1;
-        let row = &rows[end];
+        let row = rows.at(end);
         if !is_hidden(touched, gone, row.key) {
             return Some(row);
         }

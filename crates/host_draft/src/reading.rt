@@ -24,7 +24,7 @@ impl<'a> Draft<'a> {
     {
         let rows = self.book.rows();
         let gone = self.gone.as_slice();
-        let over = first_sought(self.touched.list(), sought, self.moment);
+        let over = first_sought(self.touched.in_order(), sought, self.moment);
         let below = first_below(
             self.book.timeline(),
             rows,
@@ -129,9 +129,9 @@ impl<'a> Reading for Draft<'a> {
 
 impl<'a> Leading for Draft<'a> {
     fn newest(&self, lead: u16, serial: u32) -> Option<&RunRow> {
-        let _ = self.touched.list();
+        let _ = self.touched.in_order();
         let over = self.touched.newest_of_task(lead, serial);
-        let rows = self.book.rows().of_task(lead, serial);
+        let rows = self.book.rows().task_rows(lead, serial);
         later(over, last_bare(rows, &self.touched, self.gone.as_slice()))
     }
 }

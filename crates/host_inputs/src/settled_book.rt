@@ -24,6 +24,7 @@ use ps_time::key::RunKey;
 use ps_time::memory::Memory;
 use ps_time::moment::{Length, Moment};
 use ps_time::tiers::Tiers;
+use run_states::lent::LentRows;
 use run_states::row::RunRow;
 use run_states::rows::Rows;
 use std::alloc::Global;
@@ -180,13 +181,13 @@ impl<'a> Hosting for SettledBook<'a> {
     }
 
     fn greatest_number(&self, lead: u16, serial: u32) -> u32 {
-        let _ = self.rows.list();
+        let _ = self.rows.in_order();
         self.rows.greatest_number(lead, serial)
     }
 
     fn next_of_task(&self, lead: u16, serial: u32, after: Option<RunKey>) -> Option<RunKey> {
-        let _ = self.rows.list();
-        next_key(self.rows.of_task(lead, serial), after)
+        let _ = self.rows.in_order();
+        next_key(self.rows.task_rows(lead, serial), after)
     }
 }
 
@@ -201,8 +202,8 @@ fn find_task(tasks: &[TaskRow], serial: u32) -> Option<&TaskRow>
 }
 
 // The first key above another.
-fn next_key(rows: &[RunRow], after: Option<RunKey>) -> Option<RunKey>
-    ensures { result ≡ find (is_after after) (keys_of_rows rows.now) }
+fn next_key(rows: LentRows<'_>, after: Option<RunKey>) -> Option<RunKey>
+    ensures { result ≡ find (is_after after) (keys_of_rows rows.entry) }
 {
     for row in rows {
         if is_after(after, row.key) {

@@ -28,6 +28,7 @@ use part_core::reading::Reading;
 use ps_time::key::RunKey;
 use ps_time::memory::Memory;
 use ps_time::moment::Moment;
+use run_states::lent::LentRows;
 use run_states::row::RunRow;
 use std::alloc::Global;
 
@@ -148,10 +149,10 @@ pub(crate) fn make_purges(
     draft: &mut Draft<'_>,
     config: &Config,
     tasks: &[TaskRow],
-    rows: &[RunRow],
+    rows: LentRows<'_>,
 ) -> Result<(), Memory>
     requires { IsTurn config.now tasks.now draft.old }
-    ensures { OnOk result (draft.new ≡ with_draft (make_keys (purge_run config.now draft.old.draft.book.moment) draft.old.draft.book.moment (going_keys config.now.number draft.old.draft.book.moment rows.now) draft.old.draft) draft.old) }
+    ensures { OnOk result (draft.new ≡ with_draft (make_keys (purge_run config.now draft.old.draft.book.moment) draft.old.draft.book.moment (going_keys config.now.number draft.old.draft.book.moment rows.entry) draft.old.draft) draft.old) }
 {
     for row in rows {
         make_purge(alloc, draft, config, tasks, row)?;

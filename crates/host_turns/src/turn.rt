@@ -144,9 +144,9 @@ impl<'a> Turn<'a> {
         requires made { draft.old.draft ≡ turned_most self.now.config.now moment self.now.live.now (fresh (settled moment host.now.book)) }
         ensures { OnOk result (draft.new.draft ≡ turned self.now.config.now moment (fresh (settled moment host.now.book))) }
     {
-        let rows = host.rows().list();
+        let rows = host.rows();
         if looks_at_all(draft, host, moment) {
-            make_purges(alloc, draft, self.config, self.tasks, rows)
+            make_purges(alloc, draft, self.config, self.tasks, rows.in_order())
         } else {
             purge_keys(alloc, draft, self.config, self.tasks, self.live)
         }

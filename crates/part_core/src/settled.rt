@@ -136,7 +136,7 @@ impl<'a> Reading for Settled<'a> {
     }
 
     fn len(&self) -> usize {
-        self.rows.list().len()
+        self.rows.len()
     }
 
     fn result_bytes(&self) -> u64 {

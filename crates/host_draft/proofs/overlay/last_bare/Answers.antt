@@ -8,5 +8,5 @@ use Rattle.host_draft.proofs.overlay.last_bare.Goals as goal
 pub returns-then-not-is_hidden : goal.returns-then-not-is_hidden
 returns-then-not-is_hidden c =
     let g : RunRow → Bool = λ r. not (hides c.args.touched.now.list c.args.gone.now r.key) in
-    let bare : g c.index-rows-end.result ≡ true = ap not (sym c.is_hidden.ensures ∙ c.if-not-is_hidden.true) in
-    sym (c.loop-end.invariant.left ∙ last_here g c.args.rows.now c.loop-end.end c.index-rows-end.result c.loop-end-test.true c.loop-end.invariant.within c.index-rows-end.is bare)
+    let bare : g c.at-row.result.now ≡ true = ap not (sym c.is_hidden.ensures ∙ c.if-not-is_hidden.true) in
+    sym (c.loop-end.invariant.left ∙ last_here g c.args.rows c.loop-end.end c.at-row.result.now c.loop-end-test.true c.loop-end.invariant.within c.at-row.ensures.value bare)

@@ -1,15 +1,14 @@
 use Rattle.std.specs.Prelude.{find}
 use Rattle.std.proofs.Common.{◌∙◌, Bool, not, option_map, ap}
 use Rattle.run_states.specs.declared.row.RunRow.{RunRow}
-use Rattle.run_states.proofs.TaskLemmas.{from_place}
 use Rattle.host_draft.specs.Overlay.{hides}
-use Rattle.host_draft.proofs.HostingLemmas.{find_behind}
+use Rattle.host_draft.proofs.HostingLemmas.{find_above}
 use Rattle.host_draft.proofs.walk.first_bare_after.Goals as goal
 
--- the first behind the place
+-- the first of those above the key
 pub returns : goal.returns
 returns c =
     let bare : RunRow → Bool = λ r. not (hides c.args.touched.now.list c.args.gone.now r.key) in
     c.first_bare.ensures
-    ∙ (ap (λ l. option_map (λ (r : RunRow). r.key) (find bare l)) (from_place c.args.rows.now c.place_after.result)
-    ∙ ap (option_map (λ r. r.key)) (find_behind c.args.after bare c.args.rows.now c.place_after.result c.place_after.ensures.parted))
+    ∙ (ap (λ l. option_map (λ (r : RunRow). r.key) (find bare l)) c.above.ensures
+    ∙ ap (option_map (λ r. r.key)) (find_above c.args.after bare c.args.rows))
