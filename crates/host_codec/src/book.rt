@@ -1,5 +1,7 @@
 //! Books as bytes: snapshots of the second format.
-ghost use Rattle.std.specs.Prelude.{◌++◌, ◌≡◌, IfOk, IfSome, OnOk, Some, ℕ};
+ghost use Rattle.std.specs.Prelude.{◌++◌, ◌≡◌, All, IfOk, IfSome, OnOk, Some, ℕ};
+ghost use Rattle.std.specs.List.{flat_map};
+ghost use Rattle.byte_codec.specs.Codec.{list};
 ghost use Rattle.byte_codec.specs.Gives.{Gives};
 ghost use Rattle.byte_codec.specs.Reading.{whole_of};
 ghost use Rattle.host_model.specs.Book.{Book, empty_book};
@@ -10,7 +12,7 @@ ghost use Rattle.task_spec.specs.Bounds.{IsTask};
 ghost use Rattle.row_check.specs.HasTests.{HasTests};
 ghost use Rattle.byte_codec.specs.Rows.{row};
 ghost use Rattle.byte_codec.specs.Tasks.{task_row};
-ghost use Rattle.host_codec.specs.Books.{back, back_of, book, epochs, front, front_of, lent, second};
+ghost use Rattle.host_codec.specs.Books.{back, book, epochs, front, lent, second};
 
 use byte_codec::coded::Coded;
 use byte_codec::fault::CodeFault;
@@ -22,6 +24,7 @@ use ps_time::items::Items;
 use ps_time::key::RunKey;
 use ps_time::memory::Memory;
 use ps_time::moment::Moment;
+use run_states::lent::LentRows;
 use run_states::row::RunRow;
 use std::alloc::Global;
 use std::marker::Model;
@@ -65,7 +68,7 @@ impl KeptBook {
 }
 
 /// The parts of a book, lent to be written.
-#[derive(Clone, Copy)]
+#[derive(Drop)]
 pub struct BookParts<'a> {
     /// The latest moment, in seconds since 1970 UTC.
     pub moment: Moment,
@@ -76,7 +79,7 @@ pub struct BookParts<'a> {
     /// The tasks, in the order of their serials.
     pub tasks: &'a [TaskRow],
     /// The rows, ascending by key.
-    pub rows: &'a [RunRow],
+    pub rows: LentRows<'a>,
 }
 
 fn write_mark(alloc: Global, out: &mut Vec<u8>) -> Result<(), Memory>
@@ -86,42 +89,103 @@ fn write_mark(alloc: Global, out: &mut Vec<u8>) -> Result<(), Memory>
     2u32.write(alloc, out)
 }
 
-fn write_epochs(alloc: Global, parts: &BookParts<'_>, out: &mut Vec<u8>) -> Result<(), Memory>
-    requires { epochs.Writable (front_of (lent parts.now)).1 }
-    ensures code { OnOk result (out.new.items ≡ out.old.items ++ epochs.code (front_of (lent parts.now)).1) }
-    ensures fits { OnOk result (epochs.Fits (front_of (lent parts.now)).1) }
+fn write_epochs(
+    alloc: Global,
+    limits: &[Limits],
+    pairs: &[(RunKey, u32)],
+    out: &mut Vec<u8>,
+) -> Result<(), Memory>
+    requires { epochs.Writable (limits.now, pairs.now) }
+    ensures code { OnOk result (out.new.items ≡ out.old.items ++ epochs.code (limits.now, pairs.now)) }
+    ensures fits { OnOk result (epochs.Fits (limits.now, pairs.now)) }
 {
-    write_list(alloc, parts.epochs, out)?;
-    write_list(alloc, parts.pairs, out)
+    write_list(alloc, limits, out)?;
+    write_list(alloc, pairs, out)
 }
 
-fn write_front(alloc: Global, parts: &BookParts<'_>, out: &mut Vec<u8>) -> Result<(), Memory>
-    requires { front.Writable (front_of (lent parts.now)) }
-    ensures code { OnOk result (out.new.items ≡ out.old.items ++ front.code (front_of (lent parts.now))) }
-    ensures fits { OnOk result (front.Fits (front_of (lent parts.now))) }
+fn write_front(
+    alloc: Global,
+    moment: Moment,
+    limits: &[Limits],
+    pairs: &[(RunKey, u32)],
+    out: &mut Vec<u8>,
+) -> Result<(), Memory>
+    requires { front.Writable (moment, (limits.now, pairs.now)) }
+    ensures code { OnOk result (out.new.items ≡ out.old.items ++ front.code (moment, (limits.now, pairs.now))) }
+    ensures fits { OnOk result (front.Fits (moment, (limits.now, pairs.now))) }
 {
-    parts.moment.write(alloc, out)?;
-    write_epochs(alloc, parts, out)
+    moment.write(alloc, out)?;
+    write_epochs(alloc, limits, pairs, out)
 }
 
-fn write_back(alloc: Global, parts: &BookParts<'_>, out: &mut Vec<u8>) -> Result<(), Memory>
-    requires { back.Writable (back_of (lent parts.now)) }
-    ensures code { OnOk result (out.new.items ≡ out.old.items ++ back.code (back_of (lent parts.now))) }
-    ensures fits { OnOk result (back.Fits (back_of (lent parts.now))) }
+fn write_back(
+    alloc: Global,
+    tasks: &[TaskRow],
+    rows: &[RunRow],
+    out: &mut Vec<u8>,
+) -> Result<(), Memory>
+    requires { back.Writable (tasks.now, rows.now) }
+    ensures code { OnOk result (out.new.items ≡ out.old.items ++ back.code (tasks.now, rows.now)) }
+    ensures fits { OnOk result (back.Fits (tasks.now, rows.now)) }
 {
-    write_list(alloc, parts.tasks, out)?;
-    write_list(alloc, parts.rows, out)
+    write_list(alloc, tasks, out)?;
+    write_list(alloc, rows, out)
+}
+
+fn write_each_row(alloc: Global, rows: LentRows<'_>, out: &mut Vec<u8>) -> Result<(), Memory>
+    requires { All row.Writable rows }
+    ensures code { OnOk result (out.new.items ≡ out.old.items ++ flat_map row.code rows.entry) }
+    ensures fit { OnOk result (All row.Fits rows.entry) }
+{
+    for row in rows {
+        row.write(alloc, out)?;
+    }
+    Ok(())
+}
+
+// The bytes of a list. 2^32 rows or more have none, and are want of memory.
+fn write_rows(alloc: Global, rows: LentRows<'_>, out: &mut Vec<u8>) -> Result<(), Memory>
+    requires { (list row).Writable rows }
+    ensures code { OnOk result (out.new.items ≡ out.old.items ++ (list row).code rows.entry) }
+    ensures fits { OnOk result ((list row).Fits rows.entry) }
+{
+    let Ok(count) = u32::try_from(rows.len()) else {
+        return Err(Memory);
+    };
+    count.write(alloc, out)?;
+    write_each_row(alloc, rows, out)
+}
+
+fn write_lent_back(
+    alloc: Global,
+    tasks: &[TaskRow],
+    rows: LentRows<'_>,
+    out: &mut Vec<u8>,
+) -> Result<(), Memory>
+    requires { back.Writable (tasks.now, rows) }
+    ensures code { OnOk result (out.new.items ≡ out.old.items ++ back.code (tasks.now, rows.entry)) }
+    ensures fits { OnOk result (back.Fits (tasks.now, rows.entry)) }
+{
+    write_list(alloc, tasks, out)?;
+    write_rows(alloc, rows, out)
 }
 
 /// Adds the snapshot of a book.
-pub fn write_book(alloc: Global, parts: &BookParts<'_>, out: &mut Vec<u8>) -> Result<(), Memory>
-    requires { book.Writable (lent parts.now) }
-    ensures code { OnOk result (out.new.items ≡ out.old.items ++ book.code (lent parts.now)) }
-    ensures fits { OnOk result (book.Fits (lent parts.now)) }
+pub fn write_book(alloc: Global, parts: BookParts<'_>, out: &mut Vec<u8>) -> Result<(), Memory>
+    requires { book.Writable (lent parts) }
+    ensures code { OnOk result (out.new.items ≡ out.old.items ++ book.code (lent parts.entry)) }
+    ensures fits { OnOk result (book.Fits (lent parts.entry)) }
 {
+    let BookParts {
+        moment,
+        epochs,
+        pairs,
+        tasks,
+        rows,
+    } = parts;
     write_mark(alloc, out)?;
-    write_front(alloc, parts, out)?;
-    write_back(alloc, parts, out)
+    write_front(alloc, moment, epochs, pairs, out)?;
+    write_lent_back(alloc, tasks, rows, out)
 }
 
 fn read_mark(alloc: Global, bytes: &[u8]) -> Result<&[u8], CodeFault>
@@ -145,14 +209,15 @@ impl Coded for KeptBook {
     ghost codec = { book };
 
     fn write(&self, alloc: Global, out: &mut Vec<u8>) -> Result<(), Memory> {
-        let parts = BookParts {
-            moment: self.moment,
-            epochs: self.epochs.as_slice(),
-            pairs: self.pairs.as_slice(),
-            tasks: self.tasks.as_slice(),
-            rows: self.rows.as_slice(),
-        };
-        write_book(alloc, &parts, out)
+        write_mark(alloc, out)?;
+        write_front(
+            alloc,
+            self.moment,
+            self.epochs.as_slice(),
+            self.pairs.as_slice(),
+            out,
+        )?;
+        write_back(alloc, self.tasks.as_slice(), self.rows.as_slice(), out)
     }
 
     fn read(alloc: Global, bytes: &[u8]) -> Result<(KeptBook, &[u8]), CodeFault> {

@@ -213,11 +213,7 @@ impl Machine for Host {
     }
 
     fn image_guess(&self) -> usize {
-        self.book
-            .rows()
-            .list()
-            .len()
-            .saturating_mul(GUESSED_ROW_BYTES)
+        self.book.rows().len().saturating_mul(GUESSED_ROW_BYTES)
     }
 
     fn write_image(&self, alloc: Global, image: SnapshotImage) -> Result<SnapshotImage, Memory> {

@@ -26,10 +26,10 @@ pub(crate) fn write_snapshot(
         epochs: book.epochs(),
         pairs: book.pairs(),
         tasks: book.tasks(),
-        rows: book.rows().list(),
+        rows: book.rows().in_order(),
     };
     let mut buffer = image.into_buffer();
-    match write_book(alloc, &parts, &mut buffer) {
+    match write_book(alloc, parts, &mut buffer) {
         Ok(()) => Ok(SnapshotImage::of_buffer(buffer)),
         Err(fault) => {
             drop(buffer);

@@ -110,7 +110,7 @@ impl KeptHost {
     /// The book's moment, and how many rows and epochs it has.
     pub(crate) fn stands(&self) -> (Moment, usize, usize) {
         let book = self.keep.machine().book();
-        (book.moment(), book.rows().list().len(), book.epochs().len())
+        (book.moment(), book.rows().len(), book.epochs().len())
     }
 
     /// How many calls that change it each disk has got.

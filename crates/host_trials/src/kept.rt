@@ -30,7 +30,7 @@ fn counted<D: Disk + Drop>(alloc: Global, config: Config, pair: (D, D)) -> Optio
     let (first, second) = pair;
     match open(alloc, config, 0, first, second) {
         Ok(keep) => {
-            let told = (keep.machine().book().rows().list().len(), keep.generation());
+            let told = (keep.machine().book().rows().len(), keep.generation());
             drop(keep);
             Some(told)
         }

@@ -1,5 +1,5 @@
 //! The snapshot at the front of a list.
-ghost use Rattle.std.specs.Prelude.{◌≡◌, ◌↔◌, IfOk, IfSome, IsSome, IsTrue, Some};
+ghost use Rattle.std.specs.Prelude.{◌≡◌, IfOk, IfSome, IsSome, Some};
 ghost use Rattle.host_model.specs.Book.{Book};
 ghost use Rattle.host_model.specs.Lawful.{Lawful};
 ghost use Rattle.lawful_check.specs.ReadBook.{IsReadBook};
@@ -7,7 +7,7 @@ ghost use Rattle.kept_host.specs.Stands.{IsSnapshot};
 
 use host_book::book::HostBook;
 use host_book::parts::Parts;
-use host_codec::book::{BookParts, KeptBook, read_book};
+use host_codec::book::{KeptBook, read_book};
 use host_codec::first::read_first_book;
 use lawful_check::book::{is_lawful, law_read_book};
 use ps_time::memory::Memory;
@@ -26,20 +26,6 @@ fn read_of(alloc: Global, second: bool, bytes: &[u8]) -> Result<Option<KeptBook>
     }
 }
 
-fn is_lawful_book(alloc: Global, number: u16, book: &KeptBook) -> Result<bool, Memory>
-    requires { IsReadBook book.now }
-    ensures { IfOk result (λ is. IsTrue is ↔ Lawful number book.now) }
-{
-    let parts = BookParts {
-        moment: book.moment,
-        epochs: book.epochs.as_slice(),
-        pairs: book.pairs.as_slice(),
-        tasks: book.tasks.as_slice(),
-        rows: book.rows.as_slice(),
-    };
-    is_lawful(alloc, number, &parts)
-}
-
 /// The lawful book of the host with this number whose snapshot these bytes are, of the second format or of the first; `None`
 /// where they are the snapshot of none.
 pub fn read_lawful(
@@ -54,7 +40,7 @@ pub fn read_lawful(
     let Some(book) = read_of(alloc, second, bytes)? else {
         return Ok(None);
     };
-    if is_lawful_book(alloc, number, &book)? {
+    if is_lawful(alloc, number, &book)? {
         Ok(Some(book))
     } else {
         drop(book);

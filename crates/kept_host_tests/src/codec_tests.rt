@@ -7,6 +7,7 @@ use host_model::change::{Change, Changes};
 use ps_time::items::Items;
 use ps_time::key::RunKey;
 use run_states::row::RunRow;
+use run_states::rows::Rows;
 use std::alloc::Global;
 use std::test::Fail;
 
@@ -111,14 +112,15 @@ fn reads_empty(alloc: Global, bytes: &[u8]) -> bool {
 
 fn writes_empty(alloc: Global, wanted: &[u8]) -> bool {
     let mut out = Vec::new(alloc);
+    let rows = Rows::new(alloc);
     let parts = BookParts {
         moment: 1_000,
         epochs: &[],
         pairs: &[],
         tasks: &[],
-        rows: &[],
+        rows: rows.in_order(),
     };
-    write_book(alloc, &parts, &mut out).is_ok() && out.as_slice() == wanted
+    write_book(alloc, parts, &mut out).is_ok() && out.as_slice() == wanted
 }
 
 fn reads_two(alloc: Global, bytes: &[u8]) -> bool {

@@ -92,7 +92,7 @@ fn rows_of(alloc: Global, items: &[&[u8]]) -> Result<usize, RestoreFault> {
         return Err(RestoreFault::Memory);
     };
     match restore(alloc, 1, list.as_slice()) {
-        Ok(restored) => Ok(restored.book.rows().list().len()),
+        Ok(restored) => Ok(restored.book.rows().len()),
         Err(fault) => Err(fault),
     }
 }
