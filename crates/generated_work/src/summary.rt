@@ -12,7 +12,7 @@ use ps_time::text::Text;
 use psched_rehearse::state::rehearsal::Rehearsal;
 use psched_rehearse::state::seat::Seat;
 use report_text::table::settled_state;
-use run_states::row::RunRow;
+use run_states::lent::LentRows;
 use run_states::state::State;
 use std::alloc::Global;
 
@@ -37,10 +37,10 @@ fn told() -> &'static [State]
     &TOLD
 }
 
-fn add_states(states: &mut Vec<State>, rows: &[RunRow], moment: Moment) -> Result<(), Memory>
+fn add_states(states: &mut Vec<State>, rows: LentRows<'_>, moment: Moment) -> Result<(), Memory>
     requires moment { moment ≤ MAX_MOMENT }
-    requires rows { All HasMoments rows.now }
-    ensures { OnOk result (states.new.items ≡ states.old.items ++ map (λ r. state_of r moment) (settled_rows moment rows.now)) }
+    requires rows { All HasMoments rows }
+    ensures { OnOk result (states.new.items ≡ states.old.items ++ map (λ r. state_of r moment) (settled_rows moment rows.entry)) }
 {
     for row in rows {
         states.push(settled_state(row, moment))?;
@@ -52,7 +52,7 @@ fn add_seat(states: &mut Vec<State>, seat: &Seat, moment: Moment) -> Result<(), 
     requires { moment ≤ MAX_MOMENT }
     ensures { OnOk result (states.new.items ≡ states.old.items ++ stage_states moment seat.now) }
 {
-    add_states(states, seat.book().rows().list(), moment)
+    add_states(states, seat.book().rows().in_order(), moment)
 }
 
 // The states of all hosts' runs, at the last moment.

@@ -65,7 +65,7 @@ fn add_tables(alloc: Global, now: &Rehearsal, report: &mut ReportText) -> Result
     let moment = now.last();
     for seat in now.seats() {
         let name = seat.config().name.as_str();
-        add_table(alloc, report, name, seat.book().rows().list(), moment)?;
+        add_table(alloc, report, name, seat.book().rows().in_order(), moment)?;
     }
     Ok(())
 }

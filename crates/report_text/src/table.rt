@@ -12,6 +12,7 @@ use ps_time::interval::Interval;
 use ps_time::key::RunKey;
 use ps_time::memory::Memory;
 use ps_time::moment::Moment;
+use run_states::lent::LentRows;
 use run_states::life::{state_name, state_of_closed};
 use run_states::row::RunRow;
 use run_states::state::State;
@@ -126,10 +127,10 @@ fn entry_of(row: &RunRow, moment: Moment) -> Entry
     }
 }
 
-fn entries_of(alloc: Global, rows: &[RunRow], moment: Moment) -> Result<Vec<Entry>, Memory>
+fn entries_of(alloc: Global, rows: LentRows<'_>, moment: Moment) -> Result<Vec<Entry>, Memory>
     requires moment { moment ≤ MAX_MOMENT }
-    requires rows { All HasMoments rows.now }
-    ensures { IfOk result (λ v. v.items ≡ map (entry_of moment) (settled_rows moment rows.now)) }
+    requires rows { All HasMoments rows }
+    ensures { IfOk result (λ v. v.items ≡ map (entry_of moment) (settled_rows moment rows.entry)) }
 {
     let mut entries = Vec::new(alloc);
     for row in rows {
@@ -167,12 +168,12 @@ pub fn add_table(
     alloc: Global,
     report: &mut ReportText,
     name: &str,
-    rows: &[RunRow],
+    rows: LentRows<'_>,
     moment: Moment,
 ) -> Result<(), Memory>
     requires moment { moment ≤ MAX_MOMENT }
-    requires rows { All HasMoments rows.now }
-    ensures { OnOk result (report.new ≡ report.old ++ table_text name.now moment (settled_rows moment rows.now)) }
+    requires rows { All HasMoments rows }
+    ensures { OnOk result (report.new ≡ report.old ++ table_text name.now moment (settled_rows moment rows.entry)) }
 {
     let mut entries = entries_of(alloc, rows, moment)?;
     sort(&mut entries)?;
