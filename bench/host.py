@@ -5,7 +5,8 @@ measured with its line of the script and with what is reported of it.
 - Bookings, of each host after its own rows; and turns with nothing due: over a book of few rows, and over one of nearly as many as
   a book has, of which nothing is due.
 - Proposals and confirmations of a lead, over such books. The reply to each is lost, which is a line more.
-- Bookings whose keys go before all others (front), since runs of a lead with a greater number fill the book.
+- Bookings whose keys go before all others (front), since runs of a lead with a greater number fill the book; and such whose keys
+  go amid others, since these runs fill the half of it.
 - Turns in which runs start or end, one run in a turn and 64, over what their bookings take.
 - The bytes of memory that a row takes at the program's peak, with its two lines and what the host's disks in memory have of it.
 
@@ -16,7 +17,7 @@ import pathlib
 import subprocess
 import sys
 import tempfile
-from collections.abc import Iterator
+from collections.abc import Callable, Iterator
 
 ROUNDS = 5
 # How many hosts have few rows each, how many these are, and how many the one host with many has.
@@ -25,7 +26,7 @@ FEW = 500
 MANY = 45_000
 STEPS = 5_000
 TURNS = 20_000
-FRONT_STEPS = 500
+AMONG = 2_000
 LISTED = 64
 BATCHES = 100
 ROUNDS_OF_RUNS = 50
@@ -126,6 +127,12 @@ def peer_filled(hosts: list[str], rows: int) -> Lines:
     yield from led(hosts, BEGIN, rows * len(hosts) // LISTED, "propose", True)
 
 
+def half_filled(hosts: list[str], rows: int) -> Lines:
+    """Each host gets about so many rows, half of them of its own, and behind them those of the lead."""
+    yield from filled(hosts, rows // 2)
+    yield from led(hosts, after(rows // 2), rows // 2 * len(hosts) // LISTED, "propose", True)
+
+
 def runs(together: int, rounds: int, has_turns: bool) -> Lines:
     """Rounds in which so many runs are booked and, in a turn each, started and ended."""
     yield from declared(names(1))
@@ -224,13 +231,12 @@ def tell_orders(them: Rehearsals, stage: str) -> None:
     tell(stage, *sides, f"{FEW} to {FEW + orders // HOSTS} and {rows} to {rows + orders} rows")
 
 
-def tell_front(them: Rehearsals) -> None:
+def tell_among(them: Rehearsals, name: str, fill: Callable[[list[str], int], Lines]) -> None:
     sides = []
-    for hosts, rows, steps in ((names(HOSTS), FEW, STEPS), (names(1), MANY, FRONT_STEPS)):
-        clock = BEGIN + TWO_DAYS * (rows * len(hosts) // LISTED)
-        more = [peer_filled(hosts, rows), booked(hosts, clock, steps)]
-        sides.append(them.beside("front", [peer_filled(hosts, rows)], more, steps, steps))
-    tell("front", *sides, f"{FEW} to {FEW + STEPS // HOSTS} and {MANY} to {MANY + FRONT_STEPS} rows")
+    for hosts, rows in ((names(HOSTS), FEW), (names(1), MANY)):
+        clock = after(rows) + TWO_DAYS * (rows * len(hosts) // LISTED)
+        sides.append(them.beside(name, [fill(hosts, rows)], [fill(hosts, rows), booked(hosts, clock, AMONG)], AMONG, AMONG))
+    tell(name, *sides, f"{FEW} to {FEW + AMONG // HOSTS} and {MANY} to {MANY + AMONG} rows")
 
 
 def tell_starts(them: Rehearsals) -> None:
@@ -261,7 +267,8 @@ def main() -> None:
         tell_orders(them, "propose")
         tell_orders(them, "confirm")
         tell_starts(them)
-        tell_front(them)
+        tell_among(them, "front", peer_filled)
+        tell_among(them, "amid", half_filled)
 
 
 if __name__ == "__main__":
