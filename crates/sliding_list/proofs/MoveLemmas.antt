@@ -1,7 +1,7 @@
 -- What moves within a vector leave of the items behind its first cells.
-use Rattle.std.proofs.Common.{◌≡◌, ◌∙◌, ◌<◌, ◌≤◌, ◌+◌, ◌-◌, ℕ, List, ◌∷◌, ◌++◌, length, get_or, set, take, drop, sym, ap, ap₂, arith}
+use Rattle.std.proofs.Common.{◌≡◌, ◌∙◌, ◌<◌, ◌≤◌, ◌+◌, ◌-◌, ℕ, List, [], ◌∷◌, ◌++◌, length, get_or, set, take, drop, sym, ap, ap₂, arith}
 use Rattle.std.specs.List.{copy_within, insert, remove_range}
-use Rattle.std.proofs.lemmas.List.{append_assoc, drop-append-le, drop-drop, drop-set-add, drop-take, drop_at, drop_more, length-drop, length-take-le, set_at, take_all}
+use Rattle.std.proofs.lemmas.List.{append-nil, append_assoc, drop-append-le, drop-drop, drop-set-add, drop-take, drop_all, drop_at, drop_more, length-append, length-drop, length-take-le, set_at, take-append-le, take_all, take_at, take_more}
 use Rattle.std.proofs.lemmas.List.Edits.{take-paste}
 use lib.Seq.{paste}
 
@@ -36,6 +36,22 @@ closed_behind xs first from until len left ordered within full is =
     ∙ ap (drop first) (take-paste xs (first + from) behind (len - (first + until)) (omega (arith, ordered, within, full)) (omega (arith, size)) ∙ ap (λ l. take (first + from) xs ++ l) (take_all (len - (first + until)) behind (omega (arith, size))))
     ∙ drop-append-le first (take (first + from) xs) behind (omega (arith, front))
     ∙ ap₂ (λ a b. a ++ b) (drop-take first from xs) (sym (drop-drop until first xs))
+
+-- one more, which came last: those from its place on a cell back, and it is written there
+pub made_room : {X : Type 0} (xs more : List X) (at len : ℕ) (x : X) → at ≤ len → len ≡ length xs → more ≡ xs ++ x ∷ [] → set (copy_within more at len (at + 1)) at x ≡ insert xs at x
+made_room xs more at len x within full is =
+    let old = get_or more at x in
+    let size : length more ≡ len + 1 = omega (arith, full, ap length is, length-append xs (x ∷ [])) in
+    let inside : at ≤ length xs = omega (arith, within, full) in
+    let before : take (at + 1) more ≡ take at xs ++ old ∷ [] = take_more more at x (omega (arith, within, size)) ∙ ap (λ l. l ++ old ∷ []) (ap (take at) is ∙ take-append-le at xs (x ∷ []) inside) in
+    let behind : take (len - at) (drop at more) ≡ drop at xs =
+    ap (take (len - at)) (ap (drop at) is ∙ drop-append-le at xs (x ∷ []) inside) ∙ take_at (drop at xs) (x ∷ []) (len - at) (omega (arith, full, length-drop at xs)) in
+    let over : drop (at + 1 + (len - at)) more ≡ [] = drop_all (at + 1 + (len - at)) more (omega (arith, size, within)) in
+    ap (λ l. set l at x) (
+    ap₂ (λ a b. a ++ b) (ap₂ (λ a b. a ++ b) before behind) over
+    ∙ append-nil ((take at xs ++ old ∷ []) ++ drop at xs)
+    ∙ append_assoc (take at xs) (old ∷ []) (drop at xs))
+    ∙ set_at (take at xs) old (drop at xs) x at (length-take-le at xs inside)
 
 -- one more among those behind the first cells
 pub put_behind : {X : Type 0} (xs : List X) (first at : ℕ) (x : X) → first + at ≤ length xs → drop first (insert xs (first + at) x) ≡ insert (drop first xs) at x

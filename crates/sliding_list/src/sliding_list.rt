@@ -2,14 +2,15 @@
 ghost use Rattle.std.specs.Prelude.{◌≡◌, ◌+◌, ◌-◌, ◌++◌, ◌^◌, ◌<◌, ◌≤◌, [], ◌∷◌, OnOk, length, slice_index_or, slice_set};
 ghost use Rattle.std.specs.List.{insert, remove, remove_range};
 
-use crate::moves::{close_behind, close_front, open_behind, open_front, slide, write};
+use crate::moves::{close_behind, close_front, free_front, open_behind, open_front, slide, write};
 use ps_time::memory::Memory;
 use std::alloc::Global;
 use std::marker::Model;
 use std::ops::Index;
 
-/// Items in places that were reserved, lent as one slice. An item that goes moves the shorter side of the others, so the first goes
-/// at no cost; the cells that this leaves in front of them are used again.
+/// Items in places that were reserved, lent as one slice, with unused cells in front of them and behind. An item that comes or goes
+/// moves the shorter side of the others, so the first and the last go at no cost. All items move only where one comes and no cell is
+/// unused on its side, and as `reserve` says.
 #[derive(Drop)]
 pub struct SlidingList<T> {
     // the items, behind cells that are out of use
@@ -40,9 +41,9 @@ impl<T: Copy> SlidingList<T> {
         }
     }
 
-    /// Reserves places, so that `count` more items fit. Where the last cell is taken, the items slide to the front of the vector if an
-    /// eighth of the cells lies before them, and else it grows; so where a place is reserved for each item that comes, few move on
-    /// the whole for the sake of those in front.
+    /// Reserves places, so that `count` more items fit. Moves nothing while they do and a cell is unused behind the items. Otherwise
+    /// these slide to the front of the vector, and it grows, unless `count` fit and an eighth of the cells lay before them; so where a
+    /// place is reserved for each item that comes behind the others, few move on the whole for the sake of those in front.
     pub fn reserve(&mut self, count: usize) -> Result<(), Memory>
         ensures same { self.new.list ≡ self.old.list }
         ensures never_less { self.old.places ≤ self.new.places }
@@ -78,7 +79,9 @@ impl<T: Copy> SlidingList<T> {
         self.cells.len() - self.first
     }
 
-    /// Puts an item in. Takes no memory.
+    /// Puts an item in. Takes no memory. Moves the shorter side of the others by one cell. Where no cell is unused in front of them,
+    /// an item that comes there first has all slide back by half of the unused cells, though by no more than there are items, so the
+    /// next ones find cells there. Where none is unused behind, one that comes there has all slide to the front of the vector.
     pub fn insert(&mut self, at: usize, item: T)
         requires within { at ≤ length self.old.list }
         requires place { length self.old.list < self.old.places }
@@ -86,9 +89,10 @@ impl<T: Copy> SlidingList<T> {
         ensures len { length self.new.list ≡ length self.old.list + 1 }
         ensures places { self.new.places ≡ self.old.places }
     {
-        if 0 < self.first && at < self.len() / 2 {
-            open_front(&mut self.cells, self.first, at, item);
-            self.first -= 1;
+        if at < self.len() / 2 {
+            let first = free_front(&mut self.cells, self.first, item);
+            open_front(&mut self.cells, first, at, item);
+            self.first = first - 1;
         } else if self.cells.len() < self.cells.capacity() {
             open_behind(&mut self.cells, self.first, at, item);
         } else {
