@@ -1,0 +1,3 @@
+mod JoinLemmas
+mod LentLemmas
+pub mod SearchLemmas
