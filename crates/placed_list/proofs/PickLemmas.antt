@@ -1,12 +1,13 @@
 -- What is picked from cells by their numbers.
-use Rattle.std.proofs.Common.{◌≡◌, ◌≢◌, ◌∙◌, ◌⊎◌, inl, inr, ◌<◌, ◌-◌, ℕ, zero, suc, cond, false, ◌==◌, All, List, [], ◌∷◌, ◌++◌, Option, Some, length, get_or, set, take, drop, map, refl, sym, ap, ap₂, subst, arith, length-append, length-set}
+use Rattle.std.proofs.Common.{◌≡◌, ◌≢◌, ◌∙◌, ◌⊎◌, inl, inr, ◌<◌, ◌≤◌, ◌-◌, ℕ, zero, suc, Bool, cond, false, true, ◌==◌, All, List, [], ◌∷◌, ◌++◌, Option, Some, length, get_or, set, take, drop, map, refl, sym, ap, ap₂, subst, arith, length-append, length-set}
 use Rattle.std.specs.List.{AllByRecursion, cons_option, filter_map, insert, range_with_len, remove, slice_get, swap_remove}
+use Rattle.std.specs.List.Sorted.{IsPartitionPoint, IsPartitionedBy}
 use Rattle.std.proofs.lemmas.Bool.{cases_eq, eq-eqb}
 use Rattle.std.proofs.lemmas.Bool.Decides.{nat_tests}
 use Rattle.std.proofs.lemmas.List.{append_assoc, get_or_at, get_or_append_left, get_or-set_other, get_or-set_same, get_or-take, length-take, length_push}
 use Rattle.std.proofs.lemmas.List.Elements.{All-drop, All-take, All-weaker, filter_map-append, recursion_from_All}
 use Rattle.std.proofs.lemmas.Option.{slice_get-get_or}
-use Rattle.placed_list.specs.Order.{IsOrderOf, last_place, picked, times}
+use Rattle.placed_list.specs.Order.{IsOrderOf, last_place, passes_in, passes_some, picked, times}
 use Rattle.placed_list.proofs.OrderLemmas.{apart, counts_other, counts_same, inside, last_number, last_within, left_inside, redirect, remove_map, set_redirect, times_member, times_more}
 
 -- a number that is inside gives the item of its cell
@@ -93,13 +94,27 @@ module _ {X : Type 0} (cells : List X) (order : List ℕ) (inside : All (λ n. n
   pub get_picked : (i d : ℕ) → i < length order → slice_get (picked cells order) i ≡ slice_get cells (get_or order i d)
   get_picked i d lt = get_given (slice_get cells) order i d given lt
 
-  -- the item of the number at a place is that at the place
-  pub item_picked : (i d : ℕ) (x : X) → i < length order → x ≡ get_or cells (get_or order i d) x → x ≡ get_or (picked cells order) i x
-  item_picked i d x lt is =
+  -- the item of the number that was read at a place is that at the place
+  pub item_picked : (i n : ℕ) (x : X) → i < length order → n ≡ get_or order i n → x ≡ get_or cells n x → x ≡ get_or (picked cells order) i x
+  item_picked i n x lt read is =
       let there : slice_get (picked cells order) i ≡ Some (get_or (picked cells order) i x) = slice_get-get_or (picked cells order) i x (omega (arith, length_picked)) in
-      let cell : slice_get cells (get_or order i d) ≡ Some (get_or cells (get_or order i d) x) = slice_get-get_or cells (get_or order i d) x (inside i d lt) in
-      let same = get_picked i d lt in
+      let cell : slice_get cells n ≡ Some (get_or cells n x) = slice_get-get_or cells n x (subst (λ m. m < length cells) (sym read) (inside i n lt)) in
+      let same = get_picked i n lt in
       cc
+
+  -- a test of the items is one of the numbers
+  module _ (p : X → Bool) where
+    at_number : (i m : ℕ) (x : X) → i < length order → passes_in p cells (get_or order i m) ≡ p (get_or (picked cells order) i x)
+    at_number i m x lt = ap (passes_some p) (sym (get_picked i m lt) ∙ slice_get-get_or (picked cells order) i x (omega (arith, lt, length_picked)))
+
+    pub parted_numbers : IsPartitionedBy p (picked cells order) → IsPartitionedBy (passes_in p cells) order
+    parted_numbers parted i j m le lt passing =
+        let x : X = (at_cell cells (get_or order j m) (inside j m lt)).0 in
+        at_number i m x (omega (arith, le, lt)) ∙ parted i j x le (omega (arith, lt, length_picked)) (sym (at_number j m x lt) ∙ passing)
+
+    pub parted_items : (at : ℕ) → at ≤ length order → IsPartitionPoint (λ n. passes_in p cells n ≡ true) (λ n. passes_in p cells n ≡ false) order at → IsPartitionPoint (λ y. p y ≡ true) (λ y. p y ≡ false) (picked cells order) at
+    parted_items at within point =
+        (λ k x a b. sym (at_number k 0 x (omega (arith, b, within))) ∙ point.0 k 0 a b, λ k x a b. let low : k < length order = omega (arith, b, length_picked) in sym (at_number k 0 x low) ∙ point.1 k 0 a low)
 
   -- one more cell, whose number goes in
   pub insert_picked : (at : ℕ) (x : X) → picked (cells ++ x ∷ []) (insert order at (length cells)) ≡ insert (picked cells order) at x
@@ -185,7 +200,7 @@ module _ {X : Type 0} (cells : List X) (order : List ℕ) (is : IsOrderOf (lengt
   read_inside at n lt read = subst (λ m. m < length cells) (sym read) (inside (length cells) order is at n lt)
 
   pub read_item : (at n : ℕ) (x : X) → at < length order → n ≡ get_or order at n → x ≡ get_or cells n x → x ≡ get_or (picked cells order) at x
-  read_item at n x lt read item = item_picked cells order (inside (length cells) order is) at n x lt (item ∙ ap (λ m. get_or cells m x) read)
+  read_item = item_picked cells order (inside (length cells) order is)
 
   pub read_set : (at n : ℕ) (x : X) → at < length order → n ≡ get_or order at n → picked (set cells n x) order ≡ set (picked cells order) at x
   read_set at n x lt read = set_picked cells order (inside (length cells) order is) at n n x lt (sym read) (is.once n (read_inside at n lt read))

@@ -3,9 +3,10 @@ ghost use Rattle.std.specs.Prelude.{◌≡◌, ◌<◌, ◌≤◌, ◌-◌, ◌+
 ghost use Rattle.std.specs.Fn.{ComputesKey};
 ghost use Rattle.std.specs.List.Sorted.{IsPartitionPoint, IsPartitionedBy};
 ghost use Rattle.std.specs.Option.{option_copied};
-ghost use Rattle.placed_list.specs.Order.{picked};
+ghost use Rattle.placed_list.specs.Order.{passes_in, picked};
 
 use std::marker::Model;
+use tiered_list::lent::Lent as Numbers;
 
 /// Items of a list in its order, that are lent. As an iterator they are those that are left.
 #[derive(Drop)]
@@ -13,7 +14,7 @@ pub struct Lent<'a, T> {
     // the items, in no order
     cells: &'a [T],
     // the numbers of the cells of those that are left
-    order: &'a [u32],
+    order: Numbers<'a, u32>,
 }
 
 impl<'a, T> Model for Lent<'a, T> {
@@ -22,16 +23,16 @@ impl<'a, T> Model for Lent<'a, T> {
 
     ghost Value = { List T };
 
-    ghost view = { λ l. picked l.cells.now l.order.now };
+    ghost view = { λ l. picked l.cells.now l.order };
 
-    ghost invariant = { λ l. All (λ n. n < length l.cells.now) l.order.now };
+    ghost invariant = { λ l. All (λ n. n < length l.cells.now) l.order };
 }
 
 impl<'a, T> Lent<'a, T> {
     // The items of the cells that have these numbers.
-    pub(crate) fn of(cells: &'a [T], order: &'a [u32]) -> Lent<'a, T>
-        requires { All (λ n. n < length cells.now) order.now }
-        ensures { result ≡ picked cells.now order.now }
+    pub(crate) fn of(cells: &'a [T], order: Numbers<'a, u32>) -> Lent<'a, T>
+        requires { All (λ n. n < length cells.now) order }
+        ensures { result ≡ picked cells.now order.entry }
     {
         Lent { cells, order }
     }
@@ -49,7 +50,7 @@ impl<'a, T> Lent<'a, T> {
         ensures value { result.now ≡ slice_index_or self.now place result.now }
         ensures rest { drop place self.now ≡ result.now ∷ drop (place + 1) self.now }
     {
-        item_at(self.cells, self.order, place)
+        &self.cells[*self.order.at(place) as usize]
     }
 
     /// The first item.
@@ -78,7 +79,7 @@ impl<'a, T> Lent<'a, T> {
         requires { place ≤ length self.now }
         ensures { result ≡ drop place self.now }
     {
-        Lent::of(self.cells, numbers_from(self.order, place))
+        Lent::of(self.cells, self.order.from(place))
     }
 
     /// The first ones, so many.
@@ -86,35 +87,29 @@ impl<'a, T> Lent<'a, T> {
         requires { place ≤ length self.now }
         ensures { result ≡ take place self.now }
     {
-        Lent::of(self.cells, numbers_until(self.order, place))
+        Lent::of(self.cells, self.order.until(place))
     }
 
-    /// How many items pass the test, where those that pass stand before all others. It tests as many as a binary search has steps.
+    /// How many items pass the test, where those that pass stand before all others. The last ones are tested first, then as many as a binary
+    /// search has steps.
     pub fn partition_point<P: FnMut(&T) -> bool>(&self, mut passes: P) -> usize
         requires { P.IsAlwaysCallable passes }
         ensures bound { result ≤ length self.now }
         ensures partitioned { (p : T → Bool) → ComputesKey P.FnMut p passes → IsPartitionedBy p self.now → IsPartitionPoint (λ y. p y ≡ true) (λ y. p y ≡ false) self.now result }
     {
-        let mut size = self.len();
-        if size == 0 {
-            return 0;
-        }
-        let mut base = 0;
-        while size > 1 {
-            let half = size / 2;
-            let mid = base + half;
-            if passes(self.at(mid)) {
-                base = mid;
-                size -= half;
-            } else {
-                size -= half;
-            }
-        }
-        if passes(self.at(base)) {
-            base + 1
-        } else {
-            base
-        }
+        let cells = self.cells;
+        self.order.partition_point(
+            |number|
+                requires { P.IsAlwaysCallable passes }
+                ensures lasts { P.IsAlwaysCallable passes.exit }
+                ensures answers { (p : T → Bool) → ComputesKey P.FnMut p passes.entry → (result ≡ passes_in p cells.entry.now number.now) × ComputesKey P.FnMut p passes.exit }
+            {
+                match cells.get(*number as usize) {
+                    Some(item) => passes(item),
+                    None => false,
+                }
+            },
+        )
     }
 }
 
@@ -128,36 +123,7 @@ impl<'a, T> Iterator for Lent<'a, T> {
     ghost remaining = { item_count (λ s. s) };
 
     fn next(&mut self) -> Option<&'a T> {
-        if self.order.is_empty() {
-            return None;
-        }
-        let item = item_at(self.cells, self.order, 0);
-        self.order = numbers_from(self.order, 1);
-        Some(item)
+        let number = self.order.next()?;
+        Some(&self.cells[*number as usize])
     }
-}
-
-// The item whose number stands at the place.
-fn item_at<'a, T>(cells: &'a [T], order: &[u32], place: usize) -> &'a T
-    requires within { place < length order.now }
-    requires inside { All (λ n. n < length cells.now) order.now }
-    ensures { result.now ≡ slice_index_or (picked cells.now order.now) place result.now }
-{
-    &cells[order[place] as usize]
-}
-
-// The numbers from the place on.
-fn numbers_from(order: &[u32], place: usize) -> &[u32]
-    requires { place ≤ length order.now }
-    ensures { result.now ≡ drop place order.now }
-{
-    &order[place..]
-}
-
-// The numbers before the place.
-fn numbers_until(order: &[u32], place: usize) -> &[u32]
-    requires { place ≤ length order.now }
-    ensures { result.now ≡ take place order.now }
-{
-    &order[..place]
 }

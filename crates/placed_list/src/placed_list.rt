@@ -5,19 +5,19 @@ ghost use Rattle.std.specs.List.{insert, range_with_len, remove};
 
 use crate::lent::Lent;
 use ps_time::memory::Memory;
-use sliding_list::sliding_list::SlidingList;
 use std::alloc::Global;
 use std::marker::Model;
 use std::ops::{Index, IndexMut};
+use tiered_list::tiered_list::TieredList;
 
-/// Items in cells of their own, at most 2^32 of them. The list's order is kept apart, as numbers of the cells: where an item comes
-/// or goes amid others, four bytes move for each item on the shorter side.
+/// Items in cells of their own, at most 2^32 of them. The list's order is kept apart, as numbers of the cells in blocks of 2,048:
+/// where an item comes or goes, four bytes move for each item of its block, and one number of each block behind it.
 #[derive(Drop)]
 pub struct PlacedList<T> {
     // the items, in no order
     cells: Vec<T>,
     // the numbers of their cells, in the order of the list
-    order: SlidingList<u32>,
+    order: TieredList<u32>,
 }
 
 impl<T> Model for PlacedList<T> {
@@ -39,7 +39,7 @@ impl<T> PlacedList<T> {
     {
         PlacedList {
             cells: Vec::new(alloc),
-            order: SlidingList::new(alloc),
+            order: TieredList::new(alloc),
         }
     }
 
@@ -69,7 +69,7 @@ impl<T> PlacedList<T> {
     pub fn in_order(&self) -> Lent<'_, T>
         ensures { result ≡ self.now.list }
     {
-        Lent::of(self.cells.as_slice(), self.order.as_slice())
+        Lent::of(self.cells.as_slice(), self.order.in_order())
     }
 
     /// Puts an item in. Takes no memory; no other item moves.
@@ -165,11 +165,11 @@ fn add_cell<T>(cells: &mut Vec<T>, item: T) -> u32
 }
 
 // The numbers of so many cells, one after another.
-fn numbers(alloc: Global, count: usize) -> Result<SlidingList<u32>, Memory>
+fn numbers(alloc: Global, count: usize) -> Result<TieredList<u32>, Memory>
     ensures few { OnOk result (count ≤ 2 ^ 32) }
     ensures numbers { IfOk result (λ made. made.list ≡ range_with_len 0 count) }
 {
-    let mut order = SlidingList::new(alloc);
+    let mut order = TieredList::new(alloc);
     if MOST < count {
         return Err(Memory);
     }

@@ -4,16 +4,16 @@ use Rattle.placed_list.proofs.PickLemmas.{drop_picked, length_picked}
 use Rattle.std.proofs.lemmas.List.Elements.{All-drop}
 use Rattle.placed_list.proofs.lent.Lent.from.Goals as goal
 
-pub numbers_from-requires : goal.numbers_from-requires
-numbers_from-requires g c =
-    let same = length_picked c.self.inside.cells.now c.self.inside.order.now c.self.invariant in
+pub from-requires : goal.from-requires
+from-requires g c =
+    let same = length_picked c.self.inside.cells.now c.self.inside.order c.self.invariant in
     let long = ap (λ (l : List g.row.T.Denot). length l) c.self.view_is in
     omega (arith, same, long, c.requires)
 
 pub of-requires : goal.of-requires
 of-requires g c =
-    subst (All (λ n. n < length c.self.inside.cells.now)) (sym c.numbers_from.ensures) (All-drop (λ n. n < length c.self.inside.cells.now) c.args.place c.self.inside.order.now c.self.invariant)
+    subst (All (λ n. n < length c.self.inside.cells.now)) (sym c.from.ensures) (All-drop (λ n. n < length c.self.inside.cells.now) c.args.place c.self.inside.order c.self.invariant)
 
 pub returns : goal.returns
 returns g c =
-    c.of.ensures ∙ ap (picked c.self.inside.cells.now) c.numbers_from.ensures ∙ sym (drop_picked c.self.inside.cells.now c.self.inside.order.now c.self.invariant c.args.place) ∙ ap (drop c.args.place) c.self.view_is
+    c.of.ensures ∙ ap (picked c.self.inside.cells.now) c.from.ensures ∙ sym (drop_picked c.self.inside.cells.now c.self.inside.order c.self.invariant c.args.place) ∙ ap (drop c.args.place) c.self.view_is

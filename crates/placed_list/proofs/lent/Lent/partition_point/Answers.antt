@@ -1,51 +1,33 @@
-use Rattle.std.proofs.Common.{◌≡◌, ◌+◌, ◌-◌, ◌/◌, true, false, refl, sym, subst, arith, of_calls}
-use Rattle.std.proofs.lemmas.Fn.{called}
-use Rattle.std.proofs.lemmas.List.Elements.{at_read}
-use Rattle.placed_list.proofs.SearchLemmas.{Halved, after_passing, answers_next, at_failing, failed, passed, unhalved}
+use Rattle.std.proofs.Common.{◌≡◌, ◌∙◌, rules, List, false, length, refl, sym, true, ap, arith, subst}
+use Rattle.std.specs.Fn.{ComputesKey, always_mut}
+use Rattle.std.specs.List.Sorted.{IsPartitionPoint, IsPartitionedBy}
+use Rattle.std.proofs.lemmas.Fn.{answers_by}
+use denote.Param.Always.{mut_by}
+use Rattle.placed_list.specs.Order.{passes_in}
+use Rattle.placed_list.proofs.PickLemmas.{length_picked, parted_items, parted_numbers}
 use Rattle.placed_list.proofs.lent.Lent.partition_point.Goals as goal
 
-pub loop-size-init : goal.loop-size-init
-loop-size-init g c = record { some = omega arith; within = omega arith; callable = search of_calls; halved = λ p h. (h, subst (Halved p c.args.self.now 0) (sym c.len-size.ensures) (unhalved p _)) }
+pub partition_point-requires : goal.partition_point-requires
+partition_point-requires g c = mut_by _ (λ s. always_mut g.P.FnMut s.1.now) (λ s a i. i) (λ s a r t i e. search rules) _ c.requires
 
-pub overflow_add-mid : goal.overflow_add-mid
-overflow_add-mid g c = omega (arith, c.len-size.ensures)
+pub returns-clause-bound : goal.returns-clause-bound
+returns-clause-bound g c =
+    let same = length_picked c.self.inside.cells.now c.self.inside.order c.self.invariant in
+    let long = ap (λ (l : List g.row.T.Denot). length l) c.self.view_is in
+    omega (arith, same, long, c.partition_point.ensures.bound)
 
-pub at-requires : goal.at-requires
-at-requires g c = omega (arith, c.loop-size.invariant.within)
-
-pub loop-size-preserved-then-passes : goal.loop-size-preserved-then-passes
-loop-size-preserved-then-passes g c =
-    let xs = c.args.self.now in let base = c.loop-size.base in let size = c.loop-size.size in let mid = base + size / 2 in
-    let k = called g.P.FnMut c.if-passes.ensures refl in
-    record {
-      some = omega arith;
-      within = omega arith;
-      callable = search of_calls;
-      halved = λ p h. let i = c.loop-size.invariant.halved p h in let n = answers_next g.P.FnMut _ _ _ _ _ k i.0 in (n.1, passed p xs base size mid (size - size / 2) (omega arith) i.1 (at_read xs (λ y. p y ≡ true) mid c.at.result.now (omega arith) c.at.ensures.value (sym n.0)));
-    }
-
-pub loop-size-preserved : goal.loop-size-preserved
-loop-size-preserved g c =
-    let xs = c.args.self.now in let base = c.loop-size.base in let size = c.loop-size.size in let mid = base + size / 2 in
-    let k = called g.P.FnMut c.if-passes.ensures refl in
-    record {
-      some = omega arith;
-      within = omega arith;
-      callable = search of_calls;
-      halved = λ p h. let i = c.loop-size.invariant.halved p h in let n = answers_next g.P.FnMut _ _ _ _ _ k i.0 in (n.1, failed p xs base size mid (size - size / 2) (omega arith) i.1 (at_read xs (λ y. p y ≡ false) mid c.at.result.now (omega arith) c.at.ensures.value (sym n.0)));
-    }
-
-pub at-requires-2 : goal.at-requires-2
-at-requires-2 g c = omega (arith, c.loop-size.invariant.within, c.loop-size.invariant.some)
-
-pub returns-then-passes-2-clause-partitioned : goal.returns-then-passes-2-clause-partitioned
-returns-then-passes-2-clause-partitioned g c =
-    let xs = c.args.self.now in let base = c.loop-size.base in let size = c.loop-size.size in
-    let k = called g.P.FnMut c.if-passes-2.ensures refl in
-    λ p h. let i = c.loop-size.invariant.halved p h in let n = answers_next g.P.FnMut _ _ _ _ _ k i.0 in after_passing p xs base size (omega arith) (omega arith) i.1 (at_read xs (λ y. p y ≡ true) base c.at-2.result.now (omega arith) c.at-2.ensures.value (sym n.0))
-
+-- each test of a number is one of its cell's item, and leaves the cells
 pub returns-clause-partitioned : goal.returns-clause-partitioned
 returns-clause-partitioned g c =
-    let xs = c.args.self.now in let base = c.loop-size.base in let size = c.loop-size.size in
-    let k = called g.P.FnMut c.if-passes-2.ensures refl in
-    λ p h. let i = c.loop-size.invariant.halved p h in let n = answers_next g.P.FnMut _ _ _ _ _ k i.0 in at_failing p xs base size i.1 (at_read xs (λ y. p y ≡ false) base c.at-2.result.now (omega arith) c.at-2.ensures.value (sym n.0))
+    let cells = c.self.inside.cells.now in
+    let order = c.self.inside.order in
+    λ p h parted.
+    let tests = answers_by _ (λ a r. r ≡ passes_in p cells a.0.now) (λ s. ComputesKey g.P.FnMut p s.1.now × (s.0.now ≡ cells))
+    (λ s a r t e i.
+    let told : (r ≡ passes_in p s.0.now a.0.now) × ComputesKey g.P.FnMut p t.1.now = search rules in
+    let left : t.0.now ≡ s.0.now = search rules in
+    (told.0 ∙ ap (λ (xs : List g.row.T.Denot). passes_in p xs a.0.now) i.1, (told.1, left ∙ i.1)))
+    _ (h, refl) in
+    let numbers = parted_numbers cells order c.self.invariant p (subst (λ (l : List g.row.T.Denot). IsPartitionedBy p l) (sym c.self.view_is) parted) in
+    subst (λ (l : List g.row.T.Denot). IsPartitionPoint (λ y. p y ≡ true) (λ y. p y ≡ false) l c.partition_point.result) c.self.view_is
+    (parted_items cells order c.self.invariant p c.partition_point.result c.partition_point.ensures.bound (c.partition_point.ensures.partitioned (passes_in p cells) tests numbers))

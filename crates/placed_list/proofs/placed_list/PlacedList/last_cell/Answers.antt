@@ -1,8 +1,8 @@
-use Rattle.std.proofs.Common.{◌≡◌, ◌<◌, ◌∙◌, ◌-◌, length, get_or, ap, subst, arith}
+use Rattle.std.proofs.Common.{◌≡◌, ◌<◌, ◌-◌, length, get_or, ap, subst, arith}
 use Rattle.placed_list.specs.Order.{last_place}
 use Rattle.placed_list.specs.PlacedList.{PlacedList}
-use Rattle.placed_list.proofs.OrderLemmas.{inside, last_number, last_within}
-use Rattle.placed_list.proofs.PickLemmas.{item_picked, length_seen}
+use Rattle.placed_list.proofs.OrderLemmas.{last_number, last_within}
+use Rattle.placed_list.proofs.PickLemmas.{length_seen, read_item}
 use Rattle.placed_list.proofs.placed_list.PlacedList.last_cell.Goals as goal
 
 pub returns-clause-within : goal.returns-clause-within
@@ -24,7 +24,8 @@ returns-clause-value g c =
     let long = ap (λ (v : PlacedList g.row.T.Denot). length v.list) c.self.view_is in
     let some : 0 < length cells = omega (arith, same, long, c.requires, c.self.invariant.all) in
     let low = last_within (length cells) order c.self.invariant some in
-    let number = last_number (length cells) order c.self.invariant 0 some in
-    let place : c.len.result - 1 ≡ get_or order (last_place order) 0 = omega (arith, number, c.len.ensures, c.self.inside.cells.ok.0) in
+    let n = c.len.result - 1 in
+    let number = last_number (length cells) order c.self.invariant n some in
+    let read : n ≡ get_or order (last_place order) n = omega (arith, number, c.len.ensures, c.self.inside.cells.ok.0) in
     subst (λ (v : PlacedList g.row.T.Denot). x ≡ get_or v.list v.last x) c.self.view_is
-    (item_picked cells order (inside (length cells) order c.self.invariant) (last_place order) 0 x low (c.index.ensures ∙ ap (λ n. get_or cells n x) place))
+    (read_item cells order c.self.invariant (last_place order) n x low read c.index.ensures)
