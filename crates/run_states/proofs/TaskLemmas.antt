@@ -180,6 +180,22 @@ pub last_get : {X : Type 0} (xs : List X) → slice_get xs (length xs - 1) ≡ l
 last_get [] = refl
 last_get (x ∷ xs) = let last : length (x ∷ xs) - 1 ≡ length xs = omega arith in ap (slice_get (x ∷ xs)) last ∙ sym (last_at None x xs)
 
+-- the last of a list that passes is the last of those that pass
+module _ {X : Type 0} (q : X → Bool) (x : X) (passes : q x ≡ true) where
+  last_kept : (xs : List X) (o p : Option X) → last_or o xs ≡ Some x → (o ≡ Some x → p ≡ Some x) → last_or p (filter q xs) ≡ Some x
+  last_kept [] o p last same = same last
+  last_kept (y ∷ ys) o p last same = go (q y) refl (last_kept ys (Some y) (Some y) last (λ e. e)) (last_kept ys (Some y) p last)
+    where
+      other : q y ≡ false → Some y ≡ Some x → p ≡ Some x
+      other fails is = let here : y ≡ x = cc in let wrong : q x ≡ false = subst (λ z. q z ≡ false) here fails in let never = sym passes ∙ wrong in cc
+
+      go : (b : Bool) → q y ≡ b → last_or (Some y) (filter q ys) ≡ Some x → ((Some y ≡ Some x → p ≡ Some x) → last_or p (filter q ys) ≡ Some x) → last_or p (cond b (y ∷ filter q ys) (filter q ys)) ≡ Some x
+      go true is mine others = mine
+      go false is mine others = others (other is)
+
+  pub last_passing : (xs : List X) → slice_get xs (length xs - 1) ≡ Some x → last_or None (filter q xs) ≡ Some x
+  last_passing xs last = last_kept xs None None (sym (last_get xs) ∙ last) (λ e. e)
+
 -- ---- rows above a key
 module _ (key : RunKey) where
   not_above : (a b : RunRow) → key_cmp a.key b.key ≡ Less → not (is_above key b) ≡ true → not (is_above key a) ≡ true

@@ -108,18 +108,18 @@ impl Rows {
     pub fn newest_of_task(&self, lead: u16, serial: u32) -> Option<&RunRow>
         ensures { option_copied result ≡ newest_row lead serial self.now.list }
     {
-        self.task_rows(lead, serial).greatest()
+        newest_in(&self.rows.in_order(), lead, serial)
     }
 
     /// The greatest number of a run of the task; 0 where it has none.
     pub fn greatest_number(&self, lead: u16, serial: u32) -> u32
         ensures { result ≡ greatest_number lead serial self.now.list }
     {
-        let newest = task_rows(&self.rows.in_order(), lead, serial).back();
+        let newest = newest_in(&self.rows.in_order(), lead, serial);
         number_of(newest)
     }
 
-    /// Takes no memory. Where the row goes amid others, four bytes move for each one on the shorter side of it.
+    /// Takes no memory, and no other row moves: only the numbers of their cells do, as `PlacedList` says.
     pub fn put(&mut self, row: RunRow)
         requires room { 0 < self.old.room }
         requires new_key { find_row self.old.list row.key ≡ None }
@@ -133,8 +133,8 @@ impl Rows {
     }
 
     /// Takes the row out; its place stays reserved. Where it is put back changed, it comes into its place
-    /// again. Four bytes move for each row on the shorter side of it, and the row in the last cell moves into
-    /// the one that is free now; that row's place is found by a search.
+    /// again. The row in the last cell moves into the one that is free now, and that row's place is found by a
+    /// search; of the others only the numbers of their cells move.
     pub fn lift(&mut self, key: RunKey) -> Option<RunRow>
         ensures row { result ≡ find_row self.old.list key }
         ensures rows { self.new.list ≡ lift_row self.old.list key }
@@ -327,6 +327,19 @@ fn task_rows<'a>(rows: &Lent<'a, RunRow>, lead: u16, serial: u32) -> Lent<'a, Ru
 {
     let rest = rows.from(before_task(rows, lead, serial));
     rest.until(in_task(&rest, lead, serial))
+}
+
+// The row of the task with the greatest number and attempt. It is often the last of all.
+fn newest_in<'a>(rows: &Lent<'a, RunRow>, lead: u16, serial: u32) -> Option<&'a RunRow>
+    requires { IsAscendingRows rows.now }
+    ensures { option_copied result ≡ newest_row lead serial rows.now }
+{
+    if let Some(row) = rows.back() {
+        if row.is_of_task(lead, serial) {
+            return Some(row);
+        }
+    }
+    task_rows(rows, lead, serial).back()
 }
 
 // How many rows stand before those of the task.
