@@ -231,11 +231,23 @@ fn has_conflicts(alloc: Global, timeline: &Timeline, keys: &[RunKey]) -> Result<
     Ok(conflicts.as_slice() == keys)
 }
 
+fn are_conflicting(alloc: Global, timeline: &Timeline, keys: &[RunKey]) -> Result<bool, Memory> {
+    let found = timeline.conflicting(alloc, Exclusive, &ASKING)?;
+    Ok(
+        found.len() == keys.len()
+            && found
+                .iter()
+                .zip(keys.iter())
+                .all(|(booking, key)| booking.key == *key),
+    )
+}
+
 #[test]
 fn two_runs_give_way(rt: HostRuntime) -> Result<(), Fail> {
     let held = booked(rt.alloc(), &TWO_NORMAL)?;
     check_preempted(&rt, &held.timeline, &PREEMPTED);
     assert!(rt; has_conflicts(rt.alloc(), &held.timeline, &[FIRST, SECOND])?);
+    assert!(rt; are_conflicting(rt.alloc(), &held.timeline, &[FIRST, SECOND])?);
     Ok(())
 }
 

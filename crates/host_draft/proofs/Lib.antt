@@ -1,6 +1,7 @@
 pub mod CountLemmas
 pub mod DraftLemmas
 pub mod DueLemmas
+pub mod FilterLemmas
 pub mod FreeLemmas
 pub mod HostingLemmas
 pub mod KindLemmas

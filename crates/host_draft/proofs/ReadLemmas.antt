@@ -21,6 +21,7 @@ use Rattle.host_book.proofs.MomentLemmas.{book_moments}
 use Rattle.host_draft.specs.Draft.{IsDraft}
 use Rattle.host_draft.specs.Overlay.{Takes, booked, hides, later, meets, meets_below, near_gathered, reach_of}
 use Rattle.host_draft.specs.declared.overlay.Sought.{Sought}
+use Rattle.host_draft.proofs.FilterLemmas.{filter_twice}
 use Rattle.host_draft.proofs.FreeLemmas.{takes_near, tiers_near}
 use Rattle.host_draft.proofs.PickLemmas.{earlier, find_over, greater_order, is_greater, is_less, last_over, less_order, sought_over}
 
@@ -29,13 +30,6 @@ later_is : (a b : Option RunRow) → earlier is_greater greater_order a b ≡ la
 later_is None b = refl
 later_is (Some a) None = refl
 later_is (Some a) (Some b) = refl
-
-filter_twice : (p g : RunRow → Bool) (xs : List RunRow) → filter g (filter p xs) ≡ filter (λ r. p r && g r) xs
-filter_twice p g [] = refl
-filter_twice p g (x ∷ xs) = elim (p x) as (λ b. filter g (cond b (x ∷ filter p xs) (filter p xs)) ≡ cond (b && g x) (x ∷ filter (λ r. p r && g r) xs) (filter (λ r. p r && g r) xs)) [
-  | true ↦ ap (λ l. cond (g x) (x ∷ l) l) (filter_twice p g xs)
-  | false ↦ filter_twice p g xs
-]
 
 -- the row of each key has its moments in bounds
 pub moments_now : (number : ℕ) (b : Book) → Lawful number b → (k : RunKey) → IfSome (find_row b.rows k) HasMoments
@@ -57,7 +51,7 @@ module _ (number m : ℕ) (began now : Book) (touched : List RunRow) (gone : Lis
 
   pub read_newest : (lead serial : ℕ) → later (newest_row lead serial touched) (last_or None (filter (λ r. not (hides touched gone r.key)) (rows_of_task lead serial began.rows))) ≡ newest_row lead serial now.rows
   read_newest lead serial =
-      ap (λ l. later (newest_row lead serial touched) (last_or None l)) (filter_twice (is_of_task lead serial) (λ r. not (hides touched gone r.key)) began.rows)
+      ap (λ l. later (newest_row lead serial touched) (last_or None l)) (filter_twice (is_of_task lead serial) (λ (r : RunRow). not (hides touched gone r.key)) began.rows)
       ∙ (sym (later_is (newest_row lead serial touched) (last_or None (filter (λ r. is_of_task lead serial r && not (hides touched gone r.key)) began.rows)))
       ∙ sym (last_over now.rows touched gone began.rows sound.lawful.ascending up lawful.ascending sound.found (is_of_task lead serial)))
 

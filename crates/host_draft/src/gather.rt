@@ -1,8 +1,8 @@
 //! What the rows of a draft reserve as they are now, in a timeline of its own.
-ghost use Rattle.std.specs.Prelude.{◌≡◌, ◌&&◌, ◌++◌, [], IfOk, IfSome, OnOk, not};
+ghost use Rattle.std.specs.Prelude.{◌≡◌, ◌++◌, [], IfOk, IfSome, OnOk, Some};
 ghost use Rattle.run_states.specs.Rows.{IsAscendingRows};
 ghost use Rattle.part_core.specs.Reservations.{booking_of, bookings_of};
-ghost use Rattle.host_draft.specs.Overlay.{Takes, booked, hides, is_near, near_bookings, near_gathered, reach_of};
+ghost use Rattle.host_draft.specs.Overlay.{Takes, bare_bookings, booked, near_bookings, near_gathered, reach_of};
 
 use crate::overlay::is_hidden;
 use host_timeline::booking::{Booking, firm_from};
@@ -31,63 +31,72 @@ pub(crate) fn reach(length: Length, window: &Window) -> Option<Interval>
 }
 
 /// What rows reserve that lie over those of a book, beside what others reserve that may be in the way of a run of this
-/// class within the interval, if there is one.
+/// class within the interval, if there is one. With an interval only what is beside it is looked at.
 pub(crate) fn bookings_over(
     alloc: Global,
-    bookings: LentBookings<'_>,
+    timeline: &Timeline,
     touched: &Rows,
     gone: &[RunKey],
     class: Class,
     reach: &Option<Interval>,
 ) -> Result<Vec<Booking>, Memory>
-    ensures made { IfOk result (λ made. made.items ≡ near_gathered class reach.now touched.now.list gone.now bookings.entry) }
+    ensures made { IfOk result (λ made. made.items ≡ near_gathered class reach.now touched.now.list gone.now timeline.now.list) }
     ensures ascending { IsAscendingRows touched.now.list }
 {
     let rows = touched.in_order();
-    let mut made = near_bookings(alloc, bookings, touched, gone, class, reach)?;
+    let mut made = near_bookings(alloc, timeline, touched, gone, class, reach)?;
     add_bookings(&mut made, rows)?;
     Ok(made)
 }
 
 fn near_bookings(
     alloc: Global,
-    bookings: LentBookings<'_>,
+    timeline: &Timeline,
     touched: &Rows,
     gone: &[RunKey],
     class: Class,
     reach: &Option<Interval>,
 ) -> Result<Vec<Booking>, Memory>
-    ensures { IfOk result (λ made. made.items ≡ near_bookings class reach.now touched.now.list gone.now bookings.entry) }
+    ensures { IfOk result (λ made. made.items ≡ near_bookings class reach.now touched.now.list gone.now timeline.now.list) }
+{
+    match reach {
+        Some(interval) => bare_beside(alloc, timeline, touched, gone, class, interval),
+        None => bare_bookings(alloc, timeline.bookings(), touched, gone),
+    }
+}
+
+// What conflicts with a run of this class in the interval, where the book's row is as it was.
+fn bare_beside(
+    alloc: Global,
+    timeline: &Timeline,
+    touched: &Rows,
+    gone: &[RunKey],
+    class: Class,
+    interval: &Interval,
+) -> Result<Vec<Booking>, Memory>
+    ensures { IfOk result (λ made. made.items ≡ near_bookings class (Some interval.now) touched.now.list gone.now timeline.now.list) }
+{
+    let mut made = timeline.conflicting(alloc, class, interval)?;
+    made.retain(|booking| !is_hidden(touched, gone, booking.key));
+    Ok(made)
+}
+
+// All bookings whose row in the book is as it was.
+fn bare_bookings(
+    alloc: Global,
+    bookings: LentBookings<'_>,
+    touched: &Rows,
+    gone: &[RunKey],
+) -> Result<Vec<Booking>, Memory>
+    ensures { IfOk result (λ made. made.items ≡ bare_bookings touched.now.list gone.now bookings.entry) }
 {
     let mut made = Vec::new(alloc);
     for booking in bookings {
-        if is_open(booking, touched, gone, class, reach) {
+        if !is_hidden(touched, gone, booking.key) {
             made.push(*booking)?;
         }
     }
     Ok(made)
-}
-
-// Whether the book's row of the booking is as it was, and the booking is near.
-fn is_open(
-    booking: &Booking,
-    touched: &Rows,
-    gone: &[RunKey],
-    class: Class,
-    reach: &Option<Interval>,
-) -> bool
-    ensures { result ≡ (is_near class reach.now booking.now && not (hides touched.now.list gone.now booking.now.key)) }
-{
-    is_near(booking, class, reach) && !is_hidden(touched, gone, booking.key)
-}
-
-fn is_near(booking: &Booking, class: Class, reach: &Option<Interval>) -> bool
-    ensures { result ≡ is_near class reach.now booking.now }
-{
-    match reach {
-        Some(interval) => booking.conflicts_with(class, interval),
-        None => true,
-    }
 }
 
 fn add_bookings(made: &mut Vec<Booking>, rows: LentRows<'_>) -> Result<(), Memory>

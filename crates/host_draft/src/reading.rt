@@ -100,7 +100,7 @@ impl<'a> Reading for Draft<'a> {
         let reach = reach(length, &window);
         let bookings = bookings_over(
             alloc,
-            self.book.timeline().bookings(),
+            self.book.timeline(),
             &self.touched,
             self.gone.as_slice(),
             class,

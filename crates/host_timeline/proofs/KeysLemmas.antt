@@ -1,8 +1,8 @@
--- The keys of the bookings in conflict with a run, gathered from lists that have them all, and sorted.
+-- The keys of the bookings in conflict with a run, gathered from lists that have them all, and sorted; what they find.
 use Rattle.std.proofs.Common.{◌≡◌, ◌∙◌, ◌<◌, ◌+◌, ℕ, suc, List, [], ◌∷◌, ◌++◌, length, get_or, Bool, true, false, cond, ◌&&◌, Some, refl, sym, ap, ap₂, subst, arith}
 use Rattle.std.proofs.lemmas.List.Sorted.{ranks_by, sorted_far, sum_by-IsPermutation}
 use Rattle.std.proofs.lemmas.List.Sums.{sum_by-cons}
-use Rattle.std.specs.List.{filter, sum_by, AllByRecursion}
+use Rattle.std.specs.List.{cons_option, filter, filter_map, sum_by, AllByRecursion}
 use Rattle.std.specs.List.Sorted.{IsPermutation, IsSorted}
 use Rattle.std.specs.Ordering.{is_eq, is_lt, ordering_reverse}
 use Rattle.std.specs.declared.cmp.Ordering.TheVariants.{Less, Equal, Greater}
@@ -15,7 +15,7 @@ use Rattle.ps_time.proofs.KeyLemmas.{key_cmp_same, key_cmp_total, same_key}
 use Rattle.host_timeline.specs.declared.booking.Booking.{Booking}
 use Rattle.host_timeline.specs.Booking.{conflicting, conflicts_with, keys_of}
 use Rattle.host_timeline.specs.Lane.{how_many, Have}
-use Rattle.host_timeline.specs.Timeline.{IsAscendingBookings}
+use Rattle.host_timeline.specs.Timeline.{find_booking, IsAscendingBookings}
 use Rattle.host_timeline.proofs.Least.{ascending_passing, below, below_itself, neither_below}
 
 -- how often the key stands among keys
@@ -102,3 +102,25 @@ sorted_conflicts class s bs xs ys keys have up moved sorted =
     ∙ ap₂ (λ m n. m + n) (times_of p k xs) (times_of p k ys)
     ∙ have test (λ b off. let no : conflicts_with class s b ≡ false = off in rw no refl)
     ∙ sym (times_of p k bs))
+
+-- ---- what the keys find
+still_found : (b : Booking) (bs xs : List Booking) → AllByRecursion (λ x. key_cmp b.key x.key ≡ Less) xs → AllByRecursion (λ x. find_booking bs x.key ≡ Some x) xs → AllByRecursion (λ x. find_booking (b ∷ bs) x.key ≡ Some x) xs
+still_found b bs [] below found = tt
+still_found b bs (x ∷ xs) below found = (rw below.0 found.0, still_found b bs xs below.1 found.1)
+
+own_found : (bs : List Booking) → IsAscendingBookings bs → AllByRecursion (λ x. find_booking bs x.key ≡ Some x) bs
+own_found [] up = tt
+own_found (b ∷ bs) up = (rw (key_cmp_same b.key) refl, still_found b bs bs up.0 (own_found bs up.1))
+
+each_found : (p : Booking → Bool) (bs xs : List Booking) → AllByRecursion (λ x. find_booking bs x.key ≡ Some x) xs → filter_map (find_booking bs) (keys_of (filter p xs)) ≡ filter p xs
+each_found p bs [] found = refl
+each_found p bs (x ∷ xs) found =
+    let rest = each_found p bs xs found.1 in
+    elim (p x) as (λ t. filter_map (find_booking bs) (keys_of (cond t (x ∷ filter p xs) (filter p xs))) ≡ cond t (x ∷ filter p xs) (filter p xs)) [
+      | true ↦ ap₂ (λ o l. cons_option o l) found.0 rest
+      | false ↦ rest
+    ]
+
+-- the keys of the bookings that pass find these bookings
+pub found_again : (p : Booking → Bool) (bs : List Booking) → IsAscendingBookings bs → filter_map (find_booking bs) (keys_of (filter p bs)) ≡ filter p bs
+found_again p bs up = each_found p bs bs (own_found bs up)

@@ -45,7 +45,7 @@ impl<'a> LentBookings<'a> {
     }
 
     /// The booking at a place.
-    pub fn at(&self, place: usize) -> &'a Booking
+    pub(crate) fn at(&self, place: usize) -> &'a Booking
         requires { place < length self.now }
         ensures value { result.now ≡ slice_index_or self.now place result.now }
         ensures rest { drop place self.now ≡ result.now ∷ drop (place + 1) self.now }

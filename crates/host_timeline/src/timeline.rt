@@ -1,6 +1,6 @@
 //! The timeline: the bookings of a host, ascending by key, with reserved places.
 ghost use Rattle.std.specs.Prelude.{◌≡◌, ◌+◌, ◌<◌, ◌≤◌, ◌&&◌, [], ℕ, Bool, false, None, Some, IfOk, IfErr, IfNone, IfSome, OnOk, is_some, if◌then◌else◌, length};
-ghost use Rattle.std.specs.List.{list_all};
+ghost use Rattle.std.specs.List.{filter_map, list_all};
 ghost use Rattle.std.specs.Option.{is_none};
 ghost use Rattle.ps_time.specs.Key.{key_cmp};
 ghost use Rattle.ps_time.specs.Span.{Span};
@@ -144,6 +144,20 @@ impl Timeline {
         Ok(Items::from_vec(keys))
     }
 
+    /// The bookings in conflict with a run, ascending by key. Only what is beside the interval is looked at.
+    pub fn conflicting(
+        &self,
+        alloc: Global,
+        class: Class,
+        interval: &Interval,
+    ) -> Result<Vec<Booking>, Memory>
+        ensures { IfOk result (λ made. made.items ≡ conflicting class interval.now self.now.list) }
+    {
+        let _ = &self.bookings;
+        let keys = self.conflicts(alloc, class, interval)?;
+        self.bookings_of(alloc, keys.as_slice())
+    }
+
     /// The least key above `after` among all bookings in conflict with a run; from `None` on it goes through the keys of all,
     /// ascending, and takes no memory.
     pub fn next_conflict(
@@ -253,6 +267,29 @@ impl Timeline {
                 self.bookings[at] = started(&booking);
             }
             Err(_) => {}
+        }
+    }
+
+    // The bookings that the keys find, in the order of the keys.
+    fn bookings_of(&self, alloc: Global, keys: &[RunKey]) -> Result<Vec<Booking>, Memory>
+        ensures { IfOk result (λ made. made.items ≡ filter_map (find_booking self.now.list) keys.now) }
+    {
+        let mut made = Vec::new(alloc);
+        for key in keys {
+            if let Some(booking) = self.find(*key) {
+                made.push(booking)?;
+            }
+        }
+        Ok(made)
+    }
+
+    // The booking that the key finds.
+    fn find(&self, key: RunKey) -> Option<Booking>
+        ensures { result ≡ find_booking self.now.list key }
+    {
+        match self.search(key) {
+            Ok(at) => Some(self.bookings[at]),
+            Err(_) => None,
         }
     }
 
