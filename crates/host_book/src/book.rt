@@ -22,7 +22,6 @@ use crate::waking::{all_wakes, extend, renew, touched};
 use host_model::task_row::TaskRow;
 use host_timeline::timeline::Timeline;
 use limit_apply::limits::Limits;
-use live_rows::live_keys::LiveKeys;
 use ps_time::items::Items;
 use ps_time::key::RunKey;
 use ps_time::memory::Memory;
@@ -31,6 +30,7 @@ use row_ledger::deadlines::Deadlines;
 use run_states::rows::Rows;
 use std::alloc::Global;
 use std::marker::Model;
+use tiered_list::lent::Lent;
 
 /// A host's book, with what is looked up in it, when its tasks wake, and places for changes.
 pub struct HostBook {
@@ -104,8 +104,8 @@ impl HostBook {
 
     /// The keys of the rows that are live whatever the moment, ascending: no order, no archive and no end at an opening is of another
     /// row, which is still, or waits for its start.
-    pub fn live(&self) -> &[RunKey]
-        ensures { result.now ≡ live_keys self.now.number self.now.book.rows }
+    pub fn live(&self) -> Lent<'_, RunKey>
+        ensures { result ≡ live_keys self.now.number self.now.book.rows }
     {
         self.indexed.live()
     }
@@ -113,8 +113,8 @@ impl HostBook {
     /// The keys of the rows that the host may have something to do with by the moment, in seconds since 1970 UTC, ascending: the live
     /// ones, and those that wait and whose start has come. No group of a turn at the moment but the purging, no order, no archive and
     /// no lapse is of another row.
-    pub fn live_by(&self, alloc: Global, moment: Moment) -> Result<LiveKeys, Memory>
-        ensures { IfOk result (λ keys. keys.list ≡ keys_live_by self.now.number moment self.now.book.rows) }
+    pub fn live_by(&self, alloc: Global, moment: Moment) -> Result<Items<RunKey>, Memory>
+        ensures { IfOk result (λ keys. keys ≡ keys_live_by self.now.number moment self.now.book.rows) }
     {
         self.indexed.live_by(alloc, moment)
     }
@@ -156,8 +156,8 @@ impl HostBook {
     }
 
     /// For each accepted run the number of its epoch, 0 where there was none; ascending by key.
-    pub fn pairs(&self) -> &[(RunKey, u32)]
-        ensures { result.now ≡ self.now.book.pairs }
+    pub fn pairs(&self) -> Lent<'_, (RunKey, u32)>
+        ensures { result ≡ self.now.book.pairs }
     {
         self.indexed.pairs()
     }

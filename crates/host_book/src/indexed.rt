@@ -31,7 +31,6 @@ use host_model::change::Change;
 use host_model::task_row::TaskRow;
 use host_timeline::timeline::Timeline;
 use limit_apply::limits::Limits;
-use live_rows::live_keys::LiveKeys;
 use ps_time::asker::Asker;
 use ps_time::items::Items;
 use ps_time::key::RunKey;
@@ -49,6 +48,7 @@ use run_states::rows::Rows;
 use run_states::why::Why;
 use std::alloc::Global;
 use std::marker::Model;
+use tiered_list::lent::Lent;
 
 /// A host's book, with what is looked up in it but for when its tasks wake, and places for changes.
 pub(crate) struct IndexedBook {
@@ -125,12 +125,13 @@ impl IndexedBook {
             tasks,
             rows,
         } = parts;
+        let pairs = Pairs::restore(alloc, pairs)?;
         let ledger = Ledger::restore(alloc, number, rows)?;
         Ok(IndexedBook {
             number,
             moment,
             epochs: epochs.into_vec(),
-            pairs: Pairs::restore(pairs),
+            pairs,
             tasks: tasks.into_vec(),
             ledger,
             timeline,
@@ -162,16 +163,16 @@ impl IndexedBook {
     }
 
     /// The keys of the rows that are live whatever the moment, ascending.
-    pub(crate) fn live(&self) -> &[RunKey]
-        ensures { result.now ≡ live_keys self.now.number self.now.book.rows }
+    pub(crate) fn live(&self) -> Lent<'_, RunKey>
+        ensures { result ≡ live_keys self.now.number self.now.book.rows }
     {
         let _ = self.number;
         self.ledger.live()
     }
 
     /// The keys of the rows that are live by the moment, ascending.
-    pub(crate) fn live_by(&self, alloc: Global, moment: Moment) -> Result<LiveKeys, Memory>
-        ensures { IfOk result (λ keys. keys.list ≡ keys_live_by self.now.number moment self.now.book.rows) }
+    pub(crate) fn live_by(&self, alloc: Global, moment: Moment) -> Result<Items<RunKey>, Memory>
+        ensures { IfOk result (λ keys. keys ≡ keys_live_by self.now.number moment self.now.book.rows) }
     {
         let _ = self.number;
         self.ledger.live_by(alloc, moment)
@@ -199,10 +200,10 @@ impl IndexedBook {
     }
 
     /// For each accepted run the number of its epoch, 0 where there was none; ascending by key.
-    pub(crate) fn pairs(&self) -> &[(RunKey, u32)]
-        ensures { result.now ≡ self.now.book.pairs }
+    pub(crate) fn pairs(&self) -> Lent<'_, (RunKey, u32)>
+        ensures { result ≡ self.now.book.pairs }
     {
-        self.pairs.list()
+        self.pairs.in_order()
     }
 
     /// The number of the epoch under which the run was accepted; 0 where there was none.

@@ -1,3 +1,4 @@
+mod EachLemmas
 mod FirstLemmas
 mod FollowLemmas
 mod LengthLemmas

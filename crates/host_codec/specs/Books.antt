@@ -92,4 +92,4 @@ book_is = built_is book_of parts_of_book (λ b. refl) (λ p. refl) (pair_is seco
 
 -- the book whose parts are lent
 abbrev pub lent : Lent → Book
-lent p = record { moment = p.moment; epochs = p.epochs.now; pairs = p.pairs.now; tasks = p.tasks.now; rows = p.rows }
+lent p = record { moment = p.moment; epochs = p.epochs.now; pairs = p.pairs; tasks = p.tasks.now; rows = p.rows }

@@ -12,9 +12,9 @@ ghost use Rattle.task_spec.specs.Bounds.{IsTask};
 ghost use Rattle.row_check.specs.HasTests.{HasTests};
 ghost use Rattle.byte_codec.specs.Rows.{row};
 ghost use Rattle.byte_codec.specs.Tasks.{task_row};
-ghost use Rattle.host_codec.specs.Books.{back, book, epochs, front, lent, second};
+ghost use Rattle.host_codec.specs.Books.{back, book, epochs, front, lent, pair, second};
 
-use byte_codec::coded::Coded;
+use byte_codec::coded::{Coded, write_three, write_two};
 use byte_codec::fault::CodeFault;
 use byte_codec::lists::write_list;
 use byte_codec::whole::read_whole;
@@ -28,6 +28,7 @@ use run_states::lent::LentRows;
 use run_states::row::RunRow;
 use std::alloc::Global;
 use std::marker::Model;
+use tiered_list::lent::Lent;
 
 /// What a host keeps, seen by contracts as its book.
 #[derive(Drop)]
@@ -75,7 +76,7 @@ pub struct BookParts<'a> {
     /// The limits that were set, numbered from 1.
     pub epochs: &'a [Limits],
     /// For each accepted run the number of its epoch, 0 where there was none.
-    pub pairs: &'a [(RunKey, u32)],
+    pub pairs: Lent<'a, (RunKey, u32)>,
     /// The tasks, in the order of their serials.
     pub tasks: &'a [TaskRow],
     /// The rows, ascending by key.
@@ -89,47 +90,65 @@ fn write_mark(alloc: Global, out: &mut Vec<u8>) -> Result<(), Memory>
     2u32.write(alloc, out)
 }
 
+fn write_each_pair(
+    alloc: Global,
+    pairs: Lent<'_, (RunKey, u32)>,
+    out: &mut Vec<u8>,
+) -> Result<(), Memory>
+    requires { All pair.Writable pairs }
+    ensures code { OnOk result (out.new.items ≡ out.old.items ++ flat_map pair.code pairs.entry) }
+    ensures fit { OnOk result (All pair.Fits pairs.entry) }
+{
+    for pair in pairs {
+        pair.write(alloc, out)?;
+    }
+    Ok(())
+}
+
+// The bytes of a list. 2^32 pairs or more have none, and are want of memory.
+fn write_pairs(
+    alloc: Global,
+    pairs: Lent<'_, (RunKey, u32)>,
+    out: &mut Vec<u8>,
+) -> Result<(), Memory>
+    requires { (list pair).Writable pairs }
+    ensures code { OnOk result (out.new.items ≡ out.old.items ++ (list pair).code pairs.entry) }
+    ensures fits { OnOk result ((list pair).Fits pairs.entry) }
+{
+    let Ok(count) = u32::try_from(pairs.len()) else {
+        return Err(Memory);
+    };
+    count.write(alloc, out)?;
+    write_each_pair(alloc, pairs, out)
+}
+
 fn write_epochs(
     alloc: Global,
     limits: &[Limits],
-    pairs: &[(RunKey, u32)],
+    pairs: Lent<'_, (RunKey, u32)>,
     out: &mut Vec<u8>,
 ) -> Result<(), Memory>
-    requires { epochs.Writable (limits.now, pairs.now) }
-    ensures code { OnOk result (out.new.items ≡ out.old.items ++ epochs.code (limits.now, pairs.now)) }
-    ensures fits { OnOk result (epochs.Fits (limits.now, pairs.now)) }
+    requires { epochs.Writable (limits.now, pairs) }
+    ensures code { OnOk result (out.new.items ≡ out.old.items ++ epochs.code (limits.now, pairs.entry)) }
+    ensures fits { OnOk result (epochs.Fits (limits.now, pairs.entry)) }
 {
     write_list(alloc, limits, out)?;
-    write_list(alloc, pairs, out)
+    write_pairs(alloc, pairs, out)
 }
 
 fn write_front(
     alloc: Global,
     moment: Moment,
     limits: &[Limits],
-    pairs: &[(RunKey, u32)],
+    pairs: Lent<'_, (RunKey, u32)>,
     out: &mut Vec<u8>,
 ) -> Result<(), Memory>
-    requires { front.Writable (moment, (limits.now, pairs.now)) }
-    ensures code { OnOk result (out.new.items ≡ out.old.items ++ front.code (moment, (limits.now, pairs.now))) }
-    ensures fits { OnOk result (front.Fits (moment, (limits.now, pairs.now))) }
+    requires { front.Writable (moment, (limits.now, pairs)) }
+    ensures code { OnOk result (out.new.items ≡ out.old.items ++ front.code (moment, (limits.now, pairs.entry))) }
+    ensures fits { OnOk result (front.Fits (moment, (limits.now, pairs.entry))) }
 {
     moment.write(alloc, out)?;
     write_epochs(alloc, limits, pairs, out)
-}
-
-fn write_back(
-    alloc: Global,
-    tasks: &[TaskRow],
-    rows: &[RunRow],
-    out: &mut Vec<u8>,
-) -> Result<(), Memory>
-    requires { back.Writable (tasks.now, rows.now) }
-    ensures code { OnOk result (out.new.items ≡ out.old.items ++ back.code (tasks.now, rows.now)) }
-    ensures fits { OnOk result (back.Fits (tasks.now, rows.now)) }
-{
-    write_list(alloc, tasks, out)?;
-    write_list(alloc, rows, out)
 }
 
 fn write_each_row(alloc: Global, rows: LentRows<'_>, out: &mut Vec<u8>) -> Result<(), Memory>
@@ -156,7 +175,7 @@ fn write_rows(alloc: Global, rows: LentRows<'_>, out: &mut Vec<u8>) -> Result<()
     write_each_row(alloc, rows, out)
 }
 
-fn write_lent_back(
+fn write_back(
     alloc: Global,
     tasks: &[TaskRow],
     rows: LentRows<'_>,
@@ -185,7 +204,7 @@ pub fn write_book(alloc: Global, parts: BookParts<'_>, out: &mut Vec<u8>) -> Res
     } = parts;
     write_mark(alloc, out)?;
     write_front(alloc, moment, epochs, pairs, out)?;
-    write_lent_back(alloc, tasks, rows, out)
+    write_back(alloc, tasks, rows, out)
 }
 
 fn read_mark(alloc: Global, bytes: &[u8]) -> Result<&[u8], CodeFault>
@@ -210,14 +229,8 @@ impl Coded for KeptBook {
 
     fn write(&self, alloc: Global, out: &mut Vec<u8>) -> Result<(), Memory> {
         write_mark(alloc, out)?;
-        write_front(
-            alloc,
-            self.moment,
-            self.epochs.as_slice(),
-            self.pairs.as_slice(),
-            out,
-        )?;
-        write_back(alloc, self.tasks.as_slice(), self.rows.as_slice(), out)
+        write_three(alloc, &self.moment, &self.epochs, &self.pairs, out)?;
+        write_two(alloc, &self.tasks, &self.rows, out)
     }
 
     fn read(alloc: Global, bytes: &[u8]) -> Result<(KeptBook, &[u8]), CodeFault> {

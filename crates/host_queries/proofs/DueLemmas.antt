@@ -53,36 +53,36 @@ pub none_due : (k : RunKey) (m n : ℕ) (ss : List ArchiveState) (i : ℕ) → l
 none_due k m n ss i done = ap (λ xs. slice_get xs 0) (at_drop_all (due_from_index k m n) ss i done)
 
 -- ---- one key after another
-module _ (m : ℕ) (rows : List RunRow) (keys : List RunKey) (i : ℕ) (d : RunKey) (lt : i < length keys) (o : Option RunRow) (found : o ≡ find_row rows (get_or keys i d)) where
+module _ (m : ℕ) (rows : List RunRow) (keys left : List RunKey) (k : RunKey) (step : keys ≡ k ∷ left) (o : Option RunRow) (found : o ≡ find_row rows k) where
   abbrev others : List (RunKey × ℕ)
-  others = due_of_keys m (drop (i + 1) keys) rows
+  others = due_of_keys m left rows
 
   -- the list from one on
-  from_key : due_of_keys m (drop i keys) rows ≡ found_due m o ++ others
-  from_key = at_drop_more (λ ks. due_of_keys m ks rows) keys i d lt ∙ ap (λ x. found_due m x ++ others) (sym found)
+  from_key : due_of_keys m keys rows ≡ found_due m o ++ others
+  from_key = ap (λ ks. due_of_keys m ks rows) step ∙ ap (λ x. found_due m x ++ others) (sym found)
 
-  pub next_key : (a b : List (RunKey × ℕ)) → b ≡ a ++ found_due m o → a ++ due_of_keys m (drop i keys) rows ≡ b ++ others
+  pub next_key : (a b : List (RunKey × ℕ)) → b ≡ a ++ found_due m o → a ++ due_of_keys m keys rows ≡ b ++ others
   next_key a b is = ap (λ xs. a ++ xs) from_key ∙ (sym (append_assoc a (found_due m o) others) ∙ ap (λ xs. xs ++ others) (sym is))
 
-  pub first_of_key : (p : RunKey × ℕ) → slice_get (found_due m o) 0 ≡ Some p → slice_get (due_of_keys m (drop i keys) rows) 0 ≡ Some p
+  pub first_of_key : (p : RunKey × ℕ) → slice_get (found_due m o) 0 ≡ Some p → slice_get (due_of_keys m keys rows) 0 ≡ Some p
   first_of_key p is = ap (λ xs. slice_get xs 0) from_key ∙ at_front (found_due m o) is
     where
       at_front : (xs : List (RunKey × ℕ)) → slice_get xs 0 ≡ Some p → slice_get (xs ++ others) 0 ≡ Some p
       at_front [] is = cc
       at_front (x ∷ xs) is = is
 
-  pub first_behind : slice_get (found_due m o) 0 ≡ None → slice_get (due_of_keys m (drop i keys) rows) 0 ≡ slice_get others 0
+  pub first_behind : slice_get (found_due m o) 0 ≡ None → slice_get (due_of_keys m keys rows) 0 ≡ slice_get others 0
   first_behind is = ap (λ xs. slice_get xs 0) from_key ∙ behind (found_due m o) is
     where
       behind : (xs : List (RunKey × ℕ)) → slice_get xs 0 ≡ None → slice_get (xs ++ others) 0 ≡ slice_get others 0
       behind [] is = refl
       behind (x ∷ xs) is = cc
 
-pub last_key : (m : ℕ) (rows : List RunRow) (keys : List RunKey) (i : ℕ) (a : List (RunKey × ℕ)) → length keys ≤ i → a ++ due_of_keys m (drop i keys) rows ≡ a
-last_key m rows keys i a done = ap (λ xs. a ++ xs) (at_drop_all (λ ks. due_of_keys m ks rows) keys i done) ∙ append-nil a
+pub last_key : (m : ℕ) (rows : List RunRow) (keys : List RunKey) (a : List (RunKey × ℕ)) → keys ≡ [] → a ++ due_of_keys m keys rows ≡ a
+last_key m rows keys a done = ap (λ ks. a ++ due_of_keys m ks rows) done ∙ append-nil a
 
-pub none_left : (m : ℕ) (rows : List RunRow) (keys : List RunKey) (i : ℕ) → length keys ≤ i → slice_get (due_of_keys m (drop i keys) rows) 0 ≡ None
-none_left m rows keys i done = ap (λ xs. slice_get xs 0) (at_drop_all (λ ks. due_of_keys m ks rows) keys i done)
+pub none_left : (m : ℕ) (rows : List RunRow) (keys : List RunKey) → keys ≡ [] → slice_get (due_of_keys m keys rows) 0 ≡ None
+none_left m rows keys done = ap (λ ks. slice_get (due_of_keys m ks rows) 0) done
 
 -- a row that is found has few archives where all have
 pub few_found : (rows : List RunRow) (k : RunKey) (o : Option RunRow) → find_row rows k ≡ o → All HasFewArchives rows → IfSome o HasFewArchives
@@ -103,7 +103,7 @@ module _ (self : ℕ) (b : Book) (lawful : Lawful self b) where
   by_keys m [] found = refl
   by_keys m (r ∷ rs) found = ap₂ (λ o xs. found_due m o ++ xs) found.0 (by_keys m rs found.1)
 
-  -- the keys of the rows that aren't still name all that is due
+  -- the keys of the live rows name all that is due
   pub due_of_live : (m : ℕ) → due_of_keys m (live_keys self b.rows) b.rows ≡ due_pairs b.rows m
   due_of_live m =
       let IsFound : RunRow → Type 0 = λ r. find_row b.rows r.key ≡ Some r in

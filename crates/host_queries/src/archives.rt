@@ -15,6 +15,7 @@ use ps_time::moment::Moment;
 use run_states::row::RunRow;
 use run_states::rows::Rows;
 use std::alloc::Global;
+use tiered_list::lent::Lent;
 
 /// Every run and archive that is due at a clock, in seconds since 1970 UTC: by key, then by the archive's position among
 /// those of its task, from 0 on. Rows that aren't live aren't looked at.
@@ -37,11 +38,11 @@ pub fn first_due(book: &HostBook, clock: Moment) -> Option<(RunKey, u8)>
 fn due_of_keys(
     alloc: Global,
     rows: &Rows,
-    keys: &[RunKey],
+    keys: Lent<'_, RunKey>,
     moment: Moment,
 ) -> Result<Items<(RunKey, u8)>, Memory>
     requires { All HasFewArchives rows.now.list }
-    ensures { IfOk result (λ list. list ≡ due_of_keys moment keys.now rows.now.list) }
+    ensures { IfOk result (λ list. list ≡ due_of_keys moment keys.entry rows.now.list) }
 {
     let mut due = Items::new(alloc);
     for key in keys {
@@ -99,9 +100,9 @@ fn add_one(
 }
 
 // The first that is due of the rows that the keys name.
-fn first_of_keys(rows: &Rows, keys: &[RunKey], moment: Moment) -> Option<(RunKey, u8)>
+fn first_of_keys(rows: &Rows, keys: Lent<'_, RunKey>, moment: Moment) -> Option<(RunKey, u8)>
     requires { All HasFewArchives rows.now.list }
-    ensures { result ≡ slice_get (due_of_keys moment keys.now rows.now.list) 0 }
+    ensures { result ≡ slice_get (due_of_keys moment keys.entry rows.now.list) 0 }
 {
     for key in keys {
         if let Some(first) = first_found(rows.find(*key), moment) {

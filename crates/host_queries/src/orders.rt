@@ -28,7 +28,7 @@ pub fn orders(
     let moment = book.moment().max(clock);
     let draft = Draft::new(alloc, book, &config.limits, moment)?;
     let live = book.live_by(alloc, moment)?;
-    listing::orders(alloc, &draft, live.list())
+    listing::orders(alloc, &draft, live.as_slice())
 }
 
 /// An order once more, as it is said again.

@@ -47,7 +47,7 @@ pub fn turn(
     ensures { IfOk result (λ outcome. outcome ≡ turn_of config.now moment (settled moment host.now.book)) }
 {
     let keys = host.live_by(alloc, moment)?;
-    let live = keys.list();
+    let live = keys.as_slice();
     let exclusive = exclusive_keys(alloc, host.rows(), live)?;
     let mut draft = Draft::new(alloc, host, &config.limits, moment)?;
     let turn = Turn {

@@ -1,4 +1,6 @@
 //! What no clause says: records and snapshots byte by byte, as docs/specification/journal.md has them, and bytes of none.
+ghost use Rattle.std.specs.Prelude.{◌≡◌, []};
+ghost use Rattle.host_codec.specs.Books.{lent};
 
 use crate::books::TWO_BOOKINGS;
 use host_codec::book::{BookParts, KeptBook, read_book, write_book};
@@ -10,6 +12,7 @@ use run_states::row::RunRow;
 use run_states::rows::Rows;
 use std::alloc::Global;
 use std::test::Fail;
+use tiered_list::tiered_list::TieredList;
 
 // At the moment 1000 one change: the confirmation of the seventh booking of host 1.
 static CONFIRMED: [u8; 25] = [
@@ -110,16 +113,25 @@ fn reads_empty(alloc: Global, bytes: &[u8]) -> bool {
     }
 }
 
-fn writes_empty(alloc: Global, wanted: &[u8]) -> bool {
-    let mut out = Vec::new(alloc);
-    let rows = Rows::new(alloc);
-    let parts = BookParts {
+fn parts_of<'a>(pairs: &'a TieredList<(RunKey, u32)>, rows: &'a Rows) -> BookParts<'a>
+    ensures { lent result ≡ record { moment = 1000; epochs = []; pairs = pairs.now.list; tasks = []; rows = rows.now.list } }
+{
+    let pairs = pairs.in_order();
+    let rows = rows.in_order();
+    BookParts {
         moment: 1_000,
         epochs: &[],
-        pairs: &[],
+        pairs,
         tasks: &[],
-        rows: rows.in_order(),
-    };
+        rows,
+    }
+}
+
+fn writes_empty(alloc: Global, wanted: &[u8]) -> bool {
+    let mut out = Vec::new(alloc);
+    let pairs = TieredList::new(alloc);
+    let rows = Rows::new(alloc);
+    let parts = parts_of(&pairs, &rows);
     write_book(alloc, parts, &mut out).is_ok() && out.as_slice() == wanted
 }
 

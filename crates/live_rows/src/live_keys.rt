@@ -5,17 +5,19 @@ ghost use Rattle.live_rows.specs.LiveKeys.{drop_key, find_own, marked, with_key,
 ghost use Rattle.live_rows.specs.Still.{live_keys};
 
 use crate::still::is_live;
+use ps_time::items::Items;
 use ps_time::key::RunKey;
 use ps_time::memory::Memory;
 use run_states::row::RunRow;
-use sliding_list::sliding_list::SlidingList;
 use std::alloc::Global;
 use std::marker::Model;
+use tiered_list::lent::Lent;
+use tiered_list::tiered_list::TieredList;
 
 /// Different keys in ascending order, in places that were reserved.
 #[derive(Drop)]
 pub struct LiveKeys {
-    keys: SlidingList<RunKey>,
+    keys: TieredList<RunKey>,
 }
 
 impl Model for LiveKeys {
@@ -34,7 +36,7 @@ impl LiveKeys {
         ensures { result.list ≡ [] }
     {
         LiveKeys {
-            keys: SlidingList::new(alloc),
+            keys: TieredList::new(alloc),
         }
     }
 
@@ -48,10 +50,17 @@ impl LiveKeys {
     }
 
     /// The keys, ascending.
-    pub fn list(&self) -> &[RunKey]
-        ensures { result.now ≡ self.now.list }
+    pub fn in_order(&self) -> Lent<'_, RunKey>
+        ensures { result ≡ self.now.list }
     {
-        self.keys.as_slice()
+        self.keys.in_order()
+    }
+
+    /// The keys, ascending, in a list of their own.
+    pub fn to_list(&self, alloc: Global) -> Result<Items<RunKey>, Memory>
+        ensures { IfOk result (λ made. made ≡ self.now.list) }
+    {
+        listed(alloc, self.keys.in_order())
     }
 
     /// Puts the key in where it is live, and takes it out where it isn't. Takes no memory.
@@ -94,8 +103,8 @@ impl LiveKeys {
     pub fn copy(&self, alloc: Global) -> Result<LiveKeys, Memory>
         ensures { IfOk result (λ made. made.list ≡ self.now.list) }
     {
-        let mut keys = SlidingList::new(alloc);
-        add_all(&mut keys, self.keys.as_slice())?;
+        let mut keys = TieredList::new(alloc);
+        add_all(&mut keys, self.keys.in_order())?;
         Ok(LiveKeys { keys })
     }
 
@@ -124,14 +133,14 @@ impl LiveKeys {
         ensures found { IfOk result (IsPlaceOf self.now.list key) }
         ensures absent { IfErr result (IsGapFor self.now.list key) }
     {
-        self.keys.as_slice().binary_search_by_key(&key, |own| *own)
+        self.keys.in_order().binary_search_by_key(&key, |own| *own)
     }
 }
 
 // Adds the keys to none.
-fn add_all(made: &mut SlidingList<RunKey>, keys: &[RunKey]) -> Result<(), Memory>
+fn add_all(made: &mut TieredList<RunKey>, keys: Lent<'_, RunKey>) -> Result<(), Memory>
     requires { made.old.list ≡ [] }
-    ensures { OnOk result (made.new.list ≡ keys.now) }
+    ensures { OnOk result (made.new.list ≡ keys.entry) }
 {
     made.reserve(keys.len())?;
     for key in keys {
@@ -140,8 +149,19 @@ fn add_all(made: &mut SlidingList<RunKey>, keys: &[RunKey]) -> Result<(), Memory
     Ok(())
 }
 
+// The keys in a list of their own.
+fn listed(alloc: Global, keys: Lent<'_, RunKey>) -> Result<Items<RunKey>, Memory>
+    ensures { IfOk result (λ made. made ≡ keys.entry) }
+{
+    let mut made = Vec::with_capacity(alloc, keys.len())?;
+    for key in keys {
+        made.push(*key)?;
+    }
+    Ok(Items::from_vec(made))
+}
+
 // Adds the keys of the rows that are live at the host with this number to none.
-fn fill(keys: &mut SlidingList<RunKey>, rows: &[RunRow], number: u16)
+fn fill(keys: &mut TieredList<RunKey>, rows: &[RunRow], number: u16)
     requires none { keys.old.list ≡ [] }
     requires places { length rows.now ≤ keys.old.places }
     ensures list { keys.new.list ≡ live_keys number rows.now }

@@ -26,7 +26,7 @@ pub struct Deadline {
 }
 
 /// Different deadlines in ascending order, in places that were reserved. Each stays in a cell of its own: where one comes or goes,
-/// four bytes move for each other one on the shorter side. Where one goes, another is found by a search and moves into its cell.
+/// only numbers of cells move, as `PlacedList` says. Where one goes, another is found by a search and moves into its cell.
 #[derive(Drop)]
 pub struct Deadlines {
     entries: PlacedList<Deadline>,

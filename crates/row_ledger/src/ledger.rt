@@ -32,6 +32,7 @@ use run_states::rows::Rows;
 use run_states::why::Why;
 use std::alloc::Global;
 use std::marker::Model;
+use tiered_list::lent::Lent;
 
 /// Rows with reserved places, and what is counted over them.
 #[derive(Drop)]
@@ -123,22 +124,22 @@ impl Ledger {
     }
 
     /// The keys of the rows that are live, whatever the moment, ascending.
-    pub fn live(&self) -> &[RunKey]
-        ensures { result.now ≡ live_keys self.now.number self.now.list }
+    pub fn live(&self) -> Lent<'_, RunKey>
+        ensures { result ≡ live_keys self.now.number self.now.list }
     {
-        self.live.list()
+        self.live.in_order()
     }
 
     /// The keys of the rows that are live by the moment, ascending. Looks at the live rows, those whose deadline has come and those
     /// whose deadline comes within 16 s of the moment, and at no other.
-    pub fn live_by(&self, alloc: Global, moment: Moment) -> Result<LiveKeys, Memory>
-        ensures { IfOk result (λ keys. keys.list ≡ keys_live_by self.now.number moment self.now.list) }
+    pub fn live_by(&self, alloc: Global, moment: Moment) -> Result<Items<RunKey>, Memory>
+        ensures { IfOk result (λ keys. keys ≡ keys_live_by self.now.number moment self.now.list) }
     {
         let mut keys = self.live.copy(alloc)?;
         let _ = self.rows.in_order();
         let _ = self.deadlines.len();
         add_called(&mut keys, &self.deadlines, &self.rows, moment)?;
-        Ok(keys)
+        keys.to_list(alloc)
     }
 
     /// From when on which row lapses, unless it changes before.

@@ -8,7 +8,7 @@ use Rattle.host_keep.proofs.parts.write_snapshot.Goals as goal
 pub returns-in-Ok-clause-code : goal.returns-in-Ok-clause-code
 returns-in-Ok-clause-code c =
     let b : Book = c.args.book.now.book in
-    let parts : Book = record { moment = c.moment.result; epochs = c.epochs.result.now; pairs = c.pairs.result.now; tasks = c.tasks.result.now; rows = c.in_order.result } in
+    let parts : Book = record { moment = c.moment.result; epochs = c.epochs.result.now; pairs = c.pairs.result; tasks = c.tasks.result.now; rows = c.in_order.result } in
     let same : parts ≡ b = rw (c.moment.ensures.value, c.epochs.ensures, c.pairs.ensures, c.tasks.ensures, c.in_order.ensures.rows, c.rows.ensures.list) refl in
     let front = c.into_buffer-buffer.result.items in
     let items = c.in-Ok.ensures.code ∙ ap (λ (x : Book). front ++ book.code x) same in

@@ -9,12 +9,12 @@ use Rattle.host_turns.proofs.turn.turn.Goals as goal
 pub make_most-requires-clause-turn : goal.make_most-requires-clause-turn
 make_most-requires-clause-turn c =
     let host = c.args.host.now in
-    begun c.args.config.now host.number c.args.moment host.book c.requires.number c.rows.ensures.lawful c.tasks.result.now c.list-live.result.now c.in_ok-draft.draft (c.list-live.ensures ∙ c.in_ok-keys.ensures) c.in_ok-draft.ensures c.requires.later c.requires.bound c.tasks.ensures c.rows.result.now.list c.as_slice.result.now c.rows.ensures.list (c.as_slice.ensures.value ∙ c.in_ok-exclusive.ensures)
+    begun c.args.config.now host.number c.args.moment host.book c.requires.number c.rows.ensures.lawful c.tasks.result.now c.as_slice-live.result.now c.in_ok-draft.draft (c.as_slice-live.ensures ∙ c.in_ok-keys.ensures) c.in_ok-draft.ensures c.requires.later c.requires.bound c.tasks.ensures c.rows.result.now.list c.as_slice.result.now c.rows.ensures.list (c.as_slice.ensures.value ∙ c.in_ok-exclusive.ensures)
 
 pub make_last-requires-clause-made : goal.make_last-requires-clause-made
 make_last-requires-clause-made c =
     let host = c.args.host.now in
-    begun_most c.args.config.now host.number c.args.moment host.book c.requires.number c.rows.ensures.lawful c.tasks.result.now c.list-live.result.now c.in_ok-draft.draft (c.list-live.ensures ∙ c.in_ok-keys.ensures) c.in_ok-draft.ensures c.tasks.ensures c.make_most.new.draft c.in_ok-make_most.ensures.made
+    begun_most c.args.config.now host.number c.args.moment host.book c.requires.number c.rows.ensures.lawful c.tasks.result.now c.as_slice-live.result.now c.in_ok-draft.draft (c.as_slice-live.ensures ∙ c.in_ok-keys.ensures) c.in_ok-draft.ensures c.tasks.ensures c.make_most.new.draft c.in_ok-make_most.ensures.made
 
 pub changed-requires : goal.changed-requires
 changed-requires c =

@@ -1,10 +1,9 @@
-use Rattle.std.proofs.Common.{◌≡◌, ◌≤◌, ◌++◌, drop, length}
+use Rattle.std.proofs.Common.{◌≡◌, ◌+◌, ◌≤◌, ◌++◌, length}
 use Rattle.live_rows.proofs.live_keys.add_all.Given as goal
 
--- the keys so far, and those that are left
+-- the keys so far, and those that are left, each with a place
 abbrev pub invariant-loop-key : goal.invariant-loop-key
 invariant-loop-key l = record {
-  all : l.keys ≡ l.made.list ++ drop l.key-index l.keys;
-  few : length l.made.list ≤ l.key-index;
-  places : length l.keys ≤ l.made.places;
+  all : l.made.list ++ l.key-iterator ≡ l.fn.keys;
+  places : length l.made.list + length l.key-iterator ≤ l.made.places;
 }

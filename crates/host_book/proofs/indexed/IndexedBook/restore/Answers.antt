@@ -5,13 +5,13 @@ use Rattle.host_book.proofs.MomentLemmas.{book_moments}
 use Rattle.host_book.proofs.RestoreLemmas.{pairs_up}
 use Rattle.host_book.proofs.indexed.IndexedBook.restore.Goals as goal
 
--- the rows of a lawful book have their moments in bounds, and its pairs ascend
-pub restore-requires-clause-moments : goal.restore-requires-clause-moments
-restore-requires-clause-moments c =
-    let b : Book = record { moment = c.parts.inside.moment; epochs = c.parts.inside.epochs; pairs = c.parts.inside.pairs; tasks = c.parts.inside.tasks; rows = c.parts.inside.rows } in
-    book_moments c.args.number b (subst (Lawful c.args.number) (sym c.parts.view_is) c.requires.lawful)
-
-pub restore-requires-2 : goal.restore-requires-2
-restore-requires-2 c =
+-- the pairs of a lawful book ascend, and its rows have their moments in bounds
+pub restore-requires : goal.restore-requires
+restore-requires c =
     let b : Book = record { moment = c.parts.inside.moment; epochs = c.parts.inside.epochs; pairs = c.parts.inside.pairs; tasks = c.parts.inside.tasks; rows = c.parts.inside.rows } in
     pairs_up c.args.number b (subst (Lawful c.args.number) (sym c.parts.view_is) c.requires.lawful)
+
+pub restore-requires-2-clause-moments : goal.restore-requires-2-clause-moments
+restore-requires-2-clause-moments c =
+    let b : Book = record { moment = c.parts.inside.moment; epochs = c.parts.inside.epochs; pairs = c.parts.inside.pairs; tasks = c.parts.inside.tasks; rows = c.parts.inside.rows } in
+    book_moments c.args.number b (subst (Lawful c.args.number) (sym c.parts.view_is) c.requires.lawful)

@@ -1,4 +1,5 @@
-use Rattle.std.proofs.Common.{◌∙◌, ap}
+use Rattle.std.specs.Prelude.{IfOk}
+use Rattle.std.proofs.Common.{◌≡◌, ◌∙◌, ap, subst}
 use Rattle.live_rows.specs.Still.{keys_live_by}
 use Rattle.row_ledger.specs.Called.{last_deadline, with_called}
 use Rattle.row_ledger.specs.Deadlines.{due_keys}
@@ -13,7 +14,10 @@ returns c =
     let n = c.self.inside.number in
     let rows = c.self.inside.rows.list in
     let ds = c.self.inside.deadlines.list in
+    let same =
     c.in_ok-add_called.ensures
     ∙ (ap (with_called m rows (due_keys (last_deadline m) ds)) (c.in_ok-keys.ensures ∙ c.self.invariant.live)
     ∙ (called_live n m rows ds c.in_order.ensures.ascending c.self.invariant.counted.moments c.len.ensures.ascending c.self.invariant.filed.waits
     ∙ ap (λ (t : Ledger). keys_live_by t.number m t.list) c.self.view_is))
+    in
+    subst (λ wanted. IfOk c.to_list.result (λ made. made ≡ wanted)) same c.to_list.ensures

@@ -1,11 +1,11 @@
 use Rattle.std.proofs.Common.{rules}
 use Rattle.std.proofs.lemmas.List.Sorted.{answers_always}
 use Rattle.host_book.proofs.PairLemmas.{searched}
-use Rattle.host_book.proofs.pairs.Pairs.search.Goals as goal
+use Rattle.host_book.proofs.pairs.search.Goals as goal
 
--- the closure gives a pair's key, and the slice is the pairs
+-- the closure gives a pair's key, and what is lent are the pairs
 pub returns : goal.returns
 returns c =
     let facts = c.binary_search_by_key.ensures in
     let by_key = facts.position (λ pair. pair.0) (answers_always _ _ _ (λ f a r g called. search rules)) in
-    rw (← c.self.view_is, ← c.deref.ensures.value) (searched _ (rw c.deref.ensures.value c.self.invariant) c.args.key _ facts.bound by_key)
+    rw (← c.in_order.ensures) (searched _ (rw c.in_order.ensures c.requires) c.args.key _ facts.bound by_key)
