@@ -1,26 +1,25 @@
 //! Trees of texts, and tests as bytes.
-ghost use Rattle.std.specs.Prelude.{◌≡◌, ◌≤◌, IfOk, Ok, length};
+ghost use Rattle.std.specs.Prelude.{IfOk, Ok};
 ghost use Rattle.serde_json.specs.View.{view};
 ghost use Rattle.ps_json.specs.Tree.{tree_of};
 ghost use Rattle.plugin_core.specs.Bounds.{IsTest};
 ghost use Rattle.plugin_core.specs.ReadTest.{test_of};
-ghost use Rattle.plugin_core.specs.WriteTest.{most_test_bytes, test_data};
 ghost use Rattle.byte_codec.specs.Codec.{IsText};
 ghost use Rattle.byte_codec.specs.Gives.{Gives};
-ghost use Rattle.byte_codec.specs.Tests.{FitsTest, ok_of, own_test, test_in, test_text};
+ghost use Rattle.byte_codec.specs.Tests.{FitsTest, ok_of, own_test, test_in};
 
 use crate::coded::Coded;
 use crate::fault::CodeFault;
 use plugin_core::fault::SpecFault;
 use plugin_core::read_test::read_test;
 use plugin_core::test_spec::TestSpec;
-use plugin_core::write_test::{law_test_text, write_test};
 use ps_json::fault::JsonFault;
-use ps_json::tree::{read_tree, write_text};
+use ps_json::tree::read_tree;
 use ps_time::memory::Memory;
 use ps_time::text::Text;
 use serde_json::Value;
 use std::alloc::Global;
+use test_text::written::test_text;
 
 /// The tree of a text.
 pub fn tree_in(alloc: Global, text: &Text) -> Result<Value, CodeFault>
@@ -48,17 +47,6 @@ fn test_of(alloc: Global, value: Value) -> Result<TestSpec, CodeFault>
             Err(CodeFault::NoValue)
         }
     }
-}
-
-fn test_text(alloc: Global, test: &TestSpec) -> Result<Text, Memory>
-    requires { IsTest test.now }
-    ensures text { IfOk result (λ text. text ≡ test_text test.now) }
-    ensures tree { IfOk result (λ text. tree_of text ≡ Ok (test_data test.now)) }
-    ensures short { IfOk result (λ text. length text ≤ most_test_bytes) }
-{
-    law_test_text();
-    let value = write_test(alloc, test)?;
-    write_text(alloc, &value)
 }
 
 /// The test, where the text is its own.
