@@ -51,7 +51,7 @@ fn each_ready(alloc: Global, list: Items<Change>) -> Result<Items<Ready>, Memory
     ensures changes { IfOk result (λ made. changes_of made ≡ list) }
     ensures ready { IfOk result (λ made. All IsReady made) }
 {
-    let mut made = Vec::new(alloc);
+    let mut made = Vec::with_capacity(alloc, list.len())?;
     for change in list.into_vec() {
         made.push(Ready::new(alloc, change)?)?;
     }

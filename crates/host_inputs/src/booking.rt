@@ -200,10 +200,10 @@ fn booked_changes<R: Reading>(
     ensures { IfOk result (λ list. list ≡ Accepted proposal (participants proposal.test config.now.name) (R.latest rows.now) ∷ Confirmed proposal.key ∷ []) }
 {
     let key = proposal.key;
-    let mut list = Items::new(alloc);
+    let mut list = Vec::with_capacity(alloc, 2)?;
     list.push(acceptance(alloc, rows, config.name.as_str(), proposal)?)?;
     list.push(Change::Confirmed(key))?;
-    Ok(list)
+    Ok(Items::from_vec(list))
 }
 
 /// The change that accepts a run of this lead, under the limits in force.

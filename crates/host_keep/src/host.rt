@@ -68,6 +68,9 @@ impl Host {
 /// No record has more bytes. An input of at most 2,097,152 bytes of texts, as all are that come by HTTP, makes none that is longer.
 const MOST_RECORD_BYTES: usize = 8_388_608;
 
+/// Most records have fewer bytes.
+const USUAL_RECORD_BYTES: usize = 512;
+
 // The step that makes these changes; none where there are none. One whose record would be longer than a journal takes is refused
 // as want of memory.
 fn step_of(alloc: Global, book: &mut HostBook, kept: Changes) -> Result<Option<HostStep>, Memory>
@@ -87,7 +90,10 @@ fn step_of(alloc: Global, book: &mut HostBook, kept: Changes) -> Result<Option<H
         drop(kept);
         return Ok(None);
     }
-    let mut record = Vec::new(alloc);
+    let Ok(mut record) = Vec::with_capacity(alloc, USUAL_RECORD_BYTES) else {
+        drop(kept);
+        return Err(Memory);
+    };
     if let Err(fault) = write_record(alloc, &kept, &mut record) {
         drop(kept);
         return Err(fault);

@@ -30,9 +30,9 @@ pub fn participants_of(alloc: Global, test: &TestSpec, lead: &str) -> Result<Ite
 fn just(alloc: Global, name: &str) -> Result<Items<Text>, Memory>
     ensures { IfOk result (λ names. names ≡ name.now ∷ []) }
 {
-    let mut names = Items::new(alloc);
+    let mut names = Vec::with_capacity(alloc, 1)?;
     names.push(Text::new(alloc, name)?)?;
-    Ok(names)
+    Ok(Items::from_vec(names))
 }
 
 /// Whether the host takes part in a run that this lead leads.
