@@ -393,7 +393,7 @@ class_as Exclusive Exclusive is = refl
 class_as _ _ is = cc
 
 module _ (class : Class) (earliest from : ℕ) (bs : List Booking) (lanes : Lanes) (hold : HoldLanes bs lanes) where
-  reach_lane : ((i : ℕ) (d : Booking) → i < length bs → conflicting_classes class (get_or bs i d).class ≡ true → from < (get_or bs i d).interval.end → earliest ≤ (get_or bs i d).interval.start) → Reach class earliest from lanes
+  reach_lane : ((i : ℕ) (d : Booking) → i < length bs → conflicting_classes class (get_or bs i d).class ≡ true → (get_or bs i d).interval.start < (get_or bs i d).interval.end → from < (get_or bs i d).interval.end → earliest ≤ (get_or bs i d).interval.start) → Reach class earliest from lanes
   reach_lane each = λ k conflict.
       all_lane bs lanes hold k (reaches earliest from)
       ∙ all_from (λ b. not (same_class k b.class) || reaches earliest from b) bs (λ i d within.
@@ -401,20 +401,23 @@ module _ (class : Class) (earliest from : ℕ) (bs : List Booking) (lanes : Lane
       let cases = elim (same_class k b.class) as (λ x. same_class k b.class ≡ x → (not x || reaches earliest from b) ≡ true) [
         | true ↦ λ is.
             let conflicts : conflicting_classes class b.class ≡ true = subst (λ c. conflicting_classes class c ≡ true) (class_as k b.class is) conflict in
-            elim (cases_lt from b.interval.end) [
-              | inl behind ↦ let after : earliest ≤ b.interval.start = each i d within conflicts behind in grind (arith, nat_tests)
-              | inr by ↦ grind (arith, nat_tests)
+            elim (cases_lt b.interval.start b.interval.end) [
+              | inl some ↦ elim (cases_lt from b.interval.end) [
+                | inl behind ↦ let after : earliest ≤ b.interval.start = each i d within conflicts some behind in grind (arith, nat_tests)
+                | inr by ↦ grind (arith, nat_tests)
+              ]
+              | inr none ↦ grind (arith, nat_tests)
             ]
         | false ↦ λ is. refl
       ] in
       cases refl)
 
-  pub busy_reach : (rs : List Span) → IsBusy class bs rs → ((s : Span) → IsCovered rs s → from < s.end → earliest ≤ s.start) → Reach class earliest from lanes
-  busy_reach rs busy reached = reach_lane (λ i d within conflict behind. reached (get_or bs i d).interval (taken_covered class bs rs i d busy within conflict) behind)
+  pub busy_reach : (rs : List Span) → IsBusy class bs rs → ((s : Span) → s.start < s.end → IsCovered rs s → from < s.end → earliest ≤ s.start) → Reach class earliest from lanes
+  busy_reach rs busy reached = reach_lane (λ i d within conflict some behind. reached (get_or bs i d).interval some (taken_covered class bs rs i d busy within conflict) behind)
 
   -- also those that stay, where another takes part
-  pub busy_reach_beside : (x : Booking) (rs : List Span) → IsBusy class (x ∷ bs) rs → ((s : Span) → IsCovered rs s → from < s.end → earliest ≤ s.start) → Reach class earliest from lanes
-  busy_reach_beside x rs busy reached = reach_lane (λ i d within conflict behind. reached (get_or bs i d).interval (taken_covered class (x ∷ bs) rs (suc i) d busy (omega (arith, within)) conflict) behind)
+  pub busy_reach_beside : (x : Booking) (rs : List Span) → IsBusy class (x ∷ bs) rs → ((s : Span) → s.start < s.end → IsCovered rs s → from < s.end → earliest ≤ s.start) → Reach class earliest from lanes
+  busy_reach_beside x rs busy reached = reach_lane (λ i d within conflict some behind. reached (get_or bs i d).interval some (taken_covered class (x ∷ bs) rs (suc i) d busy (omega (arith, within)) conflict) behind)
 
   pub no_reach : ((k : Class) → conflicting_classes class k ≡ false) → Reach class earliest from lanes
   no_reach none = λ k conflict. let no = none k in cc (no, conflict)

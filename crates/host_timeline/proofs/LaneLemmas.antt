@@ -1,5 +1,5 @@
 -- What a search finds in a lane, what an edit at that place does, and which bookings of a lane are near.
-use Rattle.std.proofs.Common.{◌≡◌, ◌∙◌, ◌<◌, ◌≤◌, ◌+◌, ◌-◌, ℕ, zero, suc, List, [], ◌∷◌, length, get_or, set, take, drop, Bool, true, false, cond, not, ltb, max, Result, Ok, Err, IfOk, IfErr, Option, Some, None, ◌&&◌, refl, ap, subst, arith}
+use Rattle.std.proofs.Common.{◌≡◌, ◌∙◌, ◌<◌, ◌≤◌, ◌+◌, ◌-◌, ℕ, zero, suc, List, [], ◌∷◌, length, get_or, set, take, drop, Bool, true, false, cond, not, ltb, max, Result, Ok, Err, IfOk, IfErr, Option, Some, None, ◌&&◌, refl, ap, sym, subst, arith}
 use Rattle.std.specs.Cmp.{IsTotalOrder}
 use Rattle.std.specs.List.{insert, remove, filter, list_all, AllByRecursion, AllWithin}
 use Rattle.std.specs.List.Sorted.{IsSearchInRange, IsBinarySearchResult, IsPartitionPoint, IsNonDecreasingBy, IsPartitionedBy}
@@ -7,7 +7,7 @@ use Rattle.std.specs.Ordering.{nat_cmp, match_ordering, is_eq}
 use Rattle.std.specs.declared.cmp.Ordering.TheVariants.{Less, Equal, Greater}
 use Rattle.std.proofs.lemmas.Bool.Decides.{nat_tests}
 use Rattle.std.proofs.lemmas.Cmp.{nat_cmp_total, on_total, then_total}
-use Rattle.std.proofs.lemmas.List.{length-drop, get_or-drop}
+use Rattle.std.proofs.lemmas.List.{length-drop, get_or-drop, get_or_default}
 use Rattle.std.proofs.lemmas.List.Sorted.{IsPartitionedBy-ltb, IsNonDecreasingBy-from_all_adjacent}
 use Rattle.ps_time.proofs.KeyLemmas.{key_cmp_total}
 use Rattle.ps_time.proofs.SortedLemmas.{ascending_at, searchable, find_in_gap, insert_in_gap, find_at, without_at, without_in_gap, ascending-without, ascending-insert, set_changes, ascending-change, change_in_gap}
@@ -21,7 +21,7 @@ pub place_cmp_total : IsTotalOrder place_cmp
 place_cmp_total = then_total (on_total (λ p. p.start) nat_cmp_total) (on_total (λ p. p.key) key_cmp_total)
 
 abbrev AllShort : ℕ → List Booking → Type 0
-AllShort longest bookings = AllByRecursion (λ b. b.interval.end ≤ b.interval.start + longest) bookings
+AllShort longest bookings = AllByRecursion (λ b. (b.interval.start < b.interval.end) × (b.interval.end ≤ b.interval.start + longest)) bookings
 
 short_filter : (p : Booking → Bool) (longest : ℕ) (bs : List Booking) → AllShort longest bs → AllShort longest (filter p bs)
 short_filter p longest [] all = tt
@@ -41,9 +41,9 @@ short_change p longest (b ∷ bs) all =
 
 short_more : (longest more : ℕ) (bs : List Booking) → longest ≤ more → AllShort longest bs → AllShort more bs
 short_more longest more [] le all = tt
-short_more longest more (b ∷ bs) le all = (omega (arith, all.0), short_more longest more bs le all.1)
+short_more longest more (b ∷ bs) le all = ((all.0.0, omega (arith, all.0.1, le)), short_more longest more bs le all.1)
 
-short_insert : (longest : ℕ) (bs : List Booking) (y : Booking) → y.interval.end ≤ y.interval.start + longest → AllShort longest bs → AllShort longest (with_place bs y)
+short_insert : (longest : ℕ) (bs : List Booking) (y : Booking) → (y.interval.start < y.interval.end) × (y.interval.end ≤ y.interval.start + longest) → AllShort longest bs → AllShort longest (with_place bs y)
 short_insert longest [] y here all = (here, tt)
 short_insert longest (b ∷ bs) y here all =
     let rest = short_insert longest bs y here all.1 in
@@ -96,12 +96,12 @@ module _ (bookings : List Booking) (b : Booking) (i : ℕ) (gap : IsOpenAt booki
   pub insert_open : with_place bookings b ≡ insert bookings i b
   insert_open = insert_in_gap place_cmp_total place_of bookings b i gap.within gap.parted
 
-  pub lane_after_insert : (longest : ℕ) → IsLane bookings longest → IsLane (insert bookings i b) (max longest (b.interval.end - b.interval.start))
-  lane_after_insert longest lane =
+  pub lane_after_insert : (longest : ℕ) → b.interval.start < b.interval.end → IsLane bookings longest → IsLane (insert bookings i b) (max longest (b.interval.end - b.interval.start))
+  lane_after_insert longest some lane =
       let more = max longest (b.interval.end - b.interval.start) in
       subst (λ l. IsLane l more) insert_open (record {
         ascending = ascending-insert place_cmp_total place_of bookings b lane.ascending (find_open bookings (place_of b) i gap);
-        short = short_insert more bookings b (omega arith) (short_more longest more bookings (omega arith) lane.short);
+        short = short_insert more bookings b (some, omega arith) (short_more longest more bookings (omega arith) lane.short);
       })
 
 -- ---- what is near
@@ -122,6 +122,13 @@ starts_rise bs up =
 pub parts_at : (moment : ℕ) (bs : List Booking) → IsAscendingPlaces bs → IsPartitionedBy (λ b. ltb b.interval.start moment) bs
 parts_at moment bs up = IsPartitionedBy-ltb (λ b. b.interval.start) bs moment (starts_rise bs up)
 
+-- what stands behind one that doesn't start before the moment doesn't either
+pub late_behind : (moment : ℕ) (bs : List Booking) → IsAscendingPlaces bs → (i : ℕ) (d : Booking) → i < length bs → moment ≤ (get_or bs i d).interval.start → AllWithin (λ b. ltb b.interval.start moment ≡ false) bs i (length bs)
+late_behind moment bs up i d within late = λ j e low high.
+    let rise : (get_or bs i e).interval.start ≤ (get_or bs j e).interval.start = starts_rise bs up i j e low high in
+    let same : moment ≤ (get_or bs i e).interval.start = subst (λ (b : Booking). moment ≤ b.interval.start) (get_or_default bs i d e within) late in
+    grind (arith, nat_tests)
+
 module _ (test : Booking → Bool) where
   -- what fails in front is left out
   all_behind : (bs : List Booking) (i : ℕ) → ((j : ℕ) (d : Booking) → j < i → j < length bs → test (get_or bs j d) ≡ false) → how_many test (drop i bs) ≡ how_many test bs
@@ -141,27 +148,40 @@ module _ (test : Booking → Bool) where
       all_before bs zero (λ j d low within. fails (suc j) d (omega arith) (omega arith)) ∙ here
   all_before (b ∷ bs) (suc i) fails = ap (λ n. (cond (test b) 1 0) + n) (all_before bs i (λ j d low within. fails (suc j) d (omega arith) (omega arith)))
 
+-- what doesn't start before one moment starts from an end on that isn't behind it
+late_start : (from : ℕ) (until : Option ℕ) (start : ℕ) → starts_by until from ≡ false → (not (ltb start from) && starts_by until start) ≡ false
+late_start from None start over = cc
+late_start from (Some u) start over = grind (arith, nat_tests)
+
+later_start : (until : Option ℕ) (early late : ℕ) → early ≤ late → starts_by until early ≡ false → starts_by until late ≡ false
+later_start None early late le over = cc
+later_start (Some u) early late le over = grind (arith, nat_tests)
+
+-- none starts from one moment on, before such an end
+pub none_between : (bs : List Booking) (from : ℕ) (until : Option ℕ) (test : Booking → Bool) → FailsOthers bs (starts_between from until) test → starts_by until from ≡ false → how_many test (take 0 bs) ≡ how_many test bs
+none_between bs from until test outside over = all_before test bs 0 (λ j d low within. outside j d within (late_start from until (get_or bs j d).interval.start over))
+
 module _ (bs : List Booking) (from : ℕ) (until : Option ℕ) (first last : ℕ) (test : Booking → Bool) (outside : FailsOthers bs (starts_between from until) test) where
-  pub between_all : IsPartitionPoint (λ b. ltb b.interval.start from ≡ true) (λ b. ltb b.interval.start from ≡ false) bs first → AllWithin (λ b. starts_by until b.interval.start ≡ false) bs last (length bs) → how_many test (take (max last first - first) (drop first bs)) ≡ how_many test bs
-  between_all low high =
+  pub between_all : IsPartitionPoint (λ b. ltb b.interval.start from ≡ true) (λ b. ltb b.interval.start from ≡ false) bs first → first ≤ last → AllWithin (λ b. starts_by until b.interval.start ≡ false) bs last (length bs) → how_many test (take (last - first) (drop first bs)) ≡ how_many test bs
+  between_all low behind high =
       let early : (j : ℕ) (d : Booking) → j < first → j < length bs → test (get_or bs j d) ≡ false = λ j d lt within.
       let is : ltb (get_or bs j d).interval.start from ≡ true = low.0 j d (omega arith) lt in
       outside j d within (rw is refl) in
-      let late : (j : ℕ) (d : Booking) → max last first - first ≤ j → j < length (drop first bs) → test (get_or (drop first bs) j d) ≡ false = λ j d le within.
+      let late : (j : ℕ) (d : Booking) → last - first ≤ j → j < length (drop first bs) → test (get_or (drop first bs) j d) ≡ false = λ j d le within.
       let inside : first + j < length bs = omega (arith, length-drop first bs) in
       let starts : starts_by until (get_or bs (first + j) d).interval.start ≡ false = high (first + j) d (omega arith) inside in
       let over : starts_between from until (get_or bs (first + j) d) ≡ false = rw starts (and_false (not (ltb (get_or bs (first + j) d).interval.start from))) in
       rw (get_or-drop first bs j d) (outside (first + j) d inside over) in
-      all_before test (drop first bs) (max last first - first) late ∙ all_behind test bs first early
+      all_before test (drop first bs) (last - first) late ∙ all_behind test bs first early
 
-short_at : (longest : ℕ) (bs : List Booking) → AllShort longest bs → (i : ℕ) (d : Booking) → i < length bs → (get_or bs i d).interval.end ≤ (get_or bs i d).interval.start + longest
+short_at : (longest : ℕ) (bs : List Booking) → AllShort longest bs → (i : ℕ) (d : Booking) → i < length bs → ((get_or bs i d).interval.start < (get_or bs i d).interval.end) × ((get_or bs i d).interval.end ≤ (get_or bs i d).interval.start + longest)
 short_at longest [] all i d within = absurd (omega arith)
 short_at longest (b ∷ bs) all zero d within = all.0
 short_at longest (b ∷ bs) all (suc i) d within = short_at longest bs all.1 i d (omega arith)
 
 -- what starts so early is over
-early_over : (longest earliest from : ℕ) (b : Booking) (by : Bool) → b.interval.end ≤ b.interval.start + longest → reaches earliest from b ≡ true → (not (ltb b.interval.start (max (from - longest) earliest)) && by) ≡ false → (ltb from b.interval.end && by) ≡ false
-early_over longest earliest from b true short reach outside = grind (arith, nat_tests)
+early_over : (longest earliest from : ℕ) (b : Booking) (by : Bool) → (b.interval.start < b.interval.end) × (b.interval.end ≤ b.interval.start + longest) → reaches earliest from b ≡ true → (not (ltb b.interval.start (max (from - longest) earliest)) && by) ≡ false → (ltb from b.interval.end && by) ≡ false
+early_over longest earliest from b true short reach outside = let some = short.0 in let least = short.1 in grind (arith, nat_tests)
 early_over longest earliest from b false short reach outside = and_false (ltb from b.interval.end)
 
 reach_at : (earliest from : ℕ) (bs : List Booking) → list_all (reaches earliest from) bs ≡ true → (i : ℕ) (d : Booking) → i < length bs → reaches earliest from (get_or bs i d) ≡ true
@@ -171,3 +191,9 @@ reach_at earliest from (b ∷ bs) all (suc i) d within = reach_at earliest from 
 
 pub others_pass : (bs : List Booking) (longest earliest from : ℕ) (until : Option ℕ) (test : Booking → Bool) → IsLane bs longest → list_all (reaches earliest from) bs ≡ true → FailsOutside (spans from until) test → FailsOthers bs (starts_between (max (from - longest) earliest) until) test
 others_pass bs longest earliest from until test lane reach outside = λ i d within over. outside (get_or bs i d) (early_over longest earliest from (get_or bs i d) (starts_by until (get_or bs i d).interval.start) (short_at longest bs lane.short i d within) (reach_at earliest from bs reach i d within) over)
+
+-- where none reaches before the end, none is near
+pub none_near : (bs : List Booking) (longest earliest from : ℕ) (until : Option ℕ) (test : Booking → Bool) → IsLane bs longest → list_all (reaches earliest from) bs ≡ true → FailsOutside (spans from until) test → starts_by until earliest ≡ false → how_many test bs ≡ 0
+none_near bs longest earliest from until test lane reach outside over =
+    let first : ℕ = max (from - longest) earliest in
+    sym (none_between bs first until test (others_pass bs longest earliest from until test lane reach outside) (later_start until earliest first (omega arith) over))

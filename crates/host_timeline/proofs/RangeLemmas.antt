@@ -486,20 +486,23 @@ module _ (rs : List Span) (from i : ℕ) (d : Span) (up : IsApart rs) (within : 
     ]
   ])
 
-  -- a moment before the range's start is uncovered
-  bare_between : from < (get_or rs i d).start → covers rs from ≡ false
-  bare_between low = covered_nowhere rs d from (λ k inside. elim (cases_lt k i) [
+  -- a second from the moment on, before the range's start, is uncovered
+  bare_between : (t : ℕ) → from ≤ t → t < (get_or rs i d).start → covers rs t ≡ false
+  bare_between t high low = covered_nowhere rs d t (λ k inside. elim (cases_lt k i) [
     | inl lt ↦ let over = parted.0 k d (omega arith) lt in grind (arith, nat_tests)
     | inr ge ↦ elim (cases_lt i k) [
       | inl lt ↦ let behind = apart_at rs up i k d lt inside in let some = some_at rs up i d within in grind (arith, nat_tests)
-      | inr le ↦ let is : i ≡ k = omega arith in let no : has_second (get_or rs i d) from ≡ false = grind (arith, nat_tests) in subst (λ n. has_second (get_or rs n d) from ≡ false) is no
+      | inr le ↦ let is : i ≡ k = omega arith in let no : has_second (get_or rs i d) t ≡ false = grind (arith, nat_tests) in subst (λ n. has_second (get_or rs n d) t ≡ false) is no
     ]
   ])
 
-  pub reached : (s : Span) → IsCovered rs s → from < s.end → min (get_or rs i d).start from ≤ s.start
-  reached s inside behind = elim (cases_lt s.start (min (get_or rs i d).start from)) [
+  pub reached : (s : Span) → s.start < s.end → IsCovered rs s → from < s.end → (get_or rs i d).start ≤ s.start
+  reached s some inside behind = elim (cases_lt s.start (get_or rs i d).start) [
     | inl low ↦ elim (cases_lt from (get_or rs i d).start) [
-      | inl over ↦ let none = bare_between over in let yes = inside from (omega (arith, low)) behind in cc (none, yes)
+      | inl over ↦
+          let none = bare_between (max from s.start) (omega arith) (omega (arith, over, low)) in
+          let yes = inside (max from s.start) (omega arith) (omega (arith, some, behind)) in
+          cc (none, yes)
       | inr le ↦
           let none = bare_before ((get_or rs i d).start - 1) (omega (arith, low)) in
           let yes = inside ((get_or rs i d).start - 1) (omega (arith, low)) (omega (arith, low, le, behind)) in
@@ -508,9 +511,9 @@ module _ (rs : List Span) (from i : ℕ) (d : Span) (up : IsApart rs) (within : 
     | inr high ↦ high
   ]
 
--- all end by the moment
-pub reached_none : (rs : List Span) (from : ℕ) (s : Span) → ((k : ℕ) (d : Span) → k < length rs → ltb from (get_or rs k d).end ≡ false) → IsCovered rs s → from < s.end → from ≤ s.start
-reached_none rs from s over inside behind = elim (cases_lt s.start from) [
-  | inl low ↦ let none = none_covers from rs over in let yes = inside from (omega (arith, low)) behind in cc (none, yes)
-  | inr high ↦ high
-]
+-- all end by the moment, so nothing is covered that takes time behind it
+pub reached_none : (rs : List Span) (from last : ℕ) (s : Span) → ((k : ℕ) (d : Span) → k < length rs → ltb from (get_or rs k d).end ≡ false) → s.start < s.end → IsCovered rs s → from < s.end → last ≤ s.start
+reached_none rs from last s over some inside behind =
+    let none = none_covers (max from s.start) rs (λ k d within. let end = over k d within in grind (arith, nat_tests)) in
+    let yes = inside (max from s.start) (omega arith) (omega (arith, some, behind)) in
+    cc (none, yes)

@@ -1,5 +1,5 @@
 -- What two tests together say.
-use Rattle.std.proofs.Common.{◌≡◌, ◌&&◌, Bool, true, false, refl}
+use Rattle.std.proofs.Common.{◌≡◌, ◌&&◌, Bool, true, false, refl, not}
 
 pub and_true : (x : Bool) → (x && true) ≡ x
 and_true true = refl
@@ -12,3 +12,7 @@ and_false false = refl
 pub both_true : (x y : Bool) → (x && y) ≡ true → (x ≡ true) × (y ≡ true)
 both_true true y is = (refl, is)
 both_true false y is = cc
+
+pub not_true : (x : Bool) → not x ≡ true → x ≡ false
+not_true true is = cc
+not_true false is = refl

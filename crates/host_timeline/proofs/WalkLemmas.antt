@@ -15,7 +15,7 @@ use Rattle.host_timeline.specs.Lane.{Decide}
 use Rattle.host_timeline.specs.Timeline.{find_booking, without_booking, IsAscendingBookings}
 use Rattle.host_timeline.proofs.HoldLemmas.{IsOnly}
 use Rattle.host_timeline.proofs.Least.{all_implies, below_far, least_of, least_passing, least_says, not_this, Says}
-use Rattle.host_timeline.proofs.Tests.{both_true}
+use Rattle.host_timeline.proofs.Tests.{and_false, both_true}
 
 -- all after a booking have other keys than it
 later_none : (b : Booking) (k : RunKey) (bs : List Booking) → key_cmp b.key k ≡ Equal → AllByRecursion (λ d. key_cmp b.key d.key ≡ Less) bs → list_all (λ d. not (is_eq (key_cmp d.key k))) bs ≡ true
@@ -165,6 +165,20 @@ none_in_conflict class s bs xs ys (Some k) decide one other = tt
 none_in_conflict class s bs xs ys None decide one other =
     let all : (list_all (λ b. not (conflicts_with class s b)) xs && list_all (λ b. not (conflicts_with class s b)) ys) ≡ true = rw (one, other) refl in
     all_apart class s bs (sym (decide (λ b. not (conflicts_with class s b)) (λ b off. let no : conflicts_with class s b ≡ false = off in rw no refl)) ∙ all)
+
+-- where nothing is beside
+pub none_beside : (class : Class) (s : Span) (bs : List Booking) → Decide class s.start (Some s.end) bs [] [] → conflicting class s bs ≡ []
+none_beside class s bs decide = none_in_conflict class s bs [] [] None decide refl refl
+
+-- none above another then either
+pub none_after : (class : Class) (s : Span) (after : Option RunKey) (bs : List Booking) → conflicting class s bs ≡ [] → conflicting_after class s after bs ≡ []
+none_after class s after [] none = refl
+none_after class s after (b ∷ bs) none =
+    let cases = elim (conflicts_with class s b) as (λ t. cond t (b ∷ conflicting class s bs) (conflicting class s bs) ≡ [] → cond (is_after after b.key && t) (b ∷ conflicting_after class s after bs) (conflicting_after class s after bs) ≡ []) [
+      | true ↦ λ e. cc
+      | false ↦ λ e. rw (and_false (is_after after b.key)) (none_after class s after bs e)
+    ] in
+    cases none
 
 filter_short : (p : Booking → Bool) (bs : List Booking) → length (filter p bs) ≤ length bs
 filter_short p [] = omega arith

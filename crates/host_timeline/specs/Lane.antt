@@ -51,10 +51,10 @@ with_started_place = change_key place_cmp place_of started_booking
 abbrev pub IsAscendingPlaces : List Booking → Type 0
 IsAscendingPlaces = IsAscending place_cmp place_of
 
--- the order of a lane, and how long its bookings are at most
+-- the order of a lane, and that each of its bookings takes time, but no longer than the longest
 pub record IsLane (bookings : List Booking) (longest : ℕ) : Type 0 where
   pub ascending : IsAscendingPlaces bookings
-  pub short : AllByRecursion (λ b. b.interval.end ≤ b.interval.start + longest) bookings
+  pub short : AllByRecursion (λ b. (b.interval.start < b.interval.end) × (b.interval.end ≤ b.interval.start + longest)) bookings
 
 -- the booking at place i has the place
 pub record IsFoundAt (bookings : List Booking) (place : Place) (i : ℕ) : Type 0 where
@@ -75,9 +75,9 @@ starts_by (Some until) start = nat_lt start until
 abbrev pub spans : ℕ → Option ℕ → Booking → Bool
 spans from until b = nat_lt from b.interval.end && starts_by until b.interval.start
 
--- it starts no earlier than one moment, or ends by another
+-- it starts no earlier than one moment, ends by another, or takes no time
 abbrev pub reaches : ℕ → ℕ → Booking → Bool
-reaches earliest from b = not (nat_lt from b.interval.end) || nat_le earliest b.interval.start
+reaches earliest from b = not (nat_lt b.interval.start b.interval.end && nat_lt from b.interval.end) || nat_le earliest b.interval.start
 
 -- it starts from one moment on, before an end
 abbrev pub starts_between : ℕ → Option ℕ → Booking → Bool

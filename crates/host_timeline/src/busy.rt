@@ -65,7 +65,8 @@ impl Busy {
         }
     }
 
-    /// A moment before which none of the bookings starts that conflict with a run of the class and end behind `from`.
+    /// A moment before which none of the bookings starts that conflict with a run of the class and end behind `from`. Where
+    /// none of them starts before an end, that isn't behind it.
     pub(crate) fn reach_back(&self, class: Class, from: Moment) -> Moment
         ensures { (bookings : List SeenBooking) (places : ℕ) (lanes : SeenLanes) → AreBusy bookings places self.now → HoldLanes bookings lanes → Reach class result from lanes }
     {

@@ -1,5 +1,5 @@
 //! The bookings of one class, ascending by start and then by key.
-ghost use Rattle.std.specs.Prelude.{◌≡◌, ◌+◌, ◌<◌, ◌≤◌, [], Bool, IfOk, IfErr, None, OnOk, false, length, nat_lt, true};
+ghost use Rattle.std.specs.Prelude.{◌≡◌, ◌+◌, ◌<◌, ◌≤◌, [], Bool, IfOk, IfErr, IsTrue, None, OnOk, false, length, nat_lt, true};
 ghost use Rattle.std.specs.List.Sorted.{IsPartitionPoint};
 ghost use Rattle.std.specs.List.{list_all, AllWithin};
 ghost use Rattle.host_timeline.specs.declared.booking.Booking.{Booking as SeenBooking};
@@ -147,6 +147,15 @@ impl Lane {
         between(&self.bookings(), first, until)
     }
 
+    /// Whether none of them has a second from `from` on, before `until`, as far as that is known without a look at them.
+    pub(crate) fn is_clear(&self, earliest: Moment, from: Moment, until: Option<Moment>) -> bool
+        requires { list_all (reaches earliest from) self.now.list ≡ true }
+        ensures { (test : SeenBooking → Bool) → FailsOutside (spans from until) test → IsTrue result → how_many test self.now.list ≡ 0 }
+    {
+        let _ = &self.bookings;
+        !starts_by(until, earliest)
+    }
+
     /// None of them.
     pub(crate) fn nothing(&self) -> LentBookings<'_>
         ensures { result ≡ [] }
@@ -178,19 +187,51 @@ fn between<'a>(bookings: &LentBookings<'a>, from: Moment, until: Option<Moment>)
     requires { IsAscendingPlaces bookings.now }
     ensures { (test : SeenBooking → Bool) → FailsOthers bookings.now (starts_between from until) test → how_many test result ≡ how_many test bookings.now }
 {
+    if !starts_by(until, from) {
+        return bookings.part(0, 0);
+    }
     let first = bookings.starting_before(from);
-    let end = start_by(bookings, until).max(first);
+    let end = start_by(bookings, first, until);
     bookings.part(first, end)
 }
 
-// How many of them start before an end.
-fn start_by(bookings: &LentBookings<'_>, until: Option<Moment>) -> usize
-    requires { IsAscendingPlaces bookings.now }
+// Whether a start is before an end, if there is one.
+fn starts_by(until: Option<Moment>, start: Moment) -> bool
+    ensures { result ≡ starts_by until start }
+{
+    match until {
+        Some(until) => start < until,
+        None => true,
+    }
+}
+
+// Where those end, from a place on, that start before an end.
+fn start_by(bookings: &LentBookings<'_>, first: usize, until: Option<Moment>) -> usize
+    requires ascending { IsAscendingPlaces bookings.now }
+    requires place { first ≤ length bookings.now }
+    ensures behind { first ≤ result }
     ensures within { result ≤ length bookings.now }
     ensures others { AllWithin (λ b. starts_by until b.interval.start ≡ false) bookings.now result (length bookings.now) }
 {
     match until {
-        Some(until) => bookings.starting_before(until),
+        Some(until) => first_from(bookings, first, until),
         None => bookings.len(),
     }
+}
+
+// The place of the first one, from a place on, that starts no earlier than the moment. One after another is tested: those
+// before it are looked at anyway, and mostly there are few.
+fn first_from(bookings: &LentBookings<'_>, first: usize, moment: Moment) -> usize
+    requires ascending { IsAscendingPlaces bookings.now }
+    requires place { first ≤ length bookings.now }
+    ensures behind { first ≤ result }
+    ensures within { result ≤ length bookings.now }
+    ensures others { AllWithin (λ b. nat_lt b.interval.start moment ≡ false) bookings.now result (length bookings.now) }
+{
+    for place in first..bookings.len() {
+        if moment <= bookings.at(place).interval.start {
+            return place;
+        }
+    }
+    bookings.len()
 }

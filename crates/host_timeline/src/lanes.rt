@@ -1,5 +1,5 @@
 //! The bookings of each class.
-ghost use Rattle.std.specs.Prelude.{◌≡◌, ◌<◌, ◌≤◌, [], List, None, OnOk};
+ghost use Rattle.std.specs.Prelude.{◌≡◌, ◌<◌, ◌≤◌, ◌&&◌, [], List, None, IsTrue, OnOk};
 ghost use Rattle.ps_time.specs.declared.class.Class.{Class as SeenClass};
 ghost use Rattle.host_timeline.specs.declared.booking.Booking.{Booking as SeenBooking};
 ghost use Rattle.host_timeline.specs.Lane.{find_place, lane_of, place_of, places_of, with_place, without_place, with_started_place, Decide, Have, HavePlaces, HoldLanes, IsAscendingPlaces, IsEdited, Reach};
@@ -107,6 +107,28 @@ impl Lanes {
         }
     }
 
+    /// Whether none of the bookings conflicts with a run of the class from one moment on, before an end, as far as that is known
+    /// without a look at them.
+    pub(crate) fn are_clear(
+        &self,
+        class: Class,
+        earliest: Moment,
+        from: Moment,
+        until: Option<Moment>,
+    ) -> bool
+        requires { Reach class earliest from self.now }
+        ensures { (bookings : List SeenBooking) → HoldLanes bookings self.now → IsTrue result → Decide class from until bookings [] [] }
+    {
+        match class {
+            Class::Exclusive => both(
+                self.exclusive.is_clear(earliest, from, until),
+                self.normal.is_clear(earliest, from, until),
+            ),
+            Class::Normal => self.exclusive.is_clear(earliest, from, until),
+            _ => true,
+        }
+    }
+
     /// The exclusive and the normal bookings that a run of the class has to look at: all that conflict with it from one
     /// moment on, before an end, and few besides, none before the earliest. For a class that conflicts with none there are
     /// none.
@@ -133,6 +155,13 @@ impl Lanes {
             _ => (self.exclusive.nothing(), self.normal.nothing()),
         }
     }
+}
+
+// Whether both hold.
+fn both(first: bool, second: bool) -> bool
+    ensures { result ≡ (first && second) }
+{
+    first && second
 }
 
 // Reserves places, so that the lane has this many, taken or not.

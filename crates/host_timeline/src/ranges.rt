@@ -64,16 +64,16 @@ impl Ranges {
         &self.ranges.as_slice()[..0]
     }
 
-    /// A moment before which nothing starts that is covered throughout and ends behind `from`: the start of the range in
-    /// which that lies, else `from`.
+    /// A moment before which nothing starts that takes time, is covered throughout and ends behind `from`: the start of the
+    /// first range that ends behind that; where there is none, the last moment of all.
     pub(crate) fn reach_back(&self, from: Moment) -> Moment
-        ensures { (s : Span) → IsCovered self.now.list s → from < s.end → result ≤ s.start }
+        ensures { (s : Span) → s.start < s.end → IsCovered self.now.list s → from < s.end → result ≤ s.start }
     {
         let at = ending_by(self.ranges.as_slice(), from);
         if at < self.ranges.len() {
-            self.ranges[at].start.min(from)
+            self.ranges[at].start
         } else {
-            from
+            Moment::MAX
         }
     }
 

@@ -1,5 +1,5 @@
 //! The timeline: the bookings of a host, ascending by key, with reserved places.
-ghost use Rattle.std.specs.Prelude.{◌≡◌, ◌+◌, ◌<◌, ◌≤◌, ◌&&◌, [], ℕ, Bool, false, None, Some, IfOk, IfErr, IfNone, IfSome, OnOk, is_some, if◌then◌else◌, length};
+ghost use Rattle.std.specs.Prelude.{◌≡◌, ◌+◌, ◌<◌, ◌≤◌, ◌&&◌, [], ℕ, Bool, false, None, Some, IfOk, IfErr, IfNone, IfSome, OnOk, is_some, if◌then◌else◌, length, IsTrue};
 ghost use Rattle.std.specs.List.{filter_map, list_all};
 ghost use Rattle.std.specs.Option.{is_none};
 ghost use Rattle.ps_time.specs.Key.{key_cmp};
@@ -170,6 +170,9 @@ impl Timeline {
         ensures walk { keys_of (conflicting_after class interval.now after self.now.list) ≡ key_and result (λ key. keys_of (conflicting_after class interval.now (Some key) self.now.list)) }
     {
         let _ = &self.bookings;
+        if self.is_clear(class, interval) {
+            return None;
+        }
         let (exclusive, normal) = self.beside(class, interval.start, Some(interval.end));
         lesser_of(
             least_conflict(exclusive, class, interval, after),
@@ -300,11 +303,25 @@ impl Timeline {
         ensures ordered { IsAscendingBookings self.now.list }
     {
         let _ = &self.bookings;
+        if self.is_clear(class, interval) {
+            return None;
+        }
         let (exclusive, normal) = self.beside(class, interval.start, Some(interval.end));
         match first_conflict(exclusive, class, interval) {
             Some(key) => Some(key),
             None => first_conflict(normal, class, interval),
         }
+    }
+
+    // Whether what is busy tells that no booking is in conflict with a run.
+    fn is_clear(&self, class: Class, interval: &Interval) -> bool
+        ensures { IsTrue result → conflicting class interval.now self.now.list ≡ [] }
+    {
+        let _ = &self.bookings;
+        let from = interval.start;
+        let earliest = self.busy.reach_back(class, from);
+        self.lanes
+            .are_clear(class, earliest, from, Some(interval.end))
     }
 
     // The exclusive and the normal bookings that a run of the class has to look at.

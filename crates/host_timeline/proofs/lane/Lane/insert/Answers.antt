@@ -1,4 +1,4 @@
-use Rattle.std.proofs.Common.{◌≡◌, ◌-◌, max, sym, ap, subst, arith}
+use Rattle.std.proofs.Common.{◌≡◌, ◌-◌, ◌<◌, max, sym, ap, subst, arith}
 use Rattle.ps_time.specs.Span.{Span}
 use Rattle.host_timeline.specs.Lane.{Lane, IsFoundAt, IsOpenAt, place_of}
 use Rattle.host_timeline.proofs.LaneLemmas.{find_found, insert_open, lane_after_insert}
@@ -20,7 +20,8 @@ invariant_of-self c =
     let start : c.interval.inside.start ≡ c.args.booking.now.interval.start = ap (λ (i : Span). i.start) c.interval.view_is in
     let end : c.interval.inside.end ≡ c.args.booking.now.interval.end = ap (λ (i : Span). i.end) c.interval.view_is in
     let longest : c.max-self-inside.result ≡ max c.self.inside.longest (c.args.booking.now.interval.end - c.args.booking.now.interval.start) = omega (arith, c.max-self-inside.ensures, start, end) in
-    rw (c.insert.ensures.list, longest) (lane_after_insert _ _ _ gap _ c.self.invariant)
+    let some = subst (λ (i : Span). i.start < i.end) c.interval.view_is c.interval.invariant in
+    rw (c.insert.ensures.list, longest) (lane_after_insert _ _ _ gap _ some c.self.invariant)
 
 pub returns-clause-list : goal.returns-clause-list
 returns-clause-list c =

@@ -1,13 +1,22 @@
-use Rattle.std.proofs.Common.{◌≡◌, ◌∙◌, ◌&&◌, Bool, Some, ap, ap₂, subst}
+use Rattle.std.proofs.Common.{◌≡◌, ◌∙◌, ◌&&◌, Bool, Some, ap, ap₂, sym, subst}
 use Rattle.ps_time.specs.Span.{Span}
 use Rattle.host_timeline.specs.declared.booking.Booking.{Booking}
-use Rattle.host_timeline.specs.Booking.{conflicts_with, is_after, lesser_of}
+use Rattle.host_timeline.specs.Booking.{conflicts_with, is_after, keys_of, least_key, lesser_of}
 use Rattle.host_timeline.specs.Lane.{Decide}
 use Rattle.host_timeline.proofs.Least.{decided_least}
 use Rattle.host_timeline.proofs.Tests.{and_false}
 use Rattle.host_timeline.specs.Timeline.{Timeline, IsAscendingBookings}
-use Rattle.host_timeline.proofs.WalkLemmas.{walk_on}
+use Rattle.host_timeline.proofs.WalkLemmas.{none_after, walk_on}
 use Rattle.host_timeline.proofs.timeline.Timeline.next_conflict.Goals as goal
+
+-- none is in conflict
+pub returns-then-is_clear-clause-least : goal.returns-then-is_clear-clause-least
+returns-then-is_clear-clause-least c =
+    ap (λ l. least_key (keys_of l)) (sym (none_after c.args.class c.args.interval.now c.args.after c.args.self.now.list (c.is_clear.ensures c.if-is_clear.true)))
+
+pub returns-then-is_clear-clause-walk : goal.returns-then-is_clear-clause-walk
+returns-then-is_clear-clause-walk c =
+    ap keys_of (none_after c.args.class c.args.interval.now c.args.after c.args.self.now.list (c.is_clear.ensures c.if-is_clear.true))
 
 -- the least of the two lists
 pub returns-clause-least : goal.returns-clause-least
