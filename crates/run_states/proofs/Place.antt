@@ -1,7 +1,8 @@
 -- What a search finds among rows, and what an edit at that place does.
 use Rattle.std.proofs.Common.{◌≡◌, ℕ, zero, suc, ◌&&◌, ◌∷◌, [], All, Bool, List, not, length, get_or, set, IfSome, Option, Some, None, map, refl, sym, ap, subst, ◌∙◌, true, false, cond, ◌≢◌, ◌⊎◌, inl, inr, ◌<◌, ◌≤◌, ap₂, arith}
 use Rattle.std.proofs.lemmas.Bool.{cases_eq, cases_lt}
-use Rattle.std.proofs.lemmas.List.{get_or_default}
+use Rattle.std.proofs.lemmas.List.{get_or-set_same, get_or_default, length-set}
+use Rattle.std.proofs.lemmas.List.Edits.{get_or-insert_at, length-insert}
 use Rattle.std.proofs.lemmas.List.Elements.{recursion_from_All, All-from_recursion}
 use Rattle.std.specs.Cmp.{Equal-is}
 use Rattle.std.specs.List.{AllByRecursion}
@@ -111,6 +112,28 @@ put_gap rows row i gap = insert_in_gap key_cmp_total (λ r. r.key) rows row i ga
 
 pub ascending_put : (rows : List RunRow) (row : RunRow) (i : ℕ) → IsAscendingRows rows → IsGapFor rows row.key i → IsAscendingRows (insert rows i row)
 ascending_put rows row i up gap = rw (← put_gap rows row i gap) (ascending-insert key_cmp_total (λ r. r.key) rows row up (find_gap rows row.key i gap))
+
+-- ---- places
+-- a row stands at a place of its own key
+pub own_place : (rows : List RunRow) (i : ℕ) (r : RunRow) → i < length rows → r ≡ get_or rows i r → IsPlaceOf rows r.key i
+own_place rows i r within is = record {
+  within = within;
+  same = λ d. ap (λ (x : RunRow). key_cmp x.key r.key) (get_or_default rows i d r within ∙ sym is) ∙ key_cmp_same r.key;
+}
+
+-- a row that is written over the one of its key keeps the place
+pub place_set : (rows : List RunRow) (k : RunKey) (i : ℕ) (r : RunRow) → r.key ≡ k → IsPlaceOf rows k i → IsPlaceOf (set rows i r) k i
+place_set rows k i r own place = record {
+  within = subst (λ n. i < n) (sym (length-set rows i r)) place.within;
+  same = λ d. ap (λ (x : RunRow). key_cmp x.key k) (get_or-set_same rows i r d place.within) ∙ (ap (λ j. key_cmp j k) own ∙ key_cmp_same k);
+}
+
+-- a row that is put in stands at that place
+pub place_put : (rows : List RunRow) (r : RunRow) (i : ℕ) → i ≤ length rows → IsPlaceOf (insert rows i r) r.key i
+place_put rows r i within = record {
+  within = let many = length-insert rows i r within in omega (arith, many, within);
+  same = λ d. ap (λ (x : RunRow). key_cmp x.key r.key) (get_or-insert_at rows i r d within) ∙ key_cmp_same r.key;
+}
 
 -- settling leaves each key
 closed_key : (o : Option Closing) (row : RunRow) → (closed_by o row).key ≡ row.key

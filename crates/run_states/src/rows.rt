@@ -1,5 +1,5 @@
 //! The run rows of a host: ascending by key, with reserved places.
-ghost use Rattle.std.specs.Prelude.{◌≡◌, ℕ, ◌+◌, ◌<◌, ◌≤◌, [], None, IfOk, IfErr, IfSome, IsSome, OnOk, is_some, if◌then◌else◌, All, true, false, length};
+ghost use Rattle.std.specs.Prelude.{◌≡◌, ℕ, ◌+◌, ◌<◌, ◌≤◌, [], None, Some, IfOk, IfErr, IfSome, IsSome, OnOk, is_some, if◌then◌else◌, All, true, false, length, slice_index_or};
 ghost use Rattle.std.specs.List.{list_any};
 ghost use Rattle.std.specs.Option.{option_copied};
 ghost use Rattle.run_states.specs.Effect.{noted_row};
@@ -104,6 +104,29 @@ impl Rows {
         }
     }
 
+    /// Where the row of the key stands, counted from 0, if there is one.
+    pub fn place(&self, key: RunKey) -> Option<usize>
+        ensures found { IfSome result (IsPlaceOf self.now.list key) }
+        ensures absent { result ≡ None → find_row self.now.list key ≡ None }
+        ensures ascending { IsAscendingRows self.now.list }
+    {
+        match self.search(key) {
+            Ok(place) => Some(place),
+            Err(_) => None,
+        }
+    }
+
+    /// The row at a place, counted from 0. No search is made.
+    pub fn at(&self, place: usize) -> &RunRow
+        requires { place < length self.now.list }
+        ensures value { result.now ≡ slice_index_or self.now.list place result.now }
+        ensures own { IsPlaceOf self.now.list result.now.key place }
+        ensures found { (k : RunKey) → IsPlaceOf self.now.list k place → find_row self.now.list k ≡ Some result.now }
+        ensures ascending { IsAscendingRows self.now.list }
+    {
+        &self.rows[place]
+    }
+
     /// The row of the task with the greatest number and attempt.
     pub fn newest_of_task(&self, lead: u16, serial: u32) -> Option<&RunRow>
         ensures { option_copied result ≡ newest_row lead serial self.now.list }
@@ -119,16 +142,22 @@ impl Rows {
         number_of(newest)
     }
 
-    /// Takes no memory, and no other row moves: only the numbers of their cells do, as `PlacedList` says.
-    pub fn put(&mut self, row: RunRow)
+    /// Takes no memory, and no other row moves: only the numbers of their cells do, as `PlacedList` says. Answers where the row
+    /// stands, counted from 0.
+    pub fn put(&mut self, row: RunRow) -> usize
         requires room { 0 < self.old.room }
         requires new_key { find_row self.old.list row.key ≡ None }
         ensures rows { self.new.list ≡ put_row self.old.list row }
+        ensures gap { IsGapFor self.old.list row.key result }
+        ensures place { IsPlaceOf self.new.list row.key result }
         ensures room { self.new.room + 1 ≡ self.old.room }
     {
         match self.search(row.key) {
             Ok(_) => unreachable!(),
-            Err(at) => self.rows.insert(at, row),
+            Err(at) => {
+                self.rows.insert(at, row);
+                at
+            }
         }
     }
 
@@ -159,12 +188,21 @@ impl Rows {
         ensures room { self.new.room ≡ self.old.room }
     {
         match self.search(key) {
-            Ok(at) => {
-                let row = &mut self.rows[at];
-                row.mark(step, moment);
-            }
+            Ok(at) => self.mark_at(at, step, moment),
             Err(_) => drop(step),
         }
+    }
+
+    /// Sets what a step of life sets in the row at a place, counted from 0, unless it has it. The row keeps its place.
+    pub fn mark_at(&mut self, place: usize, step: LifeStep, moment: Moment)
+        requires place { place < length self.old.list }
+        requires result { BringsResult step }
+        ensures rows { (k : RunKey) → IsPlaceOf self.old.list k place → self.new.list ≡ change_row (marked_row step moment) self.old.list k }
+        ensures place { (k : RunKey) → IsPlaceOf self.old.list k place → IsPlaceOf self.new.list k place }
+        ensures room { self.new.room ≡ self.old.room }
+    {
+        let row = &mut self.rows[place];
+        row.mark(step, moment);
     }
 
     /// Sets what the fact tells in the row of the key, if there is one, unless it has it. A fact that has
@@ -176,12 +214,21 @@ impl Rows {
         ensures room { self.new.room ≡ self.old.room }
     {
         match self.search(key) {
-            Ok(at) => {
-                let row = &mut self.rows[at];
-                row.note(fact, moment);
-            }
+            Ok(at) => self.note_at(at, fact, moment),
             Err(_) => drop(fact),
         }
+    }
+
+    /// Sets what the fact tells in the row at a place, counted from 0, unless it has it. The row keeps its place.
+    pub fn note_at(&mut self, place: usize, fact: Fact, moment: Moment)
+        requires place { place < length self.old.list }
+        requires results { BringsResults fact }
+        ensures rows { (k : RunKey) → IsPlaceOf self.old.list k place → self.new.list ≡ change_row (noted_row fact moment) self.old.list k }
+        ensures place { (k : RunKey) → IsPlaceOf self.old.list k place → IsPlaceOf self.new.list k place }
+        ensures room { self.new.room ≡ self.old.room }
+    {
+        let row = &mut self.rows[place];
+        row.note(fact, moment);
     }
 
     /// Takes the row of the key out for good, and answers whether there was one. Its place stays reserved.
@@ -205,13 +252,19 @@ impl Rows {
         ensures { result ≡ is_purgeable_key host moment self.now.list key }
     {
         match self.search(key) {
-            Ok(at) => {
-                let row = &self.rows[at];
-                row.is_long_past(moment)
-                    && (row.key.lead != host || (row.is_archived() && self.has_later(key, at)))
-            }
+            Ok(at) => self.is_purgeable_at(at, host, moment),
             Err(_) => false,
         }
+    }
+
+    /// Whether the row at a place, counted from 0, is long past at the moment, so that the host of this number may purge it.
+    pub fn is_purgeable_at(&self, place: usize, host: u16, moment: Moment) -> bool
+        requires { place < length self.now.list }
+        ensures { (k : RunKey) → IsPlaceOf self.now.list k place → result ≡ is_purgeable_key host moment self.now.list k }
+    {
+        let row = self.at(place);
+        row.is_long_past(moment)
+            && (row.key.lead != host || (row.is_archived() && self.has_later(row.key, place)))
     }
 
     // Whether a later row is of the same task: then so is the next one.
@@ -269,6 +322,7 @@ impl Rows {
     fn search(&self, key: RunKey) -> Result<usize, usize>
         ensures found { IfOk result (IsPlaceOf self.now.list key) }
         ensures absent { IfErr result (IsGapFor self.now.list key) }
+        ensures ascending { IsAscendingRows self.now.list }
     {
         place_of(&self.rows, key)
     }

@@ -1,6 +1,6 @@
 use Rattle.std.proofs.Common.{◌≡◌, sym, ap}
 use Rattle.run_states.specs.Rows.{Rows, IsPlaceOf, IsGapFor}
-use Rattle.run_states.proofs.Place.{find_place, put_gap, ascending_put}
+use Rattle.run_states.proofs.Place.{find_place, place_put, put_gap, ascending_put}
 use Rattle.run_states.proofs.rows.Rows.put.Goals as goal
 
 -- the key is new, so no place has it
@@ -23,3 +23,10 @@ returns-clause-rows c =
     let seen : c.self.inside.rows.list ≡ c.args.self.now.list = ap (λ (t : Rows). t.list) c.self.view_is in
     let gap : IsGapFor c.self.inside.rows.list c.args.row.key c.in-Err.at = rw seen c.in-Err.ensures.absent in
     rw (c.insert.ensures.list, ← seen) (sym (put_gap _ _ _ gap))
+
+-- and stands there
+pub returns-clause-place : goal.returns-clause-place
+returns-clause-place c =
+    let seen : c.self.inside.rows.list ≡ c.args.self.now.list = ap (λ (t : Rows). t.list) c.self.view_is in
+    let gap : IsGapFor c.self.inside.rows.list c.args.row.key c.in-Err.at = rw seen c.in-Err.ensures.absent in
+    rw c.insert.ensures.list (place_put _ _ _ gap.within)
