@@ -105,6 +105,27 @@ module _ (ds : List Deadline) (up : IsAscendingDeadlines ds) (d : Deadline) wher
   pub put_place : (i : ℕ) → IsPlaceOf ds d i → with_deadline (drop_deadline ds d) d ≡ ds
   put_place i place = insert-without deadline_cmp_total own ds d (get_or ds i d) d up (find_at deadline_cmp_total own ds d i d up place.within (place.same d)) (tied_itself deadline_cmp_total d) ∙ replaced ds
 
+-- one that stands at two places stands at one
+pub one_place : (ds : List Deadline) → IsAscendingDeadlines ds → (i j : ℕ) (a b : Deadline) → i < length ds → j < length ds → a ≡ get_or ds i a → b ≡ get_or ds j b → is_eq (deadline_cmp a b) ≡ true → i ≡ j
+one_place ds up i j a b first second at_i at_j same = go (cases_lt i j) (cases_lt j i)
+  where
+    here : a ≡ b
+    here = deadline_is a b same
+
+    apart : (k l : ℕ) → k < l → l < length ds → a ≡ get_or ds k a → a ≡ get_or ds l a → ⊥
+    apart k l less within low high =
+        let lower = ascending_at deadline_cmp_total own ds up k l a less within in
+        let tied = ap₂ deadline_cmp (sym low) (sym high) ∙ tied_itself deadline_cmp_total a in
+        cc (lower, tied)
+
+    at_j_too : a ≡ get_or ds j a
+    at_j_too = subst (λ x. x ≡ get_or ds j x) (sym here) at_j
+
+    go : (i < j) ⊎ (j ≤ i) → (j < i) ⊎ (i ≤ j) → i ≡ j
+    go (inl less) c = absurd (apart i j less second at_i at_j_too)
+    go (inr le) (inl less) = absurd (apart j i less first at_j_too at_i)
+    go (inr le) (inr ge) = omega (arith, le, ge)
+
 pub drop_gap : (ds : List Deadline) (d : Deadline) (i : ℕ) → IsGapFor ds d i → drop_deadline ds d ≡ ds
 drop_gap ds d i gap = without_in_gap deadline_cmp_total own ds d i gap.parted
 

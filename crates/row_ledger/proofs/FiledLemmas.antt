@@ -16,7 +16,7 @@ use Rattle.run_states.proofs.Place.{find_lifted, key_is}
 use Rattle.row_ledger.specs.Deadlines.{deadline_at, deadline_of, due_keys, has_deadline, is_among, latest, lifted, one_if, refiled, waiting, Deadlines, IsAscendingDeadlines, IsDue, IsFiled, Waits}
 use Rattle.row_ledger.specs.Ledger.{counted_at}
 use Rattle.row_ledger.specs.declared.deadlines.Deadline.{Deadline}
-use Rattle.row_ledger.proofs.DeadlineLemmas.{in_due, length_lifted, length_lifted_own, length_refiled, lifted_keeps, passed, passed_length, refiled_keeps, refiled_more, refiled_own, IsThere}
+use Rattle.row_ledger.proofs.DeadlineLemmas.{in_due, length_lifted_own, length_refiled, passed, passed_length, refiled_keeps, refiled_more, refiled_own, IsThere}
 use Rattle.row_ledger.proofs.LapseLemmas.{closed_none, none_before, none_yet, settled_same, some_since}
 use Rattle.row_ledger.proofs.LedgerLemmas.{all_put, found_if}
 use Rattle.row_ledger.proofs.LiveLemmas.{found_put}
@@ -199,45 +199,33 @@ module _ (m : ℕ) (k : RunKey) (ks : List RunKey) (rows : List RunRow) (ds : De
               let later = waits_later m r t at stands in
               absurd (omega (arith, later, come))
 
-  -- where the row of its key closes
-  module _ (c : Closing) (now : List RunRow) (change : now ≡ change_row (close_row c) rows k) where
-    closed_found : deadline_at (find_row now k) ≡ None
-    closed_found = ap (λ l. deadline_at (find_row l k)) change ∙ (ap deadline_at (found_change (close_row c) (λ r. refl) rows k k) ∙ go (find_row rows k) refl)
-      where
-        go : (o : Option RunRow) → find_row rows k ≡ o → deadline_at (option_map (λ r. cond (is_eq (key_cmp r.key k)) (close_row c r) r) o) ≡ None
-        go None at = refl
-        go (Some r) at = ap (λ b. deadline_of (cond b (close_row c r) r)) (found_is k rows r at) ∙ closed_waits_not c r
+-- ---- a row that lapses closes
+-- and waits before
+lapsing_waits : (m : ℕ) → m ≤ latest → (o : Option RunRow) (c : Closing) → option_and_then (lapse_of m) o ≡ Some c → one_if (deadline_at o) ≡ 1
+lapsing_waits m within None c lapses = cc
+lapsing_waits m within (Some r) c lapses = go (lapse_of latest r) refl
+  where
+    go : (o : Option Closing) → lapse_of latest r ≡ o → one_if (option_map (λ x. x.moment) o) ≡ 1
+    go None is = let never : Some c ≡ None = sym lapses ∙ none_before m latest r within is in cc
+    go (Some e) is = refl
 
-    pub closed_filed : (new : Deadlines) (before : Option ℕ) → before ≡ deadline_at (find_row rows k) → new.list ≡ lifted k before (drop 1 ds.list) → length now ≤ new.places → IsFiled now new
-    closed_filed new before was same enough =
-        let moves : Moves ds.list rows now k = subst (λ l. Moves ds.list rows l k) (sym change) (moves_changed (close_row c) (λ r. refl) ds.list rows k up filed.waits) in
-        record {
-          waits = all_but (Waits new.list) k now moves.up (All-weaker (Other k (Waits ds.list)) (Other k (Waits new.list)) (λ r waits off. keeps r (deadline_of r) off (waits off)) now moves.others) (own (find_row now k) refl);
-          few =
-              let few = filed.few in
-              let long = ap length same in
-              let first = passed_length m k ks ds.list due in
-              let less = length_lifted k before (drop 1 ds.list) in
-              let all = moves.count in
-              let none = ap one_if closed_found in
-              let most = at_most (deadline_at (find_row rows k)) in
-              omega (arith, few, long, first, less, all, none, most);
-          places = enough;
-        }
-      where
-        at_most : (o : Option ℕ) → one_if o ≤ 1
-        at_most None = omega arith
-        at_most (Some t) = omega arith
+closed_found : (c : Closing) (rows : List RunRow) (k : RunKey) → deadline_at (find_row (change_row (close_row c) rows k) k) ≡ None
+closed_found c rows k = ap deadline_at (found_change (close_row c) (λ r. refl) rows k k) ∙ go (find_row rows k) refl
+  where
+    go : (o : Option RunRow) → find_row rows k ≡ o → deadline_at (option_map (λ r. cond (is_eq (key_cmp r.key k)) (close_row c r) r) o) ≡ None
+    go None at = refl
+    go (Some r) at = ap (λ b. deadline_of (cond b (close_row c r) r)) (found_is k rows r at) ∙ closed_waits_not c r
 
-        keeps : (r : RunRow) (o : Option ℕ) → is_eq (key_cmp r.key k) ≡ false → IsThere r.key o ds.list → IsThere r.key o new.list
-        keeps r None off has = tt
-        keeps r (Some t) off has =
-            subst (λ l. has_deadline l (record { moment = t; key = r.key }) ≡ true) (sym same)
-            (lifted_keeps k before (drop 1 ds.list) (record { moment = t; key = r.key }) off (passed m k ks ds.list due (record { moment = t; key = r.key }) (λ come. off) has))
-
-        own : (o : Option RunRow) → find_row now k ≡ o → IfSome o (Waits new.list)
-        own None at = tt
-        own (Some r) at = let none : deadline_of r ≡ None = sym (ap deadline_at at) ∙ closed_found in subst (λ o. IsThere r.key o new.list) (sym none) tt
+-- so its deadline goes, and none comes
+pub closed_fewer : (m : ℕ) → m ≤ latest → (rows now : List RunRow) (k : RunKey) (ds : List Deadline) → All (Waits ds) rows → (c : Closing) → option_and_then (lapse_of m) (find_row rows k) ≡ Some c → now ≡ change_row (close_row c) rows k
+    → length (refiled k (deadline_at (find_row rows k)) (deadline_at (find_row now k)) ds) < length ds
+closed_fewer m within rows now k ds waits c lapses change =
+    let before = deadline_at (find_row rows k) in
+    let after = deadline_at (find_row now k) in
+    let long = length_refiled k before after ds (found_waits ds k rows waits) in
+    let one_less = lapsing_waits m within (find_row rows k) c lapses in
+    let none = ap one_if (ap (λ l. deadline_at (find_row l k)) change ∙ closed_found c rows k) in
+    omega (arith, long, one_less, none)
 
 -- ---- which rows lapse
 module _ (m : ℕ) (ds : List Deadline) (within : m ≤ latest) (up : IsAscendingDeadlines ds) where

@@ -130,6 +130,19 @@ module _ (n : ℕ) where
           ∙ (sym (marked_put (is_live n) rows k (f r) up key)
           ∙ ap (live_keys n) (put_back rows k r (f r) up at key ∙ sym (change_found f k r rows up at)))
 
+  -- the key is marked by whether the row is live, after the change and before it
+  pub marked_after : (f : RunRow → RunRow) → ((r : RunRow) → (f r).key ≡ r.key) → (rows now : List RunRow) (k : RunKey) → IsAscendingRows rows → now ≡ change_row f rows k → (ks : List RunKey) → ks ≡ live_keys n rows
+      → (b : Bool) → b ≡ is_live_at n (find_row now k) → marked b ks k ≡ live_keys n now
+  marked_after f same rows now k up change ks keys b is =
+      ap₂ (λ c js. marked c js k) is keys ∙ (ap (λ l. marked (is_live_at n (find_row l k)) (live_keys n rows) k) change ∙ (live_changed f same rows k up ∙ ap (live_keys n) (sym change)))
+
+  pub marked_before : (rows : List RunRow) (k : RunKey) → IsAscendingRows rows → (ks : List RunKey) → ks ≡ live_keys n rows → (b : Bool) → b ≡ is_live_at n (find_row rows k) → marked b ks k ≡ ks
+  marked_before rows k up ks keys b is = marked_after (λ r. r) (λ r. refl) rows rows k up (sym (kept rows)) ks keys b is ∙ sym keys
+    where
+      kept : (rs : List RunRow) → change_row (λ r. r) rs k ≡ rs
+      kept [] = refl
+      kept (r ∷ rs) = ap₂ (λ x l. x ∷ l) (elim (is_eq (key_cmp r.key k)) as (λ c. cond c r r ≡ r) [ true ↦ refl | false ↦ refl ]) (kept rs)
+
   -- ---- a new row
   pub found_put : (rows : List RunRow) (r : RunRow) → find_row rows r.key ≡ None → find_row (put_row rows r) r.key ≡ Some r
   found_put [] r none = ap (λ c. cond (is_eq c) (Some r) None) (key_cmp_same r.key)

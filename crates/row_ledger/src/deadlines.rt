@@ -1,18 +1,15 @@
 //! The moments from which rows lapse, in order, so that those which have come are found first.
-ghost use Rattle.std.specs.Prelude.{◌≡◌, ◌≤◌, ◌<◌, ◌+◌, [], All, IfErr, IfOk, IfSome, OnOk, drop, false, length, option_and_then, true};
+ghost use Rattle.std.specs.Prelude.{◌≡◌, ◌≤◌, ◌<◌, ◌+◌, [], All, IfErr, IfOk, IfSome, OnOk, drop, false, length, true};
 ghost use Rattle.std.specs.List.{remove};
 ghost use Rattle.std.specs.List.Sorted.{IsPartitionPoint};
-ghost use Rattle.run_states.specs.Life.{lapse_of, HasMoments};
-ghost use Rattle.run_states.specs.Rows.{find_row, IsAscendingRows};
-ghost use Rattle.row_ledger.specs.Deadlines.{deadline_at, deadline_of, due_keys, filed, is_before, key_then, lifted, refiled, waiting, IsAscendingDeadlines, IsGapFor, IsPlaceOf, Waits};
+ghost use Rattle.run_states.specs.Life.{HasMoments};
+ghost use Rattle.row_ledger.specs.Deadlines.{deadline_of, due_keys, filed, is_before, key_then, lifted, refiled, waiting, IsAscendingDeadlines, IsGapFor, IsPlaceOf, Waits};
 
 use placed_list::placed_list::PlacedList;
 use ps_time::key::RunKey;
 use ps_time::memory::Memory;
 use ps_time::moment::Moment;
 use run_states::row::RunRow;
-use run_states::rows::Rows;
-use run_states::why::Closing;
 use std::alloc::Global;
 use std::marker::Model;
 
@@ -145,7 +142,7 @@ impl Deadlines {
         ensures found { IfOk result (IsPlaceOf self.now.list deadline.now) }
         ensures absent { IfErr result (IsGapFor self.now.list deadline.now) }
     {
-        let at = self.count_before(deadline);
+        let at = count_before(&self.entries, deadline);
         if at == self.entries.len() {
             return Err(at);
         }
@@ -156,16 +153,6 @@ impl Deadlines {
         }
     }
 
-    // How many deadlines stand before it.
-    fn count_before(&self, deadline: &Deadline) -> usize
-        ensures within { result ≤ length self.now.list }
-        ensures parted { IsPartitionPoint (λ e. is_before deadline.now e ≡ true) (λ e. is_before deadline.now e ≡ false) self.now.list result }
-    {
-        self.entries
-            .in_order()
-            .partition_point(|entry| entry.cmp(deadline).is_lt())
-    }
-
     // Takes the deadline at the place out.
     fn take_out(&mut self, at: usize)
         requires { at < length self.old.list }
@@ -173,9 +160,33 @@ impl Deadlines {
         ensures ascending { IsAscendingDeadlines self.old.list }
         ensures places { self.new.places ≡ self.old.places }
     {
-        let moved = self.count_before(self.entries.last_cell());
+        let moved = place_of_moved(&self.entries, at);
         self.entries.remove(at, moved);
     }
+}
+
+// How many deadlines stand before it.
+fn count_before(entries: &PlacedList<Deadline>, deadline: &Deadline) -> usize
+    requires { IsAscendingDeadlines entries.now.list }
+    ensures within { result ≤ length entries.now.list }
+    ensures parted { IsPartitionPoint (λ e. is_before deadline.now e ≡ true) (λ e. is_before deadline.now e ≡ false) entries.now.list result }
+{
+    entries
+        .in_order()
+        .partition_point(|entry| entry.cmp(deadline).is_lt())
+}
+
+// The place of the deadline in the last cell, as the one at this place goes: often it is that one, else it is found by a search.
+fn place_of_moved(entries: &PlacedList<Deadline>, at: usize) -> usize
+    requires ascending { IsAscendingDeadlines entries.now.list }
+    requires within { at < length entries.now.list }
+    ensures { result ≡ entries.now.last }
+{
+    let last = entries.last_cell();
+    if entries[at].cmp(last).is_eq() {
+        return at;
+    }
+    count_before(entries, last)
 }
 
 /// The deadlines of rows, in these places, where there is one for each row.
@@ -192,37 +203,13 @@ pub(crate) fn file_each(deadlines: &mut Deadlines, rows: &[RunRow])
     }
 }
 
-/// The deadline of the row of the key.
-pub(crate) fn deadline_at(rows: &Rows, key: RunKey) -> Option<Moment>
-    requires { IfSome (find_row rows.now.list key) HasMoments }
-    ensures value { result ≡ deadline_at (find_row rows.now.list key) }
-    ensures ascending { IsAscendingRows rows.now.list }
-{
-    let _ = rows.in_order();
-    match rows.find(key) {
-        Some(row) => deadline_of(row),
-        None => None,
-    }
-}
-
-// The moment from which the row lapses, unless it changes before.
-fn deadline_of(row: &RunRow) -> Option<Moment>
+/// The moment from which the row lapses, unless it changes before.
+pub(crate) fn deadline_of(row: &RunRow) -> Option<Moment>
     requires { HasMoments row.now }
     ensures { result ≡ deadline_of row.now }
 {
     match row.lapse(Moment::MAX) {
         Some(closing) => Some(closing.moment),
-        None => None,
-    }
-}
-
-/// How and when the row of the key lapses, where it does by the moment.
-pub(crate) fn lapse_at(rows: &Rows, key: RunKey, moment: Moment) -> Option<Closing>
-    requires { IfSome (find_row rows.now.list key) HasMoments }
-    ensures { result ≡ option_and_then (lapse_of moment) (find_row rows.now.list key) }
-{
-    match rows.find(key) {
-        Some(row) => row.lapse(moment),
         None => None,
     }
 }

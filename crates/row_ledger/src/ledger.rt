@@ -1,21 +1,21 @@
 //! Rows, with the bytes of their results, the moments from which they lapse, the keys of those that are live, and a moment before
 //! which none of the others may go.
-ghost use Rattle.std.specs.Prelude.{◌≡◌, ◌≤◌, ◌<◌, ◌+◌, ◌-◌, [], ◌∷◌, All, IfOk, IsFalse, OnOk, None, drop, length, min};
+ghost use Rattle.std.specs.Prelude.{◌≡◌, ◌≤◌, ◌<◌, ◌+◌, ◌-◌, [], ◌∷◌, All, IfOk, IfSome, IsFalse, OnOk, None, drop, length, option_and_then, option_map, true};
 ghost use Rattle.run_states.specs.Effect.{noted_row};
 ghost use Rattle.run_states.specs.LawfulRow.{BringsResult, BringsResults};
-ghost use Rattle.run_states.specs.Life.{close_row, settled_rows, marked_row, HasMoments};
+ghost use Rattle.run_states.specs.Life.{close_row, lapse_of, settled_rows, marked_row, HasMoments};
 ghost use Rattle.run_states.specs.declared.why.Why.TheVariants.{Preempted};
 ghost use Rattle.run_states.specs.ResultBytes.{result_bytes as bytes_of_rows, row_bytes};
-ghost use Rattle.run_states.specs.Rows.{change_row, find_row, lift_row, put_row, IsAscendingRows};
-ghost use Rattle.live_rows.specs.LiveKeys.{marked};
+ghost use Rattle.run_states.specs.Rows.{change_row, find_row, lift_row, put_row, IsAscendingRows, IsPlaceOf};
+ghost use Rattle.live_rows.specs.LiveKeys.{find_own, marked};
 ghost use Rattle.live_rows.specs.Still.{keys_live_by, live_keys, StillStay};
-ghost use Rattle.row_ledger.specs.Deadlines.{due_keys, IsAscendingDeadlines, Waits};
-ghost use Rattle.row_ledger.specs.Ledger.{bytes_at, fact_bytes, is_live_at, most_counted, step_bytes};
+ghost use Rattle.row_ledger.specs.Deadlines.{deadline_at, due_keys, refiled, IsAscendingDeadlines, Waits};
+ghost use Rattle.row_ledger.specs.Ledger.{fact_bytes, most_counted, step_bytes};
 ghost use Rattle.row_ledger.specs.Closing.{closed_each};
 
 use crate::called::add_called;
-use crate::deadlines::{Deadlines, deadline_at, file_each, lapse_at};
-use crate::staying::{newest_beside, next_purge, sooner};
+use crate::deadlines::{Deadlines, deadline_of, file_each};
+use crate::staying::{next_purge, sooner, sooner_before};
 use host_timeline::booking::Booking;
 use host_timeline::timeline::Timeline;
 use live_rows::live_keys::LiveKeys;
@@ -29,7 +29,7 @@ use run_states::life::LifeStep;
 use run_states::rest::result_bytes;
 use run_states::row::RunRow;
 use run_states::rows::Rows;
-use run_states::why::Why;
+use run_states::why::{Closing, Why};
 use std::alloc::Global;
 use std::marker::Model;
 use tiered_list::lent::Lent;
@@ -192,7 +192,8 @@ impl Ledger {
         }
     }
 
-    // Takes the first deadline out, which has come by the moment, and closes the row of its key if that has lapsed by then.
+    // Closes the row of the first deadline, which has come by the moment, if it has lapsed by then, and takes its own deadline out.
+    // Takes the first deadline out where it hasn't.
     fn settle_first(&mut self, key: RunKey, moment: Moment)
         requires { due_keys moment self.old.deadlines ≡ key ∷ due_keys moment (drop 1 self.old.deadlines) }
         ensures number { self.new.number ≡ self.old.number }
@@ -200,16 +201,24 @@ impl Ledger {
         ensures fewer { length self.new.deadlines < length self.old.deadlines }
         ensures room { self.old.room ≤ self.new.room }
     {
-        let waited = deadline_at(&self.rows, key);
-        let lapse = lapse_at(&self.rows, key, moment);
-        self.deadlines.pass();
-        let Some(closing) = lapse else {
-            return;
-        };
-        self.rows.close(key, closing);
-        self.deadlines.lift(key, waited);
-        self.next_purge = sooner(self.next_purge, &self.rows, key, self.number);
-        review(&mut self.live, &self.rows, key, self.number);
+        let _ = self.rows();
+        let _ = self.deadlines();
+        match self.lapse_of(key, moment) {
+            Some((place, closing)) => {
+                self.mark_at(place, key, LifeStep::Close(closing.why), closing.moment);
+            }
+            None => self.deadlines.pass(),
+        }
+    }
+
+    // Where the row of the key stands, and how and when it lapses, where it does by the moment.
+    fn lapse_of(&self, key: RunKey, moment: Moment) -> Option<(usize, Closing)>
+        ensures place { IfSome result (λ found. IsPlaceOf self.now.list key found.0) }
+        ensures lapse { option_map (λ found. found.1) result ≡ option_and_then (lapse_of moment) (find_row self.now.list key) }
+    {
+        let place = self.rows.place(key)?;
+        let closing = self.rows.at(place).lapse(moment)?;
+        Some((place, closing))
     }
 
     /// Whether a row that is still may go at the moment. Once rows went, it may say so for nothing until `review_purges`.
@@ -244,15 +253,36 @@ impl Ledger {
         ensures rows { self.new.list ≡ change_row (marked_row step moment) self.old.list key }
         ensures room { self.old.room ≤ self.new.room }
     {
-        let before = bytes_at(&self.rows, key);
-        let waited = deadline_at(&self.rows, key);
-        self.rows.mark(key, step, moment);
-        let after = bytes_at(&self.rows, key);
+        match self.rows.place(key) {
+            Some(place) => self.mark_at(place, key, step, moment),
+            None => drop(step),
+        }
+    }
+
+    // Sets what a step of life sets in the row of the key, which stands at the place.
+    fn mark_at(&mut self, place: usize, key: RunKey, step: LifeStep, moment: Moment)
+        requires place { IsPlaceOf self.old.list key place }
+        requires result { BringsResult step }
+        requires moments { All HasMoments (change_row (marked_row step moment) self.old.list key) }
+        requires bytes { step_bytes step ≤ most_counted - bytes_of_rows self.old.list }
+        ensures number { self.new.number ≡ self.old.number }
+        ensures rows { self.new.list ≡ change_row (marked_row step moment) self.old.list key }
+        ensures deadlines { self.new.deadlines ≡ refiled key (deadline_at (find_row self.old.list key)) (deadline_at (find_row self.new.list key)) self.old.deadlines }
+        ensures room { self.old.room ≤ self.new.room }
+    {
+        let row = self.rows.at(place);
+        let before = row.result_bytes();
+        let waited = deadline_of(row);
+        let was_live = is_live(row, self.number);
+        self.rows.mark_at(place, step, moment);
+        let marked = self.rows.at(place);
+        let after = marked.result_bytes();
+        let waits = deadline_of(marked);
+        let lives = is_live(marked, self.number);
         self.bytes = self.bytes - before + after;
-        let waits = deadline_at(&self.rows, key);
         self.deadlines.refile(key, waited, waits);
-        self.next_purge = sooner(self.next_purge, &self.rows, key, self.number);
-        review(&mut self.live, &self.rows, key, self.number);
+        self.next_purge = sooner(self.next_purge, &self.rows, place, self.number);
+        review(&mut self.live, key, was_live, lives);
     }
 
     /// Sets what the fact tells in the row of the key.
@@ -264,15 +294,35 @@ impl Ledger {
         ensures rows { self.new.list ≡ change_row (noted_row fact moment) self.old.list key }
         ensures room { self.old.room ≤ self.new.room }
     {
-        let before = bytes_at(&self.rows, key);
-        let waited = deadline_at(&self.rows, key);
-        self.rows.note(key, fact, moment);
-        let after = bytes_at(&self.rows, key);
+        match self.rows.place(key) {
+            Some(place) => self.note_at(place, key, fact, moment),
+            None => drop(fact),
+        }
+    }
+
+    // Sets what the fact tells in the row of the key, which stands at the place.
+    fn note_at(&mut self, place: usize, key: RunKey, fact: Fact, moment: Moment)
+        requires place { IsPlaceOf self.old.list key place }
+        requires results { BringsResults fact }
+        requires moments { All HasMoments (change_row (noted_row fact moment) self.old.list key) }
+        requires bytes { fact_bytes fact ≤ most_counted - bytes_of_rows self.old.list }
+        ensures number { self.new.number ≡ self.old.number }
+        ensures rows { self.new.list ≡ change_row (noted_row fact moment) self.old.list key }
+        ensures room { self.old.room ≤ self.new.room }
+    {
+        let row = self.rows.at(place);
+        let before = row.result_bytes();
+        let waited = deadline_of(row);
+        let was_live = is_live(row, self.number);
+        self.rows.note_at(place, fact, moment);
+        let noted = self.rows.at(place);
+        let after = noted.result_bytes();
+        let waits = deadline_of(noted);
+        let lives = is_live(noted, self.number);
         self.bytes = self.bytes - before + after;
-        let waits = deadline_at(&self.rows, key);
         self.deadlines.refile(key, waited, waits);
-        self.next_purge = sooner(self.next_purge, &self.rows, key, self.number);
-        review(&mut self.live, &self.rows, key, self.number);
+        self.next_purge = sooner(self.next_purge, &self.rows, place, self.number);
+        review(&mut self.live, key, was_live, lives);
     }
 
     /// Puts a row that has no results.
@@ -287,13 +337,13 @@ impl Ledger {
     {
         let _ = self.rows.in_order();
         let key = row.key;
-        let older = newest_beside(&self.rows, key);
-        self.rows.put(row);
-        let waits = deadline_at(&self.rows, key);
+        let waits = deadline_of(&row);
+        let lives = is_live(&row, self.number);
+        let place = self.rows.put(row);
         self.deadlines.refile(key, None, waits);
-        let own = sooner(self.next_purge, &self.rows, key, self.number);
-        self.next_purge = sooner(own, &self.rows, older, self.number);
-        review(&mut self.live, &self.rows, key, self.number);
+        let own = sooner(self.next_purge, &self.rows, place, self.number);
+        self.next_purge = sooner_before(own, &self.rows, place, self.number);
+        review(&mut self.live, key, false, lives);
     }
 
     /// Takes the row of the key out for good; its place stays reserved.
@@ -302,11 +352,16 @@ impl Ledger {
         ensures rows { self.new.list ≡ lift_row self.old.list key }
         ensures room { self.old.room ≤ self.new.room }
     {
-        self.bytes -= bytes_at(&self.rows, key);
-        let waited = deadline_at(&self.rows, key);
+        let Some(place) = self.rows.place(key) else {
+            return;
+        };
+        let row = self.rows.at(place);
+        self.bytes -= row.result_bytes();
+        let waited = deadline_of(row);
+        let was_live = is_live(row, self.number);
         self.deadlines.lift(key, waited);
         self.rows.purge(key);
-        self.live.mark(key, false);
+        review(&mut self.live, key, was_live, false);
         self.has_gone = true;
     }
 
@@ -345,35 +400,15 @@ fn counted_bytes(rows: &[RunRow]) -> Result<u64, Memory>
     Ok(bytes)
 }
 
-// How many bytes of results the row of the key keeps.
-fn bytes_at(rows: &Rows, key: RunKey) -> u64
-    ensures value { result ≡ min (bytes_at (find_row rows.now.list key)) most_counted }
-    ensures ascending { IsAscendingRows rows.now.list }
-{
-    let _ = rows.in_order();
-    match rows.find(key) {
-        Some(row) => row.result_bytes(),
-        None => 0,
-    }
-}
-
-// Puts the key of a row that came or changed among those of the live rows, or takes it out.
-fn review(live: &mut LiveKeys, rows: &Rows, key: RunKey, number: u16)
-    requires marked { marked (is_live_at number (find_row rows.now.list key)) live.old.list key ≡ live_keys number rows.now.list }
-    requires places { length rows.now.list ≤ live.old.places }
-    ensures list { live.new.list ≡ live_keys number rows.now.list }
+// Puts the key of a row that came, changed or goes among those of the live rows, or takes it out, as the row is live after that,
+// unless it was so before.
+fn review(live: &mut LiveKeys, key: RunKey, before: bool, after: bool)
+    requires before { marked before live.old.list key ≡ live.old.list }
+    requires place { after ≡ true → find_own live.old.list key ≡ None → length live.old.list < live.old.places }
+    ensures list { live.new.list ≡ marked after live.old.list key }
     ensures places { live.new.places ≡ live.old.places }
 {
-    let is_live = is_live_at(rows, key, number);
-    live.mark(key, is_live);
-}
-
-// Whether there is a row of the key, and it is live.
-fn is_live_at(rows: &Rows, key: RunKey, number: u16) -> bool
-    ensures { result ≡ is_live_at number (find_row rows.now.list key) }
-{
-    match rows.find(key) {
-        Some(row) => is_live(row, number),
-        None => false,
+    if before != after {
+        live.mark(key, after);
     }
 }
