@@ -94,7 +94,7 @@ module _ {D : Type 0} (told : D → Option (List DiskCall)) (faults : D → ℕ)
   some_other false counting other new calls first = some_on true other counting new calls first
   some_other true counting other new calls first = some_on false other counting new calls first
 
-  makes_both : (a b c d e f : D) (xs ys : PairCalls) → MakesPair told faults went a b c d xs → MakesPair told faults went c d e f ys → MakesPair told faults went a b e f (xs ++ ys)
+  pub makes_both : (a b c d e f : D) (xs ys : PairCalls) → MakesPair told faults went a b c d xs → MakesPair told faults went c d e f ys → MakesPair told faults went a b e f (xs ++ ys)
   makes_both a b c d e f xs ys one two = record {
     told = tells_both told a b c d e f xs ys one.told two.told;
     calm = (two.calm.0 ∙ one.calm.0, two.calm.1 ∙ one.calm.1);
@@ -102,7 +102,7 @@ module _ {D : Type 0} (told : D → Option (List DiskCall)) (faults : D → ℕ)
   }
 
   -- all of the first run, and some of the second
-  pub some_later : (a b c d e f : D) (xs ys : PairCalls) → MakesPair told faults went a b c d xs → TellsSome told faults went c d e f ys → TellsSome told faults went a b e f (xs ++ ys)
+  abbrev pub some_later : (a b c d e f : D) (xs ys : PairCalls) → MakesPair told faults went a b c d xs → TellsSome told faults went c d e f ys → TellsSome told faults went a b e f (xs ++ ys)
   some_later a b c d e f xs ys one two = record {
     made = xs ++ two.made;
     last = two.last;

@@ -1,10 +1,10 @@
 -- The course of a call of a kept machine, from the clauses of the journal's calls.
-use Rattle.std.proofs.Common.{◌≡◌, inl, inr, ℕ, ◌+◌, ◌-◌, Bool, true, false, not, if◌then◌else◌, List, [], ◌∷◌, length, ap, refl, sym, subst, ◌∙◌}
+use Rattle.std.proofs.Common.{◌≡◌, inl, inr, ℕ, ◌+◌, ◌-◌, ◌≤◌, Bool, true, false, not, if◌then◌else◌, List, [], ◌∷◌, ◌++◌, length, ap, refl, sym, subst, arith, ◌∙◌}
 use Rattle.std.specs.Prelude.{IfOk, Option, Some, None, Result, Ok, Err}
 use Rattle.ps_ports.specs.Causes.{raised}
 use Rattle.ps_disks.specs.declared.disk.DiskCall.{DiskCall}
 use Rattle.ps_disks.specs.declared.disk.DiskCall.TheVariants.{Sync}
-use Rattle.host_journal.specs.State.{State, IsAt, KeepsPlace, SameButRoom, first_disk, has_record, is_ready, opened_as, second_disk, snapshot_calls, stored}
+use Rattle.host_journal.specs.State.{State, IsAt, KeepsPlace, SameButRoom, append_calls, first_disk, has_record, is_ready, opened_as, second_disk, snapshot_calls, stored}
 use Rattle.host_journal.specs.Told.{TellsAll, TellsFirst, TellsSyncs}
 use Rattle.host_journal.specs.declared.pending.Pending.{Pending}
 use Rattle.host_journal.specs.declared.pending.Pending.TheVariants.{Nothing, Unopened, Record, Snapshot}
@@ -144,7 +144,7 @@ image_same : {D : Type 0} (a b : State D) (image : Option (List ℕ)) → a.seco
 image_same a b None second shut generation = refl
 image_same a b (Some image) second shut generation = rw (second, shut, generation) refl
 
-images_same : {D : Type 0} (old mid turned : State D) → SameButRoom old mid → KeepsPlace mid turned → (image : Option (List ℕ)) → image_calls turned image ≡ image_calls old image
+pub images_same : {D : Type 0} (old mid turned : State D) → SameButRoom old mid → KeepsPlace mid turned → (image : Option (List ℕ)) → image_calls turned image ≡ image_calls old image
 images_same {D} old mid turned same kept image = image_same turned old image (kept.second ∙ ap (λ (m : State D). m.second) same) (kept.shut ∙ ap (λ (m : State D). m.shut) same) (kept.generation ∙ ap (λ (m : State D). m.generation) same)
 
 pub kept_told : {D : Type 0} (told : D → Option (List DiskCall)) (old mid : State D) → SameButRoom old mid → (payload : List ℕ) (turned new : State D) → KeepsPlace mid turned → TellsIn told mid turned (record_calls mid (Some payload))
@@ -154,6 +154,9 @@ kept_told {D} told old mid same payload turned new kept all image more =
     (subst (λ (m : State D). TellsPair told (first_disk m) (second_disk m) (first_disk turned) (second_disk turned) (record_calls m (Some payload))) same all)
     (subst (TellsPair told (first_disk turned) (second_disk turned) (first_disk new) (second_disk new)) (images_same old mid turned same kept image) more)
 
+four_on : (second : Bool) (end : ℕ) (payload : List ℕ) (rest : PairCalls) → 4 ≤ length (all_on second (append_calls end payload) ++ rest)
+four_on second end payload rest = omega arith
+
 -- a fault was met in the record, or in the snapshot behind it
 module _ {D : Type 0} (told : D → Option (List DiskCall)) (faults : D → ℕ) (went : D → D → Type 0) (went_refl : (disk : D) → went disk disk) (went_trans : (a b c : D) → went a b → went b c → went a c)
     (old mid : State D) (same : SameButRoom old mid) (payload : List ℕ) where
@@ -162,12 +165,18 @@ module _ {D : Type 0} (told : D → Option (List DiskCall)) (faults : D → ℕ)
       some_early told faults went went_refl went_trans (first_disk old) (second_disk old) (first_disk new) (second_disk new) (record_calls old (Some payload)) []
       (subst (λ (m : State D). TellsSome told faults went (first_disk m) (second_disk m) (first_disk new) (second_disk new) (record_calls m (Some payload))) same some)
 
-  pub kept_late : (turned new : State D) → KeepsPlace mid turned → MakesPair told faults went (first_disk mid) (second_disk mid) (first_disk turned) (second_disk turned) (record_calls mid (Some payload))
+  abbrev pub kept_late : (turned new : State D) → KeepsPlace mid turned → MakesPair told faults went (first_disk mid) (second_disk mid) (first_disk turned) (second_disk turned) (record_calls mid (Some payload))
       → (image : List ℕ) → TellsSomeIn told faults went turned new (image_calls turned (Some image)) → TellsSomeIn told faults went old new (kept_calls old (Some payload) (Some image))
   kept_late turned new kept all image more =
       some_later told faults went went_refl went_trans (first_disk old) (second_disk old) (first_disk turned) (second_disk turned) (first_disk new) (second_disk new) (record_calls old (Some payload)) (image_calls old (Some image))
       (subst (λ (m : State D). MakesPair told faults went (first_disk m) (second_disk m) (first_disk turned) (second_disk turned) (record_calls m (Some payload))) same all)
       (subst (TellsSome told faults went (first_disk turned) (second_disk turned) (first_disk new) (second_disk new)) (images_same old mid turned same kept (Some image)) more)
+
+  -- behind the record
+  pub late_behind : (turned new : State D) (kept : KeepsPlace mid turned) (all : MakesPair told faults went (first_disk mid) (second_disk mid) (first_disk turned) (second_disk turned) (record_calls mid (Some payload)))
+      → (image : List ℕ) (more : TellsSomeIn told faults went turned new (image_calls turned (Some image))) → 4 ≤ length (kept_late turned new kept all image more).made
+  late_behind turned new kept all image more =
+      four_on old.second old.end payload (subst (TellsSome told faults went (first_disk turned) (second_disk turned) (first_disk new) (second_disk new)) (images_same old mid turned same kept (Some image)) more).made
 
 module _ {D : Type 0} (old mid turned : State D) (same : SameButRoom old mid) (payload : List ℕ) (kept : KeepsPlace mid turned) (longer : turned.end ≡ mid.end + 5 + length payload) where
   start_same : turned.start ≡ old.start

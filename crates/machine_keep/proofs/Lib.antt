@@ -1,7 +1,9 @@
 pub mod ArmedLemmas
+mod BrokenLemmas
 pub mod CallLemmas
 mod CourseLemmas
 mod CrashLemmas
+mod FaultedLemmas
 mod KeepLemmas
 pub mod OpeningLemmas
 pub mod RefusalLemmas

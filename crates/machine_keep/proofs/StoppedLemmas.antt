@@ -241,30 +241,32 @@ module _ (f f_mid f_new s s_mid s_new : DiskState) (made : PairCalls) (last : Bo
 
 -- ---- a step
 module _ (old new : State DiskState) (calls : PairCalls) (first second : ℕ) (armed_one : IsArmed (first_disk old) first) (armed_two : IsArmed (second_disk old) second) where
-  pub stopped : IsStopped old new calls → (first_disk new).starved ≡ false → (second_disk new).starved ≡ false → are_too_far calls ≡ false → (n : ℕ) × StopsAt first second old new calls n
-  stopped stop fed_one fed_two near =
+  -- at the call behind those that were made
+  pub stopped_at : (stop : IsStopped old new calls) → (first_disk new).starved ≡ false → (second_disk new).starved ≡ false → are_too_far calls ≡ false → StopsAt first second old new calls (length stop.made + 1)
+  stopped_at stop fed_one fed_two near =
       let made = stop.made in
       let last = stop.last in
       let rest = stop.rest in
       let all : PairCalls = made ++ last ∷ rest in
       let end = near_last made last rest (subst (λ (l : PairCalls). are_too_far l ≡ false) stop.split near) in
       let first_so = first_stopped (first_disk old) stop.first_mid (first_disk new) (second_disk old) stop.second_mid (second_disk new) made last rest first second armed_one armed_two stop.before stop.told stop.rose stop.went fed_one fed_two end in
-      let second_so = second_stopped (first_disk old) stop.first_mid (first_disk new) (second_disk old) stop.second_mid (second_disk new) made last rest first second armed_one armed_two stop.before stop.told stop.rose stop.went fed_one fed_two end in (
-        length made + 1,
-        subst (λ (l : PairCalls). StopsAt first second old new l (length made + 1)) (sym stop.split) (record {
-          least = omega arith;
-          most = omega (arith, length-append made (last ∷ rest));
-          place = stop_place (first_disk old) stop.first_mid (first_disk new) (second_disk old) stop.second_mid (second_disk new) made last rest first second armed_one armed_two stop.before stop.told stop.rose stop.went fed_one fed_two end;
-          first_history = subst (λ (l : PairCalls). (first_disk new).history ≡ with_calls (first_disk old).history (first_calls l) (first_calls (take 1 (drop ((length made + 1) - 1) all)))) (sym (parted_before made last rest))
-              (subst (λ (l : PairCalls). (first_disk new).history ≡ with_calls (first_disk old).history (first_calls made) (first_calls l)) (sym (parted_last made last rest)) first_so);
-          second_history = subst (λ (l : PairCalls). (second_disk new).history ≡ with_calls (second_disk old).history (second_calls l) (second_calls (take 1 (drop ((length made + 1) - 1) all)))) (sym (parted_before made last rest))
-              (subst (λ (l : PairCalls). (second_disk new).history ≡ with_calls (second_disk old).history (second_calls made) (second_calls l)) (sym (parted_last made last rest)) second_so);
-          first_after = subst (λ (l : PairCalls). IsAfter (first_disk old) (first_disk new) (first_calls l)) (sym (parted made last rest))
-              (first_made (first_disk old) stop.first_mid (first_disk new) (second_disk old) stop.second_mid (second_disk new) made last rest first second armed_one armed_two stop.before stop.told stop.rose stop.went fed_one fed_two end);
-          second_after = subst (λ (l : PairCalls). IsAfter (second_disk old) (second_disk new) (second_calls l)) (sym (parted made last rest))
-              (second_made (first_disk old) stop.first_mid (first_disk new) (second_disk old) stop.second_mid (second_disk new) made last rest first second armed_one armed_two stop.before stop.told stop.rose stop.went fed_one fed_two end);
-        }),
-      )
+      let second_so = second_stopped (first_disk old) stop.first_mid (first_disk new) (second_disk old) stop.second_mid (second_disk new) made last rest first second armed_one armed_two stop.before stop.told stop.rose stop.went fed_one fed_two end in
+      subst (λ (l : PairCalls). StopsAt first second old new l (length made + 1)) (sym stop.split) (record {
+        least = omega arith;
+        most = omega (arith, length-append made (last ∷ rest));
+        place = stop_place (first_disk old) stop.first_mid (first_disk new) (second_disk old) stop.second_mid (second_disk new) made last rest first second armed_one armed_two stop.before stop.told stop.rose stop.went fed_one fed_two end;
+        first_history = subst (λ (l : PairCalls). (first_disk new).history ≡ with_calls (first_disk old).history (first_calls l) (first_calls (take 1 (drop ((length made + 1) - 1) all)))) (sym (parted_before made last rest))
+            (subst (λ (l : PairCalls). (first_disk new).history ≡ with_calls (first_disk old).history (first_calls made) (first_calls l)) (sym (parted_last made last rest)) first_so);
+        second_history = subst (λ (l : PairCalls). (second_disk new).history ≡ with_calls (second_disk old).history (second_calls l) (second_calls (take 1 (drop ((length made + 1) - 1) all)))) (sym (parted_before made last rest))
+            (subst (λ (l : PairCalls). (second_disk new).history ≡ with_calls (second_disk old).history (second_calls made) (second_calls l)) (sym (parted_last made last rest)) second_so);
+        first_after = subst (λ (l : PairCalls). IsAfter (first_disk old) (first_disk new) (first_calls l)) (sym (parted made last rest))
+            (first_made (first_disk old) stop.first_mid (first_disk new) (second_disk old) stop.second_mid (second_disk new) made last rest first second armed_one armed_two stop.before stop.told stop.rose stop.went fed_one fed_two end);
+        second_after = subst (λ (l : PairCalls). IsAfter (second_disk old) (second_disk new) (second_calls l)) (sym (parted made last rest))
+            (second_made (first_disk old) stop.first_mid (first_disk new) (second_disk old) stop.second_mid (second_disk new) made last rest first second armed_one armed_two stop.before stop.told stop.rose stop.went fed_one fed_two end);
+      })
+
+  pub stopped : IsStopped old new calls → (first_disk new).starved ≡ false → (second_disk new).starved ≡ false → are_too_far calls ≡ false → (n : ℕ) × StopsAt first second old new calls n
+  stopped stop fed_one fed_two near = (length stop.made + 1, stopped_at stop fed_one fed_two near)
 
   pub runs_through : IsSpared (first_disk old) (first_disk new) × IsSpared (second_disk old) (second_disk new) → TellsIn told_calls old new calls → RunsThrough first second old new calls
   runs_through calm told =

@@ -1,5 +1,5 @@
 -- The course of a call of a kept machine: what it finds, makes and leaves, and what its disks tell.
-use Rattle.std.specs.Prelude.{◌≡◌, ℕ, ◌+◌, ◌-◌, Bool, true, false, not, if◌then◌else◌, List, [], ◌∷◌, ◌++◌, length, Option, None, Some, IfSome, option_map}
+use Rattle.std.specs.Prelude.{◌≡◌, ℕ, ◌+◌, ◌-◌, ◌≤◌, Bool, true, false, not, if◌then◌else◌, List, [], ◌∷◌, ◌++◌, length, Option, None, Some, IfSome, option_map}
 use Rattle.ps_ports.specs.Causes.{raised}
 use Rattle.ps_disks.specs.declared.disk.DiskCall.{DiskCall}
 use Rattle.host_journal.specs.Format.{stands as is_standing}
@@ -81,6 +81,11 @@ module _ {M D S T : Type 0} (tells : D → Option (List DiskCall)) (state : M �
     pub moved : Moves old.journal (option_map bytes step) image new.journal
     pub told : TellsIn tells old.journal new.journal (kept_calls old.journal (option_map bytes step) image)
 
+-- where a snapshot was begun, the four calls of the record were made before
+abbrev pub IsBehindRecord : Option (List ℕ) → ℕ → Type 0
+IsBehindRecord None made = Unit {0}
+IsBehindRecord (Some image) made = 4 ≤ made
+
 module _ {M D S T : Type 0} (tells : D → Option (List DiskCall)) (faults : D → ℕ) (goes : D → D → Type 0) (state : M → S) (stands : List (List ℕ) → S → Type 0) (bytes : T → List ℕ) (after : S → T → S) where
   -- a fault was met as the step was kept
   pub record Breaks (old new : Kept M D T) (step : Option T) : Type 0 where
@@ -88,6 +93,7 @@ module _ {M D S T : Type 0} (tells : D → Option (List DiskCall)) (faults : D �
     pub due : IsDue stands (after_step after (state old.machine) step) old.journal (option_map bytes step) image
     pub left : Leaves after (state old.machine) step image (state new.machine) new.unsure
     pub told : TellsSomeIn tells faults goes old.journal new.journal (kept_calls old.journal (option_map bytes step) image)
+    pub behind : IsBehindRecord image (length told.made)
 
 module _ {M D S C R T : Type 0} (premise : Type 0) (seen : D → List ℕ) (tells : D → Option (List DiskCall)) (state : M → S) (stands : List (List ℕ) → S → Type 0)
     (bytes : T → List ℕ) (answers : S → C → R → Option T → Type 0) (follows : S → T → Type 0) (after : S → T → S) where

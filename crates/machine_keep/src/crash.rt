@@ -1,13 +1,13 @@
 //! A step that a crash stops, over disks in memory.
-ghost use Rattle.std.specs.Prelude.{◌≡◌, ◌+◌, ◌≤◌, IfOk, IfSome, IsTrue, Option, if◌then◌else◌, length};
+ghost use Rattle.std.specs.Prelude.{◌≡◌, ◌+◌, ◌-◌, ◌≤◌, ◌<◌, IfOk, IfSome, IsTrue, Option, false, if◌then◌else◌, length, nat_lt};
 ghost use Rattle.ps_disks.specs.Disk.{AreBounded, Only};
-ghost use Rattle.ps_disks.specs.History.{LeftSince, bytes_now};
+ghost use Rattle.ps_disks.specs.History.{LeftSince, bytes_now, image_bytes};
 ghost use Rattle.ps_disks.specs.Run.{IsArmed};
 ghost use Rattle.host_journal.specs.Crash.{IsCrashed};
 ghost use Rattle.host_journal.specs.Pair.{pair_of};
-ghost use Rattle.host_journal.specs.State.{is_ready};
-ghost use Rattle.machine_keep.specs.Crash.{keeps_step};
-ghost use Rattle.machine_keep.specs.Kept.{StandsFor, after_step};
+ghost use Rattle.host_journal.specs.State.{first_disk, has_record, is_ready, second_disk, stored};
+ghost use Rattle.machine_keep.specs.Crash.{LeftOfStep, keeps_step};
+ghost use Rattle.machine_keep.specs.Kept.{StandsFor, after_step, caught};
 
 use crate::keep::Keep;
 use crate::machine::{Decided, Machine};
@@ -48,6 +48,56 @@ impl<M: Machine + Drop> Keep<M, MemoryDisk> {
             Some(step) => keep.crash_in_step(alloc, step, stop, image),
             None => keep.crash_at_rest(image),
         }
+    }
+
+    /// The same of a machine whose last call met a fault. Its step begins with a sync of the first disk and one of the second,
+    /// which count too: from the third call on it is as `crash_in` with two calls less, in the state that is found to stand.
+    pub fn crash_in_again(
+        self,
+        alloc: Global,
+        call: M::Call,
+        stop: u64,
+        image: Image,
+    ) -> Result<(MemoryDisk, MemoryDisk), Memory>
+        requires may { M.may_ask (M.fixed (M.state self.machine)) call }
+        requires failed { is_ready self.journal.pending ≡ false }
+        // Before its sync a disk is left in the image, and behind it as it reads.
+        ensures one { stop ≤ 2 → IfOk result (λ disks. bytes_now disks.0.history ≡ (if nat_lt 1 stop then bytes_now (first_disk self.journal).history else image_bytes image (first_disk self.journal).history)) }
+        ensures two { stop ≤ 2 → IfOk result (λ disks. bytes_now disks.1.history ≡ image_bytes image (second_disk self.journal).history) }
+        // Behind both the step is kept exactly so.
+        ensures kept { 2 < stop → IfOk result (λ disks. LeftOfStep M.stands_for M.answers M.after (caught M.after (M.state self.machine) self.unsure (has_record self.journal.pending (stored ⟦<MemoryDisk as Disk>⟧.seen self.journal))) call (stop - 2) image
+            (pair_of (⟦<MemoryDisk as Disk>⟧.seen disks.0) (⟦<MemoryDisk as Disk>⟧.seen disks.1))) }
+        ensures calm { IfOk result (λ disks. IsArmed disks.0 0 × IsArmed disks.1 0) }
+        ensures first { IfOk result (λ disks. Only (⟦<MemoryDisk as Disk>⟧.seen disks.0) (⟦<MemoryDisk as Disk>⟧.may_leave disks.0)) }
+        ensures second { IfOk result (λ disks. Only (⟦<MemoryDisk as Disk>⟧.seen disks.1) (⟦<MemoryDisk as Disk>⟧.may_leave disks.1)) }
+        ensures size { IfOk result (λ disks. AreBounded (⟦<MemoryDisk as Disk>⟧.may_leave disks.0) × AreBounded (⟦<MemoryDisk as Disk>⟧.may_leave disks.1)) }
+    {
+        if stop > 2 {
+            let mut keep = self;
+            let Ok(()) = keep.catch_up() else {
+                return Err(Memory);
+            };
+            return keep.crash_in(alloc, call, stop - 2, image);
+        }
+        drop(call);
+        self.crash_in_syncs(stop, image)
+    }
+
+    // Before the syncs, or behind the first one.
+    fn crash_in_syncs(self, stop: u64, image: Image) -> Result<(MemoryDisk, MemoryDisk), Memory>
+        ensures one { IfOk result (λ disks. bytes_now disks.0.history ≡ (if nat_lt 1 stop then bytes_now (first_disk self.journal).history else image_bytes image (first_disk self.journal).history)) }
+        ensures two { IfOk result (λ disks. bytes_now disks.1.history ≡ image_bytes image (second_disk self.journal).history) }
+        ensures first { IfOk result (λ disks. IsCrashed disks.0) }
+        ensures second { IfOk result (λ disks. IsCrashed disks.1) }
+    {
+        let (first, second) = self.into_disks();
+        let first = if stop > 1 {
+            crash_synced(first, image)?
+        } else {
+            crash_now(first, image)?
+        };
+        let second = crash_now(second, image)?;
+        Ok((first, second))
     }
 
     // A step without changes makes no call.
@@ -118,6 +168,18 @@ impl<M: Machine + Drop> Keep<M, MemoryDisk> {
         let second = crash_since(second, before.1, stop, image)?;
         Ok((first, second))
     }
+}
+
+// A sync, and a crash.
+fn crash_synced(disk: MemoryDisk, image: Image) -> Result<MemoryDisk, Memory>
+    ensures bytes { IfOk result (λ left. bytes_now left.history ≡ bytes_now disk.history) }
+    ensures crashed { IfOk result (λ left. IsCrashed left) }
+{
+    let mut disk = disk;
+    let Ok(()) = disk.sync() else {
+        return Err(Memory);
+    };
+    crash_now(disk, image)
 }
 
 // What a crash leaves of a disk that stopped at this of its calls since there were so many.

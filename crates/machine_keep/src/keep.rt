@@ -8,6 +8,7 @@ ghost use Rattle.host_journal.specs.Pair.{pair_of};
 ghost use Rattle.host_journal.specs.State.{append_calls, is_ready, stored, has_record, which, with_record, EachImage, EachSince, IsAt, IsSound, KeepsPlace, SameButRoom, WentOn, first_disk, second_disk};
 ghost use Rattle.machine_keep.specs.Calls.{TellsIn, TellsSomeIn, all_on, image_calls, record_calls, sync_calls};
 ghost use Rattle.machine_keep.specs.Course.{Answered, Breaks, IsFound, IsShortened, Keeps, Unfound, Unkept, Wanting};
+ghost use Rattle.machine_keep.specs.Faulted.{Broken, Unsettled};
 ghost use Rattle.machine_keep.specs.Kept.{HasFew, IsMade, IsStepMade, Snapped, StandsAround, StandsBut, StandsFor, after_step, caught, is_many};
 ghost use Rattle.machine_keep.specs.declared.fault.StepFault.TheVariants.{Disk as disk_fault, Memory as no_memory};
 
@@ -172,6 +173,9 @@ impl<M: Machine, D: Disk> Keep<M, D> {
         ensures wanting { result ≡ Err no_memory → Wanting D.premise D.seen D.told M.state M.stands_for M.record_of M.answers M.follows M.after self.old self.new }
         ensures failed { result ≡ Err disk_fault → Unfound D.told D.disk_faults D.went M.state self.old self.new
             ⊎ Unkept D.premise D.seen D.told D.disk_faults D.went M.state M.stands_for M.record_of M.answers M.follows M.after self.old self.new call }
+        // More of a fault: what was known before it, and where the record of an unsure step stands.
+        ensures broken { result ≡ Err disk_fault → Unsettled D.premise D.seen D.told D.disk_faults D.went M.state self.old self.new
+            ⊎ Broken D.premise D.seen D.may_leave D.told D.disk_faults D.went M.state M.stands_for M.record_of M.answers M.follows M.after self.old self.new call }
         ensures ready { (result ≡ Err disk_fault → ⊥) → IsTrue (is_ready self.new.journal.pending) }
         // Whatever it comes to.
         ensures fixed { M.fixed (M.state self.new.machine) ≡ M.fixed (M.state self.old.machine) }
@@ -190,7 +194,7 @@ impl<M: Machine, D: Disk> Keep<M, D> {
     }
 
     // Finds out what stands, where the last call failed.
-    fn catch_up(&mut self) -> Result<(), DiskFault>
+    pub(crate) fn catch_up(&mut self) -> Result<(), DiskFault>
         ensures ready { OnOk result (IsTrue (is_ready self.new.journal.pending)) }
         ensures state { D.premise → OnOk result (M.state self.new.machine ≡ caught M.after (M.state self.old.machine) self.old.unsure (has_record self.old.journal.pending (stored D.seen self.old.journal))) }
         ensures stored { D.premise → stored D.seen self.new.journal ≡ stored D.seen self.old.journal }
@@ -200,6 +204,8 @@ impl<M: Machine, D: Disk> Keep<M, D> {
         ensures found { OnOk result ((stood : Bool) × IsFound D.premise D.seen self.old.journal stood self.new.journal × (M.state self.new.machine ≡ caught M.after (M.state self.old.machine) self.old.unsure stood)) }
         ensures told { OnOk result (TellsIn D.told self.old.journal self.new.journal (sync_calls (is_ready self.old.journal.pending))) }
         ensures unfound { OnErr result (Unfound D.told D.disk_faults D.went M.state self.old self.new) }
+        ensures pending { OnErr result (self.new.journal.pending ≡ self.old.journal.pending) }
+        ensures read { D.premise → (D.seen (first_disk self.new.journal) ≡ D.seen (first_disk self.old.journal)) × (D.seen (second_disk self.new.journal) ≡ D.seen (second_disk self.old.journal)) }
         ensures first { D.premise → is_ready self.old.journal.pending ≡ false → IsRead D.seen D.may_leave D.moment D.left_since (first_disk self.old.journal) (first_disk self.new.journal) }
         ensures second { D.premise → is_ready self.old.journal.pending ≡ false → IsRead D.seen D.may_leave D.moment D.left_since (second_disk self.old.journal) (second_disk self.new.journal) }
         ensures later { (D.disk_faults (first_disk self.old.journal) ≤ D.disk_faults (first_disk self.new.journal)) × (D.disk_faults (second_disk self.old.journal) ≤ D.disk_faults (second_disk self.new.journal)) }
@@ -239,6 +245,8 @@ impl<M: Machine, D: Disk> Keep<M, D> {
         ensures few { OnOk result (IsSome decided.step → HasFew self.new.journal ⊎ Rose self.old.put_off self.new.put_off) }
         ensures keeps { OnOk result (Keeps D.told M.state M.stands_for M.record_of M.after self.old self.new decided.step) }
         ensures breaks { result ≡ Err disk_fault → Breaks D.told D.disk_faults D.went M.state M.stands_for M.record_of M.after self.old self.new decided.step }
+        // Where the step is unsure, its record stands where a reload is to answer so.
+        ensures which { D.premise → result ≡ Err disk_fault → IfSome self.new.unsure (λ step. stored D.seen self.new.journal ≡ which (M.record_of step) (has_record self.new.journal.pending (stored D.seen self.new.journal)) (stored D.seen self.old.journal)) }
         ensures unmoved { result ≡ Err no_memory → SameButRoom self.old.journal self.new.journal × (M.state self.new.machine ≡ M.state self.old.machine) × (self.new.put_off ≡ self.old.put_off) }
         ensures fixed { M.fixed (M.state self.new.machine) ≡ M.fixed (M.state self.old.machine) }
         ensures later { (D.disk_faults (first_disk self.old.journal) ≤ D.disk_faults (first_disk self.new.journal)) × (D.disk_faults (second_disk self.old.journal) ≤ D.disk_faults (second_disk self.new.journal)) }
@@ -275,6 +283,8 @@ impl<M: Machine, D: Disk> Keep<M, D> {
         ensures few { OnOk result (HasFew self.new.journal ⊎ Rose self.old.put_off self.new.put_off) }
         ensures keeps { OnOk result (Keeps D.told M.state M.stands_for M.record_of M.after self.old self.new (Some step)) }
         ensures breaks { result ≡ Err disk_fault → Breaks D.told D.disk_faults D.went M.state M.stands_for M.record_of M.after self.old self.new (Some step) }
+        // Where the step is unsure, its record stands where a reload is to answer so.
+        ensures which { D.premise → result ≡ Err disk_fault → IfSome self.new.unsure (λ step. stored D.seen self.new.journal ≡ which (M.record_of step) (has_record self.new.journal.pending (stored D.seen self.new.journal)) (stored D.seen self.old.journal)) }
         ensures unmoved { result ≡ Err no_memory → SameButRoom self.old.journal self.new.journal × (M.state self.new.machine ≡ M.state self.old.machine) × (self.new.put_off ≡ self.old.put_off) }
         ensures fixed { M.fixed (M.state self.new.machine) ≡ M.fixed (M.state self.old.machine) }
         ensures later { (D.disk_faults (first_disk self.old.journal) ≤ D.disk_faults (first_disk self.new.journal)) × (D.disk_faults (second_disk self.old.journal) ≤ D.disk_faults (second_disk self.new.journal)) }
@@ -307,6 +317,7 @@ impl<M: Machine, D: Disk> Keep<M, D> {
         ensures told { OnOk result (TellsIn D.told self.old.journal self.new.journal (record_calls self.old.journal (Some (M.record_of step)))) }
         ensures told_first { OnErr result (TellsSomeIn D.told D.disk_faults D.went self.old.journal self.new.journal (record_calls self.old.journal (Some (M.record_of step)))) }
         ensures unsure { OnErr result ((M.state self.new.machine ≡ M.state self.old.machine) × (self.new.unsure ≡ Some step)) }
+        ensures which { D.premise → OnErr result (stored D.seen self.new.journal ≡ which (M.record_of step) (has_record self.new.journal.pending (stored D.seen self.new.journal)) (stored D.seen self.old.journal)) }
         ensures sure { OnOk result (self.new.unsure ≡ None) }
         ensures fixed { M.fixed (M.state self.new.machine) ≡ M.fixed (M.state self.old.machine) }
         ensures put_off { self.new.put_off ≡ self.old.put_off }

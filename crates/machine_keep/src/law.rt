@@ -3,10 +3,12 @@ ghost use Rattle.std.specs.Prelude.{◌≡◌, ◌⊎◌, ℕ, List, Result, Err
 ghost use Rattle.ps_disks.specs.MemoryDisk.{DiskState, told_calls};
 ghost use Rattle.ps_disks.specs.Run.{IsArmed, IsSpared, MeetsFault, made_since};
 ghost use Rattle.ps_disks.specs.declared.disk.DiskCall.{DiskCall};
-ghost use Rattle.host_journal.specs.State.{State, first_disk, second_disk};
+ghost use Rattle.host_journal.specs.State.{State, first_disk, second_disk, stored};
 ghost use Rattle.host_journal.specs.Told.{TellsAll};
 ghost use Rattle.machine_keep.specs.Armed.{IsStep, Lacks};
 ghost use Rattle.machine_keep.specs.Calls.{PairCalls, TellsIn};
+ghost use Rattle.machine_keep.specs.Faulted.{BrokenInMemory, Faulted, seen_on, wanted_calls};
+ghost use Rattle.machine_keep.specs.Kept.{Kept, StandsBut};
 ghost use Rattle.machine_keep.specs.Stopped.{IsStopped, RunsThrough, StopsAt, are_too_far};
 ghost use Rattle.machine_keep.specs.declared.fault.StepFault.{StepFault};
 ghost use Rattle.machine_keep.specs.declared.fault.StepFault.TheVariants.{Disk as disk_fault};
@@ -47,4 +49,15 @@ pub fn law_through<M: Machine>()
 /// A law: where there was memory, the calls that a disk in memory noted are those that it tells.
 pub fn law_made()
     ensures { (old new : DiskState) (calls : List DiskCall) → new.starved ≡ false → TellsAll (told_calls old) (told_calls new) calls → made_since old new ≡ calls }
+{}
+
+/// A law: of a step of a kept machine that met a fault of a disk as it was kept, over disks in memory of each of which one call
+/// is to fail, what the disks stand for then, whether the step was taken in, and whether its record stands, by the number of the
+/// call that failed; unless there was no memory for a call of theirs, or a write of the step would end past 2^64 - 1.
+pub fn law_faulted<M: Machine>()
+    ensures { (old new : Kept M DiskState M.Step) (call : M.Call) (broken : BrokenInMemory M.state M.stands_for M.record_of M.answers M.follows M.after old new call) (first second : ℕ)
+        → IsArmed (first_disk old.journal) first → IsArmed (second_disk old.journal) second → (first_disk new.journal).starved ≡ false → (second_disk new.journal).starved ≡ false
+        → are_too_far (wanted_calls M.state M.stands_for M.record_of M.answers M.follows M.after old new call broken) ≡ false
+        → StandsBut M.stands_for M.record_of (M.state new.machine) new.journal.pending (stored seen_on new.journal) new.unsure
+        → Faulted M.state M.stands_for M.record_of M.answers M.follows M.after first second old new call broken }
 {}

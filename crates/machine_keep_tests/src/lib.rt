@@ -7,6 +7,8 @@ pub mod armed;
 mod crash_tests;
 #[cfg(test)]
 mod disks;
+#[cfg(test)]
+mod fault_tests;
 pub mod gatherer;
 #[cfg(test)]
 mod journals;

@@ -2,12 +2,13 @@ use Rattle.std.proofs.Common.{◌≡◌, ◌∙◌, Err, IfSome, Some, ap, inl, 
 use Rattle.host_journal.specs.Calls.{IsRead}
 use Rattle.host_journal.specs.Moments.{LeftIn}
 use Rattle.host_journal.specs.Pair.{pair_of}
-use Rattle.host_journal.specs.State.{first_disk, is_ready, second_disk, stored}
+use Rattle.host_journal.specs.State.{IsSound, first_disk, is_ready, second_disk, stored}
 use Rattle.machine_keep.specs.Calls.{MakesPair, TellsIn, kept_calls, sync_calls}
 use Rattle.machine_keep.specs.Course.{IsDue, IsFound, Leaves, Shortens}
 use Rattle.machine_keep.specs.Kept.{IsMade, IsStepMade, StandsAround, StandsFor, after_step, caught}
 use Rattle.machine_keep.specs.declared.fault.StepFault.TheVariants.{Disk as disk_fault, Memory as no_memory}
 use Rattle.host_journal.proofs.ToldLemmas.{handed_on}
+use Rattle.machine_keep.proofs.BrokenLemmas.{broken_so}
 use Rattle.machine_keep.proofs.CallLemmas.{some_later, tells_both}
 use Rattle.machine_keep.proofs.CourseLemmas.{synced_and_room}
 use Rattle.machine_keep.proofs.KeepLemmas.{adds_still, around, recovered, since_same}
@@ -171,3 +172,31 @@ returns-clause-answered g c =
           (sync_calls (is_ready old.journal.pending)) (kept_calls c.self.inside.journal (option_map g.M.Machine.record_of step) kept.image)
           (subst (λ k. TellsIn g.D.Disk.told old.journal k.journal (sync_calls (is_ready old.journal.pending))) (sym c.self.view_is) c.in_ok-catch_up.ensures.told) kept.told;
     }
+
+pub returns-in_err-catch_up-clause-broken : goal.returns-in_err-catch_up-clause-broken
+returns-in_err-catch_up-clause-broken g c _ = inl (record { unfound = c.in_err-catch_up.ensures.unfound; same = λ p. c.catch_up.ensures.stored p; pending = c.in_err-catch_up.ensures.pending })
+
+pub returns-in_err-reply-clause-broken : goal.returns-in_err-reply-clause-broken
+returns-in_err-reply-clause-broken g c e =
+    let found = c.in_ok-catch_up.ensures.found in
+    let old = c.args.self.now in
+    let mid = c.self.inside in
+    let met : c.keep_decided.result ≡ Err disk_fault = handed_on c.from_residual-in_err-reply.result c.keep_decided.result c.in_err-reply.field-0.0 disk_fault c.from_residual-in_err-reply.ensures.1 c.in_err-reply.was e in
+    let broke = c.keep_decided.ensures.breaks met in
+    let step = c.in_ok-decided.decided.step in
+    let at = ap (λ k. g.M.Machine.state k.machine) c.self.view_is ∙ found.2 in
+    inr (broken_so g.D.Disk.premise g.D.Disk.seen g.D.Disk.may_leave g.D.Disk.told g.D.Disk.disk_faults g.D.Disk.went g.met.D.Disk.went_refl g.met.D.Disk.went_trans g.M.Machine.state g.M.Machine.stands_for g.M.Machine.record_of g.M.Machine.answers g.M.Machine.follows g.M.Machine.after
+    old c.keep_decided.new.self mid.journal c.args.call c.in_ok-decided.decided.reply step found.0 c.decide.new.self
+    (subst (λ k. IsFound g.D.Disk.premise g.D.Disk.seen old.journal found.0 k.journal) (sym c.self.view_is) found.1)
+    (c.decide.ensures.same ∙ at)
+    (subst (λ s. g.M.Machine.answers s c.args.call c.in_ok-decided.decided.reply step) at c.in_ok-decided.ensures.answer)
+    (subst (λ s. IfSome step (λ t. g.M.Machine.follows s t)) at c.in_ok-decided.ensures.follows)
+    c.in_ok-decided.ensures.short
+    (subst (λ k. MakesPair g.D.Disk.told g.D.Disk.disk_faults g.D.Disk.went (first_disk old.journal) (second_disk old.journal) (first_disk k.journal) (second_disk k.journal) (sync_calls (is_ready old.journal.pending))) (sym c.self.view_is)
+    (record { told = c.in_ok-catch_up.ensures.told; calm = c.in_ok-catch_up.ensures.calm; went = c.catch_up.ensures.went }))
+    broke.image broke.due broke.left broke.told broke.behind
+    (λ p. subst (λ k. IsSound g.D.Disk.seen g.D.Disk.may_leave k.journal) (sym c.self.view_is) (c.known-2.ensures.sound p))
+    (λ p. subst (λ k. (g.D.Disk.seen (first_disk k.journal) ≡ g.D.Disk.seen (first_disk old.journal)) × (g.D.Disk.seen (second_disk k.journal) ≡ g.D.Disk.seen (second_disk old.journal))) (sym c.self.view_is) (c.catch_up.ensures.read p))
+    (λ p. subst (λ s. StandsFor g.M.Machine.stands_for s (stored g.D.Disk.seen mid.journal)) (sym c.decide.ensures.same)
+    (subst (λ k. StandsFor g.M.Machine.stands_for (g.M.Machine.state k.machine) (stored g.D.Disk.seen k.journal)) (sym c.self.view_is) (c.known-2.ensures.stands p c.in_ok-catch_up.ensures.ready)))
+    (λ p. c.keep_decided.ensures.which p met))

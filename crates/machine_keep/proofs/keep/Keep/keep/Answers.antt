@@ -1,7 +1,7 @@
-use Rattle.std.proofs.Common.{◌∙◌, ◌∷◌, Some, [], ap, subst, sym}
-use Rattle.host_journal.specs.State.{SameButRoom}
+use Rattle.std.proofs.Common.{◌≡◌, ◌∙◌, ◌∷◌, IfSome, None, Some, [], ap, subst, sym}
+use Rattle.host_journal.specs.State.{SameButRoom, has_record, stored, which}
 use Rattle.machine_keep.specs.Course.{Shortens}
-use Rattle.machine_keep.proofs.CourseLemmas.{kept_late, kept_moves, kept_short, kept_told, many_same}
+use Rattle.machine_keep.proofs.CourseLemmas.{kept_early, kept_late, kept_moves, kept_short, kept_told, late_behind, many_same}
 use Rattle.machine_keep.proofs.KeepLemmas.{made_record, made_snapshot, since_record, since_snapshot, with_step}
 use Rattle.machine_keep.proofs.keep.Keep.keep.Goals as goal
 
@@ -80,6 +80,8 @@ returns-in_err-shorten-clause-breaks g c _ =
       left = (ap (λ m. g.M.Machine.state m) c.shorten.ensures.machine ∙ became, c.shorten.ensures.unsure ∙ c.in_ok-put.ensures.sure);
       told = kept_late g.D.Disk.told g.D.Disk.disk_faults g.D.Disk.went g.met.D.Disk.went_refl g.met.D.Disk.went_trans old mid same payload turned c.shorten.new.self.journal c.put.ensures.kept
           (record { told = c.in_ok-put.ensures.told; calm = c.in_ok-put.ensures.calm; went = c.put.ensures.went }) met.0 met.3;
+      behind = late_behind g.D.Disk.told g.D.Disk.disk_faults g.D.Disk.went g.met.D.Disk.went_refl g.met.D.Disk.went_trans old mid same payload turned c.shorten.new.self.journal c.put.ensures.kept
+          (record { told = c.in_ok-put.ensures.told; calm = c.in_ok-put.ensures.calm; went = c.put.ensures.went }) met.0 met.3;
     }
 
 pub returns-clause-keeps : goal.returns-clause-keeps
@@ -103,3 +105,31 @@ returns-clause-keeps g c =
       moved = kept_moves old mid turned same payload c.put.ensures.kept c.in_ok-put.ensures.end g.M.Machine.stands_for before off new.put_off new.journal made.0 made.1;
       told = kept_told g.D.Disk.told old mid same payload turned new.journal c.put.ensures.kept c.in_ok-put.ensures.told made.0 made.2;
     }
+
+pub returns-in_err-put-clause-breaks : goal.returns-in_err-put-clause-breaks
+returns-in_err-put-clause-breaks g c _ =
+    let old = c.args.self.now.journal in
+    let mid = c.reserve.new.self in
+    let same = subst (λ k. SameButRoom k.journal mid) c.self.view_is c.reserve.ensures.same in
+    record {
+      image = None;
+      due = tt;
+      left = (c.in_err-put.ensures.unsure.0 ∙ ap (λ k. g.M.Machine.state k.machine) c.self.view_is, c.in_err-put.ensures.unsure.1);
+      told = kept_early g.D.Disk.told g.D.Disk.disk_faults g.D.Disk.went g.met.D.Disk.went_refl g.met.D.Disk.went_trans old mid same (g.M.Machine.record_of c.args.step) c.put.new.self.journal c.in_err-put.ensures.told_first;
+      behind = tt;
+    }
+
+pub returns-in_err-put-clause-which : goal.returns-in_err-put-clause-which
+returns-in_err-put-clause-which g c p _ =
+    let unsure = c.in_err-put.ensures.unsure.1 in
+    let new = c.put.new.self in
+    let mid = c.reserve.new.self in
+    let same = subst (λ k. SameButRoom k.journal mid) c.self.view_is c.reserve.ensures.same in
+    subst (λ u. IfSome u (λ step. stored g.D.Disk.seen new.journal ≡ which (g.M.Machine.record_of step) (has_record new.journal.pending (stored g.D.Disk.seen new.journal)) (stored g.D.Disk.seen c.args.self.now.journal))) (sym unsure)
+    (c.in_err-put.ensures.which p ∙ ap (λ j. which (g.M.Machine.record_of c.args.step) (has_record new.journal.pending (stored g.D.Disk.seen new.journal)) (stored g.D.Disk.seen j)) same)
+
+pub returns-in_err-shorten-clause-which : goal.returns-in_err-shorten-clause-which
+returns-in_err-shorten-clause-which g c p _ =
+    let new = c.shorten.new.self in
+    subst (λ u. IfSome u (λ step. stored g.D.Disk.seen new.journal ≡ which (g.M.Machine.record_of step) (has_record new.journal.pending (stored g.D.Disk.seen new.journal)) (stored g.D.Disk.seen c.args.self.now.journal)))
+    (sym (c.shorten.ensures.unsure ∙ c.in_ok-put.ensures.sure)) tt
