@@ -1,3 +1,7 @@
+mod InputLemmas
 mod OrderLemmas
+mod OrderWalk
+mod OrderlyChanges
+mod OrderlySteps
 mod ReplyLemmas
 mod SendLemmas

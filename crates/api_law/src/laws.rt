@@ -1,19 +1,22 @@
 //! The laws of lawful books and the interface.
-ghost use Rattle.std.specs.Prelude.{◌≡◌, All, List, Some, ℕ};
+ghost use Rattle.std.specs.Prelude.{◌≡◌, ◌≤◌, All, List, Ok, Some, length, ℕ};
 ghost use Rattle.ps_http.specs.Sendable.{IsSendable};
 ghost use Rattle.ps_http.specs.declared.message.HttpLimits.{HttpLimits};
 ghost use Rattle.ps_http.specs.declared.message.Request.{Request};
-ghost use Rattle.host_model.specs.Book.{Book};
-ghost use Rattle.host_model.specs.Conditions.{MayStep};
+ghost use Rattle.host_model.specs.Book.{Book, empty_book};
+ghost use Rattle.host_model.specs.Conditions.{IsConfig, MayStep};
 ghost use Rattle.host_model.specs.Lawful.{Lawful};
 ghost use Rattle.host_model.specs.Orders.{orders};
-ghost use Rattle.host_model.specs.Step.{step_reply};
+ghost use Rattle.host_model.specs.Step.{step_book, step_reply};
 ghost use Rattle.host_model.specs.declared.config.Config.{Config};
 ghost use Rattle.host_model.specs.declared.input.Input.{Input};
 ghost use Rattle.host_model.specs.declared.order.Order.{Order};
+ghost use Rattle.api_input.specs.Understood.{most_address_bytes, understood};
 ghost use Rattle.api_reply.specs.Bounds.{IsReplyShown};
+ghost use Rattle.api_order.specs.Meant.{KeepsBounds};
 ghost use Rattle.api_order.specs.Ordered.{IsOrder, order_request_of};
 ghost use Rattle.api_law.specs.Listed.{IsListed};
+ghost use Rattle.api_law.specs.Orderly.{IsOrderly, IsSized};
 ghost use Rattle.api_law.specs.Sent.{HasKeys, HasRoom};
 
 /// A law: what each step that may be made replies can be shown, as `respond` asks.
@@ -26,6 +29,22 @@ pub fn law_reply()
 pub fn law_orders()
     ensures sent { (self : ℕ) (b : Book) (clock : ℕ) → Lawful self b → All (λ order. IsOrder order.body) (orders b clock) }
     ensures bounds { (self : ℕ) (b : Book) (clock : ℕ) → Lawful self b → All (λ order. IsListed order.body) (orders b clock) }
+{}
+
+/// A law: the empty book is orderly, and each step of a host leaves an orderly book so, where a task is posted from an
+/// address of at most 255 bytes. Each input that a request from such an address asks for is one that keeps a book so.
+pub fn law_orderly()
+    ensures empty { (name : List ℕ) → IsOrderly name empty_book }
+    ensures step { (c : Config) (b : Book) (clock : ℕ) (i : Input) → IsSized i → IsOrderly c.name b → IsOrderly c.name (step_book c b clock i) }
+    ensures input { (c : Config) (r : Request) (address : List ℕ) (m : ℕ) (i : Input) → length address ≤ most_address_bytes
+        → understood c r address m ≡ Ok i → IsSized i }
+{}
+
+/// A law: each order that a lawful and orderly book lists, whatever its clock, keeps the bounds within which its request
+/// is understood, as `order_request` says.
+pub fn law_bounds()
+    ensures { (c : Config) (b : Book) (clock : ℕ) → IsConfig c → Lawful c.number b → IsOrderly c.name b
+        → All (λ order. KeepsBounds c.name order.body) (orders b clock) }
 {}
 
 /// A law: the request of each order can be sent to the authority of its peer, so that its bytes are read again as it.
