@@ -7,6 +7,7 @@ ghost use Rattle.ps_time.specs.declared.moment.TheConstants.{MAX_MOMENT};
 ghost use Rattle.run_states.specs.Life.{HasMoments, settled_row};
 ghost use Rattle.run_states.specs.Preemption.{starts_after, yields};
 ghost use Rattle.run_states.specs.Rows.{find_row};
+ghost use Rattle.run_states.specs.TaskRows.{rows_of_task};
 ghost use Rattle.host_model.specs.Apply.{put_new};
 ghost use Rattle.host_timeline.specs.Booking.{conflicting_after, is_after, keys_of, lesser_of};
 ghost use Rattle.row_ledger.specs.Deadlines.{due_keys};
@@ -287,6 +288,23 @@ pub(crate) fn last_bare<'a>(
         }
     }
     None
+}
+
+/// The newest row of the task of those of the book that are as they were: the newest of all, unless it is hidden.
+pub(crate) fn newest_bare<'a>(
+    book: &'a Rows,
+    touched: &Rows,
+    gone: &[RunKey],
+    lead: u16,
+    serial: u32,
+) -> Option<&'a RunRow>
+    ensures { option_copied result ≡ last_or None (filter (λ r. not (hides touched.now.list gone.now r.key)) (rows_of_task lead serial book.entry.now.list)) }
+{
+    let row = book.newest_of_task(lead, serial)?;
+    if is_hidden(touched, gone, row.key) {
+        return last_bare(book.task_rows(lead, serial), touched, gone);
+    }
+    Some(row)
 }
 
 /// The row of two, if they are there, whose key is the greater.

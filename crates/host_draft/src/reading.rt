@@ -4,7 +4,7 @@ ghost use Rattle.host_draft.specs.Overlay.{meets};
 
 use crate::draft::Draft;
 use crate::gather::{bookings_over, reach, timeline_of};
-use crate::overlay::{Sought, find_over, first_below, first_sought, last_bare, later, lesser_of};
+use crate::overlay::{Sought, find_over, first_below, first_sought, later, lesser_of, newest_bare};
 use lead_core::leading::Leading;
 use limit_apply::limits::Limits;
 use part_core::reading::Reading;
@@ -131,7 +131,13 @@ impl<'a> Leading for Draft<'a> {
     fn newest(&self, lead: u16, serial: u32) -> Option<&RunRow> {
         let _ = self.touched.in_order();
         let over = self.touched.newest_of_task(lead, serial);
-        let rows = self.book.rows().task_rows(lead, serial);
-        later(over, last_bare(rows, &self.touched, self.gone.as_slice()))
+        let below = newest_bare(
+            self.book.rows(),
+            &self.touched,
+            self.gone.as_slice(),
+            lead,
+            serial,
+        );
+        later(over, below)
     }
 }

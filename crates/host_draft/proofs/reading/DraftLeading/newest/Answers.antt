@@ -12,8 +12,8 @@ pub returns : goal.returns
 returns c =
     let d = c.self.inside in
     let began = d.book.now.book in
-    let below = c.last_bare.ensures
-    ∙ (ap₂ (λ g l. last_or None (filter (λ (r : RunRow). not (hides d.touched.list g r.key)) l)) c.as_slice.ensures.value (c.task_rows-rows.ensures ∙ ap (rows_of_task c.args.lead c.args.serial) c.rows.ensures.list)) in
+    let below = c.newest_bare-below.ensures
+    ∙ (ap₂ (λ g l. last_or None (filter (λ (r : RunRow). not (hides d.touched.list g r.key)) l)) c.as_slice.ensures.value (ap (rows_of_task c.args.lead c.args.serial) c.rows.ensures.list)) in
     c.later.ensures
     ∙ (ap₂ later c.newest_of_task-over.ensures below
     ∙ (read_newest d.book.now.number d.moment began (book_now d.moment d.log.changes began) d.touched.list d.gone.items d.epoch d.count d.bytes d.log.left c.self.invariant c.in_order.ensures.ascending c.rows.ensures.lawful c.args.lead c.args.serial
