@@ -1,22 +1,28 @@
--- An append that a crash stops: what an image keeps of the write of a gate, and what the disks stand for then.
-use Rattle.std.proofs.Common.{◌≡◌, ℕ, ◌+◌, ◌<◌, ◌^◌, Bool, true, false, if◌then◌else◌, List, [], ◌∷◌, ◌++◌, length, Result, Ok, Err, refl, sym, ◌∙◌, ap, subst, arith}
-use Rattle.std.specs.Prelude.{◌&&◌, nat_lt, OnOk}
+-- An append or a snapshot that a crash stops: what an image keeps of the write of a gate, and what the disks stand for then.
+use Rattle.std.proofs.Common.{◌≡◌, ◌⊎◌, inl, inr, ℕ, ◌+◌, ◌<◌, ◌≤◌, ◌^◌, Bool, true, false, not, if◌then◌else◌, List, [], ◌∷◌, ◌++◌, length, take, Result, Ok, Err, refl, sym, ◌∙◌, ap, subst, arith}
+use Rattle.std.specs.Prelude.{◌&&◌, ◌||◌, nat_lt, OnOk}
 use Rattle.std.specs.Int.{w32, to_be_bytes}
+use Rattle.std.proofs.lemmas.Bool.{cases_lt}
 use Rattle.std.proofs.lemmas.Bool.Decides.{nat_tests}
 use Rattle.ps_disks.specs.Disk.{Torn, written}
 use Rattle.ps_disks.specs.History.{History, Standing, after_call, after_calls, bytes_now, half_replayed, image_bytes, replayed, standing, with_call}
 use Rattle.ps_disks.specs.MemoryDisk.{DiskState, Makes, after_made}
-use Rattle.ps_disks.specs.Images.{bytes_stand}
+use Rattle.ps_disks.specs.Images.{bytes_stand, written_is_torn}
 use Rattle.ps_disks.specs.declared.disk.DiskCall.TheVariants.{Sync, Write}
 use Rattle.ps_disks.specs.declared.history.LoggedCall.{LoggedCall}
 use Rattle.ps_disks.specs.declared.image.Image.{Image}
 use Rattle.ps_disks.specs.declared.image.Image.TheVariants.{New, Old, Torn as torn_image}
-use Rattle.host_journal.specs.Calls.{PartAfter}
-use Rattle.host_journal.specs.Crash.{is_new, opens_gate}
-use Rattle.host_journal.specs.Pair.{pair_of}
-use Rattle.host_journal.specs.State.{IsSound, State, is_ready, pair_in, stored, which}
+use Rattle.host_journal.specs.Calls.{KeepsHead, PartAfter}
+use Rattle.host_journal.specs.Crash.{is_new, opens_gate, opens_head}
+use Rattle.host_journal.specs.Pair.{gates_at, pair_of}
+use Rattle.host_journal.specs.State.{IsAside, IsSound, IsWhole, State, closing, image_bytes as bytes_of_image, is_ready, pair_in, snapshot_of, stored, which}
 use Rattle.host_journal.proofs.AppendLemmas.{opened, staged_written, whole_torn}
-use Rattle.host_journal.proofs.StateLemmas.{Ready, more_pair, ready, same_pair, stored_in}
+use Rattle.host_journal.proofs.HeadLemmas.{aside_below}
+use Rattle.host_journal.proofs.PairLemmas.{counts_as, pair_whole}
+use Rattle.host_journal.proofs.RestLemmas.{keeps_then, keeps_torn}
+use Rattle.host_journal.proofs.SnapshotLemmas.{close_torn, close_written, image_opened, image_written, kept_closed, older_now}
+use Rattle.host_journal.proofs.StateLemmas.{Ready, more_pair, ready, same_pair, stored_in, stored_is}
+use Rattle.host_journal.proofs.TurnLemmas.{turned_in}
 
 -- one call more
 stands-push : (s : Standing) (log : List LoggedCall) (l : LoggedCall) → after_calls s (log ++ l ∷ []) ≡ after_call (after_calls s log) l
@@ -92,3 +98,82 @@ module _ {D : Type 0} (seen : D → List ℕ) (may_leave : D → List ℕ → Ty
   stopped first second one two opens shut whole =
       ap (λ (d : D). pair_of (seen d) (seen second)) one ∙ ap (λ (d : D). pair_of (seen (if s.second then other else counting)) (seen d)) two
       ∙ stored_in seen s.second counting other ∙ in_place opens shut whole ∙ ap (λ (o : State D). which payload opens (stored seen o)) view
+
+-- ---- a snapshot
+-- from the sixth call on only the image decides, up to the seventh
+first_false : (a b : Bool) → a || b ≡ false → a ≡ false
+first_false false b none = refl
+first_false true b none = absurd (cc none)
+
+pub head_shut : (stop : ℕ) (image : Image) → 5 < stop → opens_head stop image ≡ false → is_new image ≡ false
+head_shut stop image late shut =
+    let yes : nat_lt 5 stop ≡ true = grind (arith, nat_tests) in
+    sym (ap (λ (b : Bool). b && is_new image) yes) ∙ first_false (nat_lt 5 stop && is_new image) (nat_lt 7 stop) shut
+
+-- behind a piece that was written behind a head the head is the same
+pub head_written : (closed cut piece left : List ℕ) → KeepsHead closed cut → left ≡ written 9 piece cut → KeepsHead closed left
+head_written closed cut piece left keeps is = keeps_then closed cut left keeps (keeps_torn (length piece) cut left (subst (Torn 9 (length piece) cut) (sym is) (written_is_torn 9 piece cut)))
+
+-- What the disks stand for, where the other one was closed or not, or has an image and its open head gate.
+module _ (second shut : Bool) (generation start end : ℕ) (list : List (List ℕ)) (image c d left : List ℕ) (fits : generation + 1 < 2 ^ 64) (small : length image < 2 ^ 32)
+    (whole : IsWhole generation start end list c) (aside : IsAside second generation shut d) where
+  abbrev closed : List ℕ
+  closed = written 8 (closing shut) d
+
+  beside_torn : Torn 8 (length (closing shut)) d left → pair_in second c left ≡ counts_as second generation start end list
+  beside_torn torn = pair_whole second generation start end list c left whole (aside_below second generation shut left (close_torn second generation shut d left aside torn))
+
+  beside_closed : KeepsHead closed left → pair_in second c left ≡ counts_as second generation start end list
+  beside_closed keeps = pair_whole second generation start end list c left whole (inl (kept_closed closed left (close_written second generation shut d closed aside refl) keeps))
+
+  now_counts : left ≡ written 8 (1 ∷ []) (written 9 (bytes_of_image (generation + 1) image) (take 9 closed)) → pair_in second c left ≡ counts_as (not second) (generation + 1) (gates_at image) (gates_at image) (image ∷ [])
+  now_counts is =
+      let filled = written 9 (bytes_of_image (generation + 1) image) (take 9 closed) in
+      let holds = image_written (generation + 1) image fits small closed filled (close_written second generation shut d closed aside refl) refl in
+      turned_in second c left
+      ∙ pair_whole (not second) (generation + 1) (gates_at image) (gates_at image) (image ∷ []) left c (image_opened (generation + 1) (gates_at image) image filled left holds is)
+      (aside_below (not second) (generation + 1) false c (older_now second generation start end list c whole))
+
+module _ {D : Type 0} (seen : D → List ℕ) (may_leave : D → List ℕ → Type 0) (moment : D → ℕ) (left_since : D → ℕ → List ℕ → Type 0)
+    (reads_now : (disk : D) → may_leave disk (seen disk)) (only_now : (disk : D) (c : List ℕ) → left_since disk (moment disk) c → may_leave disk c)
+    (s old : State D) (view : s ≡ old) (ready_now : is_ready old.pending ≡ true) (sound : IsSound seen may_leave s)
+    (image piece : List ℕ) (is : piece ≡ bytes_of_image (s.generation + 1) image) (fits : s.generation + 1 < 2 ^ 64) (small : length image < 2 ^ 32)
+    (counting_was other_was counting other : D) (same : counting_was ≡ old.counting) (same_other : other_was ≡ old.other) (kept : may_leave counting_was (seen counting)) where
+  at_rest : Ready seen may_leave s
+  at_rest = ready seen may_leave moment left_since reads_now only_now s (ap (λ (o : State D). is_ready o.pending) view ∙ ready_now) sound
+
+  is_stored : counts_as s.second s.generation s.start s.end at_rest.list ≡ stored seen old
+  is_stored = sym (stored_is seen may_leave moment left_since reads_now only_now s at_rest) ∙ ap (stored seen) view
+
+  is_whole : IsWhole s.generation s.start s.end at_rest.list (seen counting)
+  is_whole = at_rest.counting (seen counting) (subst (λ (d : D). may_leave d (seen counting)) (same ∙ sym (ap (λ (o : State D). o.counting) view)) kept)
+
+  is_other : other_was ≡ s.other
+  is_other = same_other ∙ sym (ap (λ (o : State D). o.other) view)
+
+  is_aside : (d : List ℕ) → may_leave other_was d → IsAside s.second s.generation s.shut d
+  is_aside d now = at_rest.other d (subst (λ (x : D). may_leave x d) is_other now)
+
+  in_turn : (stop : ℕ) (opens : Bool) → (2 < stop) ⊎ (stop ≤ 2)
+      → (stop ≤ 2 → PartAfter (Torn 8 (length (closing s.shut))) (may_leave other_was) (seen other))
+      → (2 < stop → opens ≡ false → KeepsHead (written 8 (closing s.shut) (seen other_was)) (seen other))
+      → (opens ≡ true → seen other ≡ written 8 (1 ∷ []) (written 9 piece (take 9 (written 8 (closing s.shut) (seen other_was)))))
+      → pair_in s.second (seen counting) (seen other) ≡ (if opens then snapshot_of image old else stored seen old)
+  in_turn stop false (inr early) before shut_so opened_so =
+      let part = before early in
+      beside_torn s.second s.shut s.generation s.start s.end at_rest.list image (seen counting) part.0 (seen other) fits small is_whole (is_aside part.0 part.1) part.2 ∙ is_stored
+  in_turn stop false (inl late) before shut_so opened_so =
+      beside_closed s.second s.shut s.generation s.start s.end at_rest.list image (seen counting) (seen other_was) (seen other) fits small is_whole (is_aside (seen other_was) (reads_now other_was)) (shut_so late refl) ∙ is_stored
+  in_turn stop true when before shut_so opened_so =
+      now_counts s.second s.shut s.generation s.start s.end at_rest.list image (seen counting) (seen other_was) (seen other) fits small is_whole (is_aside (seen other_was) (reads_now other_was))
+      (opened_so refl ∙ ap (λ (p : List ℕ). written 8 (1 ∷ []) (written 9 p (take 9 (written 8 (closing s.shut) (seen other_was))))) is)
+      ∙ ap (snapshot_of image) view
+
+  pub turned : (first second : D) → first ≡ (if s.second then other else counting) → second ≡ (if s.second then counting else other) → (stop : ℕ) (opens : Bool)
+      → (stop ≤ 2 → PartAfter (Torn 8 (length (closing s.shut))) (may_leave other_was) (seen other))
+      → (2 < stop → opens ≡ false → KeepsHead (written 8 (closing s.shut) (seen other_was)) (seen other))
+      → (opens ≡ true → seen other ≡ written 8 (1 ∷ []) (written 9 piece (take 9 (written 8 (closing s.shut) (seen other_was)))))
+      → pair_of (seen first) (seen second) ≡ (if opens then snapshot_of image old else stored seen old)
+  turned first second one two stop opens before shut_so opened_so =
+      ap (λ (d : D). pair_of (seen d) (seen second)) one ∙ ap (λ (d : D). pair_of (seen (if s.second then other else counting)) (seen d)) two
+      ∙ stored_in seen s.second counting other ∙ in_turn stop opens (cases_lt 2 stop) before shut_so opened_so

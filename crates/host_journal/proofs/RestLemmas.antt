@@ -9,17 +9,17 @@ use Rattle.host_journal.proofs.CallLemmas.{after_part}
 keeps_none : (c : List ℕ) → KeepsHead c c
 keeps_none c long = (refl, long)
 
-keeps_then : (a b c : List ℕ) → KeepsHead a b → KeepsHead b c → KeepsHead a c
+pub keeps_then : (a b c : List ℕ) → KeepsHead a b → KeepsHead b c → KeepsHead a c
 keeps_then a b c one two long =
     let first = one long in
     let then = two first.1 in (then.0 ∙ first.0, then.1)
 
-keeps_cut : (a b : List ℕ) → Shortened 9 a b → KeepsHead a b
+pub keeps_cut : (a b : List ℕ) → Shortened 9 a b → KeepsHead a b
 keeps_cut a b cut long =
     let nine : 9 ≤ length b = omega (arith, cut.no_shorter, long) in
     (ap (take 9) (sym cut.front) ∙ take-take 9 (length b) a nine, nine)
 
-keeps_torn : (n : ℕ) (a b : List ℕ) → Torn 9 n a b → KeepsHead a b
+pub keeps_torn : (n : ℕ) (a b : List ℕ) → Torn 9 n a b → KeepsHead a b
 keeps_torn n a b torn long = (torn_front 9 9 n a b torn (omega arith) (omega (arith, long)), omega (arith, torn.no_shorter, long))
 
 module _ {D : Type 0} (seen : D → List ℕ) (may_leave : D → List ℕ → Type 0) (moment : D → ℕ) (left_since : D → ℕ → List ℕ → Type 0)

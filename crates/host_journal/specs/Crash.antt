@@ -1,5 +1,5 @@
--- An append that a crash stops, over disks in memory.
-use Rattle.std.specs.Prelude.{ℕ, Bool, true, false, ◌&&◌, nat_lt}
+-- An append or a snapshot that a crash stops, over disks in memory.
+use Rattle.std.specs.Prelude.{ℕ, Bool, true, false, ◌&&◌, ◌||◌, nat_lt}
 use Rattle.ps_disks.specs.Disk.{AreBounded, Only}
 use Rattle.ps_disks.specs.History.{IsImage, bytes_now}
 use Rattle.ps_disks.specs.MemoryDisk.{DiskState}
@@ -22,3 +22,7 @@ is_new Torn = false
 -- An append that stops at this of its calls leaves its gate open in this image: the third writes the gate, and the fourth makes sure of it.
 abbrev pub opens_gate : ℕ → Image → Bool
 opens_gate stop image = nat_lt 2 stop && is_new image
+
+-- A snapshot that stops at this of its calls leaves its head gate open in this image: the sixth opens that, and the seventh makes sure of it.
+abbrev pub opens_head : ℕ → Image → Bool
+opens_head stop image = (nat_lt 5 stop && is_new image) || nat_lt 7 stop

@@ -1,5 +1,5 @@
 //! A journal on two disks.
-ghost use Rattle.std.specs.Prelude.{◌≡◌, ◌⊎◌, ◌+◌, ◌-◌, ◌≤◌, ◌<◌, ◌^◌, ℕ, not, if◌then◌else◌, IsTrue, Ok, Err, length, take, IfOk, IfErr, OnOk, OnErr, IsErrOf, ◌∷◌, [], vec_capacity};
+ghost use Rattle.std.specs.Prelude.{◌||◌, ◌≡◌, ◌⊎◌, ◌+◌, ◌-◌, ◌≤◌, ◌<◌, ◌^◌, ℕ, not, if◌then◌else◌, IsTrue, Ok, Err, length, take, IfOk, IfErr, OnOk, OnErr, IsErrOf, ◌∷◌, [], vec_capacity};
 ghost use Rattle.ps_ports.specs.Causes.{Rose};
 ghost use Rattle.ps_disks.specs.Disk.{Only};
 ghost use Rattle.ps_disks.specs.MemoryDisk.{armed, armed_number};
@@ -374,6 +374,19 @@ impl Journal<MemoryDisk> {
     {
         self.counting.fail_at(call);
         self.other.fail_at(call);
+    }
+
+    /// Whether a call of one of the disks ever found no memory.
+    pub fn is_starved(&self) -> bool
+        ensures { result ≡ (first_disk self.now).starved || (second_disk self.now).starved }
+    {
+        let counting = self.counting.starved();
+        let other = self.other.starved();
+        if self.second {
+            other || counting
+        } else {
+            counting || other
+        }
     }
 
     /// How many writes, cuts and syncs were made on each disk, the first one first.

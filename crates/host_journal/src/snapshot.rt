@@ -84,7 +84,7 @@ impl<D: Disk> Journal<D> {
 }
 
 // Closes a head gate, if it isn't known to be closed.
-fn close_head<D: Disk>(disk: &mut D, shut: bool) -> Result<(), DiskFault>
+pub(crate) fn close_head<D: Disk>(disk: &mut D, shut: bool) -> Result<(), DiskFault>
     ensures written { D.premise → OnOk result (D.seen disk.new ≡ written 8 (closing shut) (D.seen disk.old)) }
     ensures fixed { D.premise → OnOk result (Only (D.seen disk.new) (D.may_leave disk.new)) }
     ensures images { D.premise → Follows (Torn 8 (length (closing shut))) (D.may_leave disk.old) (D.may_leave disk.new) }
