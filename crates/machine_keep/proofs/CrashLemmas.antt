@@ -1,21 +1,22 @@
 -- What the disks stand for where a crash stops a step.
-use Rattle.std.proofs.Common.{◌≡◌, ⊎_elim, ℕ, ◌<◌, ◌≤◌, Bool, false, true, if◌then◌else◌, List, [], ◌∷◌, ◌++◌, Result, length, refl, sym, ◌∙◌, ap, subst, arith}
+use Rattle.std.proofs.Common.{◌≡◌, ℕ, ◌+◌, ◌-◌, ◌<◌, ◌≤◌, Bool, false, true, not, if◌then◌else◌, List, [], ◌∷◌, ◌++◌, Option, None, Some, Result, Ok, length, refl, sym, ◌∙◌, ap, subst, arith}
 use Rattle.std.specs.Prelude.{◌||◌, nat_lt}
 use Rattle.std.proofs.lemmas.Bool.Decides.{nat_tests}
-use Rattle.ps_disks.specs.History.{IsImage, LeftSince, bytes_now}
-use Rattle.ps_disks.specs.Images.{bytes_are_image, only_image}
+use Rattle.ps_disks.specs.History.{History, bytes_now, image_bytes}
+use Rattle.ps_disks.specs.Images.{bytes_stand}
 use Rattle.ps_disks.specs.MemoryDisk.{DiskState}
 use Rattle.ps_disks.specs.declared.image.Image.{Image}
-use Rattle.host_journal.specs.Crash.{opens_gate}
-use Rattle.host_journal.specs.Moments.{Adds}
-use Rattle.host_journal.specs.Pair.{pair_of}
-use Rattle.host_journal.specs.State.{EachImage, IsAt, State, first_disk, second_disk, stored, which}
+use Rattle.ps_disks.specs.declared.image.Image.TheVariants.{New, Old, Torn}
+use Rattle.host_journal.specs.Crash.{is_new, opens_gate, opens_head}
+use Rattle.host_journal.specs.Pair.{gates_at}
+use Rattle.host_journal.specs.State.{KeepsPlace, SameButRoom, State, snapshot_of, stored, which, with_record}
 use Rattle.host_journal.specs.declared.reading.Counted.{Counted}
 use Rattle.host_journal.specs.declared.reading.DiskPlace.{DiskPlace}
-use Rattle.host_journal.proofs.MomentLemmas.{ours_at, run_since}
-use Rattle.machine_keep.specs.Crash.{keeps_step}
-use Rattle.machine_keep.specs.Kept.{IsMade, Snapped, StandsFor}
-use Rattle.machine_keep.proofs.KeepLemmas.{made_alone, with_step}
+use Rattle.machine_keep.specs.Course.{is_many_with}
+use Rattle.machine_keep.specs.Crash.{IsSnapshotBehind, IsSnapshotFor, LeftExactly, keeps_step, left_of_snapshot, left_of_step}
+use Rattle.machine_keep.specs.Faulted.{seen_on}
+use Rattle.machine_keep.specs.Kept.{StandsFor, is_many}
+use Rattle.machine_keep.proofs.KeepLemmas.{with_step}
 
 -- a step that stops at its fifth call or later is kept, and one that stops earlier where its gate is open
 late_or : (a b : Bool) → b ≡ true → a || b ≡ true
@@ -52,27 +53,88 @@ module _ {S T : Type 0} (stands : List (List ℕ) → S → Type 0) (bytes : T �
   with_which s step payload pair before true false is same found can stood = absurd (cc same)
   with_which s step payload pair before false true is same found can stood = absurd (cc same)
 
--- at every moment of a snapshot they stand for the state
-abbrev seen_on : DiskState → List ℕ
-seen_on d = bytes_now d.history
+-- ---- exactly which list
+-- a snapshot that may be made counts, or the disks stand for what they stood for
+module _ {S : Type 0} (stands : List (List ℕ) → S → Type 0) (s : S) (image : List ℕ) (pair : Result Counted DiskPlace) (old mid : State DiskState) where
+  pub stands_turned : (opens : Bool) → SameButRoom old mid → stands (image ∷ []) s → StandsFor stands s (stored seen_on old)
+      → pair ≡ (if opens then snapshot_of image mid else stored seen_on mid) → StandsFor stands s pair
+  stands_turned true same alone stood is = subst (StandsFor stands s) (sym is) alone
+  stands_turned false same alone stood is = subst (StandsFor stands s) (sym (is ∙ ap (stored seen_on) same)) stood
 
-abbrev left_now : DiskState → List ℕ → Type 0
-left_now d c = IsImage d.history c
+pub left_turned : (image : List ℕ) (pair : Result Counted DiskPlace) (old mid : State DiskState) (opens : Bool) → SameButRoom old mid → pair ≡ (if opens then snapshot_of image mid else stored seen_on mid) → pair ≡ (if opens then snapshot_of image old else stored seen_on old)
+left_turned image pair old mid opens same is = is ∙ ap (λ (s : State DiskState). if opens then snapshot_of image s else stored seen_on s) same
 
-abbrev moment_of : DiskState → ℕ
-moment_of d = length d.history.log
+-- a step whose record was made sure of, once there was room for it, and then a snapshot, or none
+module _ {S : Type 0} (stands : List (List ℕ) → S → Type 0) (s : S) (payload : List ℕ) (old begun mid : State DiskState) (same : SameButRoom old begun) (kept : KeepsPlace begun mid) (end : mid.end ≡ begun.end + 5 + length payload) where
+  is_second : mid.second ≡ old.second
+  is_second = kept.second ∙ ap (λ (j : State DiskState). j.second) same
 
-abbrev left_from : DiskState → ℕ → List ℕ → Type 0
-left_from d t c = LeftSince d.history t c
+  is_generation : mid.generation ≡ old.generation
+  is_generation = kept.generation ∙ ap (λ (j : State DiskState). j.generation) same
 
-left_by : (d e : DiskState) (n m : ℕ) (c : List ℕ) → d ≡ e → n ≡ m → left_from d n c → left_from e m c
-left_by d e n m c same moment left = subst (λ (k : ℕ). left_from e k c) moment (subst (λ (x : DiskState). left_from x n c) same left)
+  is_start : mid.start ≡ old.start
+  is_start = kept.start ∙ ap (λ (j : State DiskState). j.start) same
 
-pub stands_shortened : {S : Type 0} (stands : List (List ℕ) → S → Type 0) (now : S) (old new : State DiskState) → IsAt old (stored seen_on old) → EachImage left_now old (λ pair. pair ≡ stored seen_on old) → StandsFor stands now (stored seen_on old)
-    → Adds moment_of left_from old new (Snapped seen_on stands now old) → (first second : DiskState) (n m : ℕ) (c d : List ℕ) → first ≡ first_disk new → second ≡ second_disk new
-    → n ≡ moment_of (first_disk old) → m ≡ moment_of (second_disk old) → left_from first n c → left_from second m d → StandsFor stands now (pair_of c d)
-stands_shortened stands now old new at each stood adds first second n m c d one two since since_too left left_too =
-    ⊎_elim (λ is. subst (StandsFor stands now) (sym is) stood) (λ made. made.0)
-    (run_since moment_of left_from seen_on left_now (λ x. bytes_are_image x.history) (λ x b now_left. only_image x.history b now_left) old new (stored seen_on old) (IsMade stands (stored seen_on old) now)
-    (ours_at old (stored seen_on old) at) each (λ pair made. made.1) (made_alone seen_on moment_of left_from stands now old new at adds) c d
-    (left_by first (first_disk new) n (moment_of (first_disk old)) c one since left) (left_by second (second_disk new) m (moment_of (second_disk old)) d two since_too left_too))
+  is_end : mid.end ≡ old.end + 5 + length payload
+  is_end = end ∙ ap (λ (j : State DiskState). j.end + 5 + length payload) same
+
+  many_too : is_many (mid.end - mid.start) (mid.start - 21) ≡ is_many_with old payload
+  many_too = ap (λ (n : ℕ). is_many (n - mid.start) (mid.start - 21)) is_end ∙ ap (λ (n : ℕ). is_many (old.end + 5 + length payload - n) (n - 21)) is_start
+
+  behind_record : (snapshot : Option (List ℕ)) → IsSnapshotFor stands s mid.generation (is_many (mid.end - mid.start) (mid.start - 21)) snapshot → IsSnapshotBehind stands s old (Some payload) snapshot
+  behind_record snapshot due = subst (λ (n : ℕ). IsSnapshotFor stands s n (is_many_with old payload) snapshot) is_generation (subst (λ (b : Bool). IsSnapshotFor stands s mid.generation b snapshot) many_too due)
+
+  turned_too : (image : List ℕ) → snapshot_of image mid ≡ snapshot_of image old
+  turned_too image =
+      ap (λ (b : Bool). Ok (record { second = not b; generation = mid.generation + 1; start = gates_at image; end = gates_at image; list = image ∷ [] })) is_second
+      ∙ ap (λ (n : ℕ). Ok (record { second = not old.second; generation = n + 1; start = gates_at image; end = gates_at image; list = image ∷ [] })) is_generation
+
+  module _ (stop : ℕ) (image : Image) (late : 4 < stop) (stood : stored seen_on mid ≡ with_record payload (stored seen_on begun)) where
+    is_stored : stored seen_on mid ≡ which payload (keeps_step stop image) (stored seen_on old)
+    is_stored = stood ∙ (ap (λ (j : State DiskState). with_record payload (stored seen_on j)) same ∙ sym (ap (λ (b : Bool). which payload b (stored seen_on old)) (kept_late stop image late)))
+
+    is_left : (snapshot : Option (List ℕ)) (pair : Result Counted DiskPlace) → pair ≡ left_of_snapshot seen_on mid snapshot (stop - 4) image → pair ≡ left_of_step seen_on old (Some payload) snapshot stop image
+    is_left None pair left = left ∙ is_stored
+    is_left (Some bytes) pair left =
+        left ∙ (ap (λ (p : Result Counted DiskPlace). if opens_head (stop - 4) image then p else stored seen_on mid) (turned_too bytes)
+        ∙ ap (λ (p : Result Counted DiskPlace). if opens_head (stop - 4) image then snapshot_of bytes old else p) is_stored)
+
+    pub left_late : (now : S) → now ≡ s → (pair : Result Counted DiskPlace)
+        → (snapshot : Option (List ℕ)) × IsSnapshotFor stands now mid.generation (is_many (mid.end - mid.start) (mid.start - 21)) snapshot × (pair ≡ left_of_snapshot seen_on mid snapshot (stop - 4) image)
+        → (snapshot : Option (List ℕ)) × (4 < stop → IsSnapshotBehind stands s old (Some payload) snapshot) × (pair ≡ left_of_step seen_on old (Some payload) snapshot stop image)
+    left_late now is pair left = (
+      left.0,
+      (λ behind. behind_record left.0 (subst (λ (x : S). IsSnapshotFor stands x mid.generation (is_many (mid.end - mid.start) (mid.start - 21)) left.0) is left.1)),
+      is_left left.0 pair left.2,
+    )
+
+-- one that stops in its record
+pub left_early : {S : Type 0} (stands : List (List ℕ) → S → Type 0) (s : S) (stop : ℕ) (image : Image) (payload : List ℕ) (old : State DiskState) (pair : Result Counted DiskPlace) → stop ≤ 4 → pair ≡ which payload (opens_gate stop image) (stored seen_on old)
+    → (snapshot : Option (List ℕ)) × (4 < stop → IsSnapshotBehind stands s old (Some payload) snapshot) × (pair ≡ left_of_step seen_on old (Some payload) snapshot stop image)
+left_early stands s stop image payload old pair early left =
+    (None, (λ behind. absurd (omega (arith, behind, early))), left ∙ sym (ap (λ (b : Bool). which payload b (stored seen_on old)) (kept_early stop image early)))
+
+-- a step without changes
+pub left_none : {S C R T : Type 0} (stands : List (List ℕ) → S → Type 0) (bytes : T → List ℕ) (answers : S → C → R → Option T → Type 0) (follows : S → T → Type 0) (after : S → T → S) (s : S) (place : State DiskState) (call : C) (stop : ℕ) (image : Image) (pair : Result Counted DiskPlace) (reply : R)
+    → answers s call reply None → StandsFor stands s pair → pair ≡ stored seen_on place → LeftExactly seen_on stands bytes answers follows after s place call stop image pair
+left_none stands bytes answers follows after s place call stop image pair reply answered stood left = record {
+  reply = reply;
+  step = None;
+  answered = answered;
+  may = tt;
+  kept = kept_either (λ x. StandsFor stands x pair) s (keeps_step stop image) stood;
+  snapshot = None;
+  due = λ behind. refl;
+  left = left;
+}
+
+-- the image that keeps all is what a disk reads
+pub new_reads : (image : Image) (h : History) → is_new image ≡ true → image_bytes image h ≡ bytes_now h
+new_reads Old h is = absurd (cc is)
+new_reads New h is = sym (bytes_stand h)
+new_reads Torn h is = absurd (cc is)
+
+-- behind the first sync, and before it
+pub reads_so : (image : Image) (synced : Bool) (h : History) (bytes : List ℕ) → is_new image ≡ true → bytes ≡ (if synced then bytes_now h else image_bytes image h) → bytes ≡ bytes_now h
+reads_so image true h bytes is reads = reads
+reads_so image false h bytes is reads = reads ∙ new_reads image h is

@@ -60,23 +60,23 @@ abbrev pair_after : Bool → PairCalls → List ℕ → List ℕ → Result Coun
 pair_after second calls c d = pair_of (made_of (first_calls calls) (if second then d else c)) (made_of (second_calls calls) (if second then c else d))
 
 module _ (generation start end : ℕ) (list : List (List ℕ)) (payload c : List ℕ) (small : length payload < 2 ^ 32) (whole : IsWhole generation start end list c) where
-  abbrev piece : List ℕ
+  abbrev pub piece : List ℕ
   piece = to_be_bytes w32 (length payload) ++ (payload ++ 0 ∷ [])
 
-  abbrev next : ℕ
+  abbrev pub next : ℕ
   next = end + 5 + length payload
 
   -- with the record behind its gate, and with the gate opened
-  abbrev put : List ℕ
+  abbrev pub put : List ℕ
   put = written (end + 1) piece c
 
-  abbrev gated : List ℕ
+  abbrev pub gated : List ℕ
   gated = written end (1 ∷ []) put
 
-  is_put : IsWhole generation start end list put
+  pub is_put : IsWhole generation start end list put
   is_put = whole_torn generation start end list (length piece) c put whole (written_is_torn (end + 1) piece c)
 
-  has_it : IsWhole generation start next (list ++ payload ∷ []) gated
+  pub has_it : IsWhole generation start next (list ++ payload ∷ []) gated
   has_it = opened generation start end list next payload put gated (staged_written generation start end list payload c put whole small refl) refl
 
   module _ (second : Bool) (d : List ℕ) (below : IsBelow second generation d) where
@@ -105,33 +105,33 @@ module _ (generation start end : ℕ) (list : List (List ℕ)) (payload c : List
 
   -- the other disk, as its calls leave it
   module _ (second shut : Bool) (image d : List ℕ) (aside : IsAside second generation shut d) where
-    abbrev closed : List ℕ
+    abbrev pub closed : List ℕ
     closed = written 8 (closing shut) d
 
-    abbrev cut : List ℕ
+    abbrev pub cut : List ℕ
     cut = take 9 closed
 
-    abbrev filled : List ℕ
+    abbrev pub filled : List ℕ
     filled = written 9 (image_bytes (generation + 1) image) cut
 
-    is_closed : IsClosed closed
+    pub is_closed : IsClosed closed
     is_closed = close_written second generation shut d closed aside refl
 
-    cut_long : length cut ≡ 9
+    pub cut_long : length cut ≡ 9
     cut_long = omega (arith, length-take 9 closed, is_closed.has_gate)
 
-    is_cut : IsClosed cut
+    pub is_cut : IsClosed cut
     is_cut = closed_same closed cut is_closed (take_all 9 cut (omega (arith, cut_long))) (omega (arith, cut_long))
 
     filled_torn : Torn 9 (length (image_bytes (generation + 1) image)) cut filled
     filled_torn = written_is_torn 9 (image_bytes (generation + 1) image) cut
 
-    is_filled : IsClosed filled
+    pub is_filled : IsClosed filled
     is_filled =
         closed_same cut filled is_cut (torn_front 9 9 (length (image_bytes (generation + 1) image)) cut filled filled_torn (omega arith) (omega (arith, cut_long)))
         (omega (arith, filled_torn.no_shorter, cut_long))
 
-    is_turned : generation + 1 < 2 ^ 64 → length image < 2 ^ 32 → pair_in second gated (written 8 (1 ∷ []) filled) ≡ counts_as (not second) (generation + 1) (gates_at image) (gates_at image) (image ∷ [])
+    pub is_turned : generation + 1 < 2 ^ 64 → length image < 2 ^ 32 → pair_in second gated (written 8 (1 ∷ []) filled) ≡ counts_as (not second) (generation + 1) (gates_at image) (gates_at image) (image ∷ [])
     is_turned fits small_image =
         let holds : IsImage (generation + 1) (gates_at image) image filled = image_written (generation + 1) image fits small_image closed filled is_closed refl in
         let counts = image_opened (generation + 1) (gates_at image) image filled (written 8 (1 ∷ []) filled) holds refl in
@@ -181,14 +181,14 @@ moment_of d = length d.history.log
 abbrev left_from : DiskState → ℕ → List ℕ → Type 0
 left_from d t c = LeftSince d.history t c
 
-seen_first : (s : State DiskState) → seen_on (first_disk s) ≡ (if s.second then seen_on s.other else seen_on s.counting)
+pub seen_first : (s : State DiskState) → seen_on (first_disk s) ≡ (if s.second then seen_on s.other else seen_on s.counting)
 seen_first s = at s.second
   where
     at : (b : Bool) → seen_on (if b then s.other else s.counting) ≡ (if b then seen_on s.other else seen_on s.counting)
     at true = refl
     at false = refl
 
-seen_second : (s : State DiskState) → seen_on (second_disk s) ≡ (if s.second then seen_on s.counting else seen_on s.other)
+pub seen_second : (s : State DiskState) → seen_on (second_disk s) ≡ (if s.second then seen_on s.counting else seen_on s.other)
 seen_second s = at s.second
   where
     at : (b : Bool) → seen_on (if b then s.counting else s.other) ≡ (if b then seen_on s.counting else seen_on s.other)
@@ -196,16 +196,16 @@ seen_second s = at s.second
     at false = refl
 
 module _ (s : State DiskState) (is_ready_now : is_ready s.pending ≡ true) (sound : IsSound seen_on left_now s) (payload : List ℕ) (small : length payload < 2 ^ 32) where
-  at : Ready seen_on left_now s
+  pub at : Ready seen_on left_now s
   at = ready seen_on left_now moment_of left_from (λ d. bytes_are_image d.history) (λ d b left. only_image d.history b left) s is_ready_now sound
 
-  is_whole : IsWhole s.generation s.start s.end at.list (seen_on s.counting)
+  pub is_whole : IsWhole s.generation s.start s.end at.list (seen_on s.counting)
   is_whole = at.counting (seen_on s.counting) (bytes_are_image s.counting.history)
 
-  is_aside : IsAside s.second s.generation s.shut (seen_on s.other)
+  pub is_aside : IsAside s.second s.generation s.shut (seen_on s.other)
   is_aside = at.other (seen_on s.other) (bytes_are_image s.other.history)
 
-  is_stored : stored seen_on s ≡ counts_as s.second s.generation s.start s.end at.list
+  pub is_stored : stored seen_on s ≡ counts_as s.second s.generation s.start s.end at.list
   is_stored = stored_is seen_on left_now moment_of left_from (λ d. bytes_are_image d.history) (λ d b left. only_image d.history b left) s at
 
   abbrev after_calls : PairCalls → Result Counted DiskPlace

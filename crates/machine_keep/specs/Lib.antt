@@ -2,6 +2,7 @@ pub mod Armed
 pub mod Calls
 pub mod Course
 pub mod Crash
+pub mod FaultLeft
 pub mod Faulted
 pub mod Kept
 pub mod Opening

@@ -1,16 +1,17 @@
 //! A step that a crash stops, over disks in memory.
-ghost use Rattle.std.specs.Prelude.{◌≡◌, ◌+◌, ◌-◌, ◌≤◌, ◌<◌, IfOk, IfSome, IsTrue, Option, false, if◌then◌else◌, length, nat_lt};
+ghost use Rattle.std.specs.Prelude.{◌≡◌, ◌+◌, ◌-◌, ◌≤◌, ◌<◌, ℕ, IfOk, IfSome, IsTrue, List, Option, Some, false, true, if◌then◌else◌, length, nat_lt};
 ghost use Rattle.ps_disks.specs.Disk.{AreBounded, Only};
-ghost use Rattle.ps_disks.specs.History.{LeftSince, bytes_now, image_bytes};
+ghost use Rattle.ps_disks.specs.History.{bytes_now, image_bytes};
 ghost use Rattle.ps_disks.specs.Run.{IsArmed};
-ghost use Rattle.host_journal.specs.Crash.{IsCrashed};
+ghost use Rattle.host_journal.specs.Crash.{IsCrashed, is_new};
 ghost use Rattle.host_journal.specs.Pair.{pair_of};
 ghost use Rattle.host_journal.specs.State.{first_disk, has_record, is_ready, second_disk, stored};
-ghost use Rattle.machine_keep.specs.Crash.{LeftOfStep, keeps_step};
-ghost use Rattle.machine_keep.specs.Kept.{StandsFor, after_step, caught};
+ghost use Rattle.machine_keep.specs.Crash.{IsSnapshotBehind, IsSnapshotFor, LeftBehind, LeftExactly, LeftOfStep, keeps_step, left_of_snapshot, left_of_step};
+ghost use Rattle.machine_keep.specs.Kept.{StandsFor, after_step, caught, is_many};
 
 use crate::keep::Keep;
 use crate::machine::{Decided, Machine};
+use crate::snapshot::{MOST_IMAGE_BYTES, image_in};
 use host_journal::crash::crash_now;
 use ps_disks::disk::Disk;
 use ps_disks::image::Image;
@@ -22,7 +23,8 @@ impl<M: Machine + Drop> Keep<M, MemoryDisk> {
     /// Begins to make a step, stops at one of its calls of the disks, counted from 1 over both, after the last where it makes
     /// fewer, and before them all for 0, and hands back the disks as a crash there leaves them. A write or cut at which it stops
     /// counts among those that no sync made sure of; a sync at which it stops is not made. `Keep::open` then finds the state for
-    /// which the disks stand. `Memory` also stands for a call of a disk that failed.
+    /// which the disks stand. `Memory` also stands for a call of a disk that failed, and for a snapshot that would have been put off
+    /// for want of memory.
     pub fn crash_in(
         self,
         alloc: Global,
@@ -35,6 +37,9 @@ impl<M: Machine + Drop> Keep<M, MemoryDisk> {
         // The step that the call would have made is kept exactly so.
         ensures kept { IfOk result (λ disks. (reply : M.Reply) × (step : Option M.Step) × M.answers (M.state self.machine) call reply step
             × StandsFor M.stands_for (if keeps_step stop image then after_step M.after (M.state self.machine) step else M.state self.machine) (pair_of (⟦<MemoryDisk as Disk>⟧.seen disks.0) (⟦<MemoryDisk as Disk>⟧.seen disks.1))) }
+        // And of that step, which list it is that the disks stand for, and on which of them.
+        ensures left { IfOk result (λ disks. LeftExactly ⟦<MemoryDisk as Disk>⟧.seen M.stands_for M.record_of M.answers M.follows M.after (M.state self.machine) self.journal call stop image
+            (pair_of (⟦<MemoryDisk as Disk>⟧.seen disks.0) (⟦<MemoryDisk as Disk>⟧.seen disks.1))) }
         ensures calm { IfOk result (λ disks. IsArmed disks.0 0 × IsArmed disks.1 0) }
         // A later crash leaves what they read.
         ensures first { IfOk result (λ disks. Only (⟦<MemoryDisk as Disk>⟧.seen disks.0) (⟦<MemoryDisk as Disk>⟧.may_leave disks.0)) }
@@ -64,8 +69,12 @@ impl<M: Machine + Drop> Keep<M, MemoryDisk> {
         // Before its sync a disk is left in the image, and behind it as it reads.
         ensures one { stop ≤ 2 → IfOk result (λ disks. bytes_now disks.0.history ≡ (if nat_lt 1 stop then bytes_now (first_disk self.journal).history else image_bytes image (first_disk self.journal).history)) }
         ensures two { stop ≤ 2 → IfOk result (λ disks. bytes_now disks.1.history ≡ image_bytes image (second_disk self.journal).history) }
+        // The image that keeps what no sync made sure of is what they read.
+        ensures reads { stop ≤ 2 → is_new image ≡ true → IfOk result (λ disks. pair_of (⟦<MemoryDisk as Disk>⟧.seen disks.0) (⟦<MemoryDisk as Disk>⟧.seen disks.1) ≡ stored ⟦<MemoryDisk as Disk>⟧.seen self.journal) }
         // Behind both the step is kept exactly so.
         ensures kept { 2 < stop → IfOk result (λ disks. LeftOfStep M.stands_for M.answers M.after (caught M.after (M.state self.machine) self.unsure (has_record self.journal.pending (stored ⟦<MemoryDisk as Disk>⟧.seen self.journal))) call (stop - 2) image
+            (pair_of (⟦<MemoryDisk as Disk>⟧.seen disks.0) (⟦<MemoryDisk as Disk>⟧.seen disks.1))) }
+        ensures left { 2 < stop → IfOk result (λ disks. LeftBehind ⟦<MemoryDisk as Disk>⟧.seen M.stands_for M.record_of M.answers M.follows M.after (caught M.after (M.state self.machine) self.unsure (has_record self.journal.pending (stored ⟦<MemoryDisk as Disk>⟧.seen self.journal))) self.journal call (stop - 2) image
             (pair_of (⟦<MemoryDisk as Disk>⟧.seen disks.0) (⟦<MemoryDisk as Disk>⟧.seen disks.1))) }
         ensures calm { IfOk result (λ disks. IsArmed disks.0 0 × IsArmed disks.1 0) }
         ensures first { IfOk result (λ disks. Only (⟦<MemoryDisk as Disk>⟧.seen disks.0) (⟦<MemoryDisk as Disk>⟧.may_leave disks.0)) }
@@ -87,15 +96,12 @@ impl<M: Machine + Drop> Keep<M, MemoryDisk> {
     fn crash_in_syncs(self, stop: u64, image: Image) -> Result<(MemoryDisk, MemoryDisk), Memory>
         ensures one { IfOk result (λ disks. bytes_now disks.0.history ≡ (if nat_lt 1 stop then bytes_now (first_disk self.journal).history else image_bytes image (first_disk self.journal).history)) }
         ensures two { IfOk result (λ disks. bytes_now disks.1.history ≡ image_bytes image (second_disk self.journal).history) }
+        ensures reads { is_new image ≡ true → IfOk result (λ disks. pair_of (bytes_now disks.0.history) (bytes_now disks.1.history) ≡ stored ⟦<MemoryDisk as Disk>⟧.seen self.journal) }
         ensures first { IfOk result (λ disks. IsCrashed disks.0) }
         ensures second { IfOk result (λ disks. IsCrashed disks.1) }
     {
         let (first, second) = self.into_disks();
-        let first = if stop > 1 {
-            crash_synced(first, image)?
-        } else {
-            crash_now(first, image)?
-        };
+        let first = crash_synced(first, stop > 1, image)?;
         let second = crash_now(second, image)?;
         Ok((first, second))
     }
@@ -104,6 +110,7 @@ impl<M: Machine + Drop> Keep<M, MemoryDisk> {
     fn crash_at_rest(self, image: Image) -> Result<(MemoryDisk, MemoryDisk), Memory>
         requires ready { IsTrue (is_ready self.journal.pending) }
         ensures stands { IfOk result (λ disks. StandsFor M.stands_for (M.state self.machine) (pair_of (bytes_now disks.0.history) (bytes_now disks.1.history))) }
+        ensures left { IfOk result (λ disks. pair_of (bytes_now disks.0.history) (bytes_now disks.1.history) ≡ stored ⟦<MemoryDisk as Disk>⟧.seen self.journal) }
         ensures first { IfOk result (λ disks. IsCrashed disks.0) }
         ensures second { IfOk result (λ disks. IsCrashed disks.1) }
     {
@@ -127,6 +134,8 @@ impl<M: Machine + Drop> Keep<M, MemoryDisk> {
         requires has_room { M.has_room self.machine step }
         requires short { length (M.record_of step) ≤ 8388608 }
         ensures kept { IfOk result (λ disks. StandsFor M.stands_for (if keeps_step stop image then M.after (M.state self.machine) step else M.state self.machine) (pair_of (bytes_now disks.0.history) (bytes_now disks.1.history))) }
+        ensures left { IfOk result (λ disks. (snapshot : Option (List ℕ)) × (4 < stop → IsSnapshotBehind M.stands_for (M.after (M.state self.machine) step) self.journal (Some (M.record_of step)) snapshot)
+            × (pair_of (bytes_now disks.0.history) (bytes_now disks.1.history) ≡ left_of_step ⟦<MemoryDisk as Disk>⟧.seen self.journal (Some (M.record_of step)) snapshot stop image)) }
         ensures first { IfOk result (λ disks. IsCrashed disks.0) }
         ensures second { IfOk result (λ disks. IsCrashed disks.1) }
     {
@@ -152,58 +161,37 @@ impl<M: Machine + Drop> Keep<M, MemoryDisk> {
         image: Image,
     ) -> Result<(MemoryDisk, MemoryDisk), Memory>
         requires ready { IsTrue (is_ready self.journal.pending) }
-        requires counted { 1 ≤ stop }
         ensures stands { IfOk result (λ disks. StandsFor M.stands_for (M.state self.machine) (pair_of (bytes_now disks.0.history) (bytes_now disks.1.history))) }
+        ensures left { IfOk result (λ disks. (snapshot : Option (List ℕ)) × IsSnapshotFor M.stands_for (M.state self.machine) self.journal.generation (is_many (self.journal.end - self.journal.start) (self.journal.start - 21)) snapshot
+            × (pair_of (bytes_now disks.0.history) (bytes_now disks.1.history) ≡ left_of_snapshot ⟦<MemoryDisk as Disk>⟧.seen self.journal snapshot stop image)) }
         ensures first { IfOk result (λ disks. IsCrashed disks.0) }
         ensures second { IfOk result (λ disks. IsCrashed disks.1) }
     {
+        self.known();
+        if !self.has_many_records() || self.generation() == u64::MAX {
+            return self.crash_at_rest(image);
+        }
         let mut keep = self;
-        keep.known();
-        let before = keep.calls();
-        let Ok(()) = keep.shorten(alloc) else {
-            return Err(Memory);
-        };
-        let (first, second) = keep.into_disks();
-        let first = crash_since(first, before.0, stop, image)?;
-        let second = crash_since(second, before.1, stop, image)?;
-        Ok((first, second))
+        let snapshot = image_in(alloc, &keep.machine, &mut keep.journal)?;
+        if snapshot.len() > MOST_IMAGE_BYTES {
+            drop(snapshot);
+            return keep.crash_at_rest(image);
+        }
+        keep.into_journal().crash_in_snapshot(snapshot, stop, image)
     }
 }
 
-// A sync, and a crash.
-fn crash_synced(disk: MemoryDisk, image: Image) -> Result<MemoryDisk, Memory>
-    ensures bytes { IfOk result (λ left. bytes_now left.history ≡ bytes_now disk.history) }
+// A sync, or none, and a crash.
+fn crash_synced(disk: MemoryDisk, synced: bool, image: Image) -> Result<MemoryDisk, Memory>
+    ensures bytes { IfOk result (λ left. bytes_now left.history ≡ (if synced then bytes_now disk.history else image_bytes image disk.history)) }
     ensures crashed { IfOk result (λ left. IsCrashed left) }
 {
+    if !synced {
+        return crash_now(disk, image);
+    }
     let mut disk = disk;
     let Ok(()) = disk.sync() else {
         return Err(Memory);
     };
     crash_now(disk, image)
-}
-
-// What a crash leaves of a disk that stopped at this of its calls since there were so many.
-fn crash_since(disk: MemoryDisk, before: u64, stop: u64, image: Image) -> Result<MemoryDisk, Memory>
-    requires earlier { before ≤ length disk.history.log }
-    requires counted { 1 ≤ stop }
-    ensures left { IfOk result (λ left. LeftSince disk.history before (bytes_now left.history)) }
-    ensures crashed { IfOk result (λ left. IsCrashed left) }
-{
-    let calls = calls_made(&disk, before, stop);
-    disk.crashed(calls, image)
-}
-
-// A sync at which it stops is not made.
-fn calls_made(disk: &MemoryDisk, before: u64, stop: u64) -> u64
-    requires earlier { before ≤ length disk.now.history.log }
-    requires counted { 1 ≤ stop }
-    ensures from { before ≤ result }
-    ensures to { result ≤ length disk.now.history.log }
-{
-    let all = disk.calls();
-    if stop > all - before {
-        return all;
-    }
-    let call = before + stop;
-    if disk.was_sync(call) { call - 1 } else { call }
 }

@@ -1,5 +1,5 @@
 //! A machine that is kept.
-ghost use Rattle.std.specs.Prelude.{◌≡◌, ◌⊎◌, ◌∷◌, ◌+◌, ◌-◌, ◌≤◌, ℕ, Bool, List, Option, Some, None, Err, IsSome, IsTrue, IfOk, IfSome, OnOk, OnErr, [], false, length, true};
+ghost use Rattle.std.specs.Prelude.{◌||◌, ◌≡◌, ◌⊎◌, ◌∷◌, ◌+◌, ◌-◌, ◌≤◌, ℕ, Bool, List, Option, Some, None, Err, IsSome, IsTrue, IfOk, IfSome, OnOk, OnErr, [], false, length, true};
 ghost use Rattle.ps_disks.specs.MemoryDisk.{armed, armed_number};
 ghost use Rattle.ps_ports.specs.Causes.{Rose};
 ghost use Rattle.host_journal.specs.Calls.{IsRead};
@@ -112,6 +112,13 @@ impl<M: Machine, D: Disk> Keep<M, D> {
         ensures { result ≡ self.now.journal.end - self.now.journal.start }
     {
         self.journal.record_bytes()
+    }
+
+    /// The bytes of the snapshot.
+    pub fn snapshot_bytes(&self) -> u64
+        ensures { result ≡ self.now.journal.start - 21 }
+    {
+        self.journal.snapshot_bytes()
     }
 
     /// Sets an origin again, as a configuration. What is kept, and what is not yet known after a fault, stays. Takes no
@@ -366,7 +373,7 @@ impl<M: Machine, D: Disk> Keep<M, D> {
     }
 
     // Whether the records take more than 1 MiB and than twice the snapshot.
-    fn has_many_records(&self) -> bool
+    pub(crate) fn has_many_records(&self) -> bool
         ensures { result ≡ is_many (self.now.journal.end - self.now.journal.start) (self.now.journal.start - 21) }
     {
         let records = u128::from(self.journal.record_bytes());
@@ -416,6 +423,13 @@ impl<M: Machine> Keep<M, MemoryDisk> {
         ensures room { self.new.journal.room ≡ self.old.journal.room }
     {
         self.journal.fail_at(call);
+    }
+
+    /// Whether a call of one of the disks ever found no memory.
+    pub fn is_starved(&self) -> bool
+        ensures { result ≡ (first_disk self.now.journal).starved || (second_disk self.now.journal).starved }
+    {
+        self.journal.is_starved()
     }
 
     /// How many writes, cuts and syncs were made on each disk, the first one first.

@@ -1,12 +1,15 @@
 //! What the count of faults of disks in memory says of a step.
 ghost use Rattle.std.specs.Prelude.{◌≡◌, ◌⊎◌, ℕ, List, Result, Err, false};
 ghost use Rattle.ps_disks.specs.MemoryDisk.{DiskState, told_calls};
-ghost use Rattle.ps_disks.specs.Run.{IsArmed, IsSpared, MeetsFault, made_since};
+ghost use Rattle.ps_disks.specs.Run.{IsArmed, IsSpared, MeetsFault, Went, made_since};
+ghost use Rattle.ps_ports.specs.Causes.{counted};
 ghost use Rattle.ps_disks.specs.declared.disk.DiskCall.{DiskCall};
 ghost use Rattle.host_journal.specs.State.{State, first_disk, second_disk, stored};
 ghost use Rattle.host_journal.specs.Told.{TellsAll};
 ghost use Rattle.machine_keep.specs.Armed.{IsStep, Lacks};
 ghost use Rattle.machine_keep.specs.Calls.{PairCalls, TellsIn};
+ghost use Rattle.machine_keep.specs.Course.{Unfound};
+ghost use Rattle.machine_keep.specs.FaultLeft.{IsWithinReach, LeftAgain, LeftStill};
 ghost use Rattle.machine_keep.specs.Faulted.{BrokenInMemory, Faulted, seen_on, wanted_calls};
 ghost use Rattle.machine_keep.specs.Kept.{Kept, StandsBut};
 ghost use Rattle.machine_keep.specs.Stopped.{IsStopped, RunsThrough, StopsAt, are_too_far};
@@ -60,4 +63,22 @@ pub fn law_faulted<M: Machine>()
         → are_too_far (wanted_calls M.state M.stands_for M.record_of M.answers M.follows M.after old new call broken) ≡ false
         → StandsBut M.stands_for M.record_of (M.state new.machine) new.journal.pending (stored seen_on new.journal) new.unsure
         → Faulted M.state M.stands_for M.record_of M.answers M.follows M.after first second old new call broken }
+{}
+
+/// A law: of the same machine, what the disks stand for as a crash leaves them then, before the next call syncs them, or behind its
+/// sync of the first one.
+pub fn law_left_again<M: Machine>()
+    ensures { (old new : Kept M DiskState M.Step) (call : M.Call) (broken : BrokenInMemory M.state M.stands_for M.record_of M.answers M.follows M.after old new call) (first second : ℕ)
+        (faulted : Faulted M.state M.stands_for M.record_of M.answers M.follows M.after first second old new call broken)
+        → IsArmed (first_disk old.journal) first → IsArmed (second_disk old.journal) second → (first_disk new.journal).starved ≡ false → (second_disk new.journal).starved ≡ false
+        → are_too_far (wanted_calls M.state M.stands_for M.record_of M.answers M.follows M.after old new call broken) ≡ false
+        → IsWithinReach faulted.number broken.unkept.place.generation broken.unkept.image
+        → LeftAgain M.state M.stands_for M.record_of M.answers M.follows M.after first second old new call broken faulted }
+{}
+
+/// A law: of such a machine whose next call met a fault before it was known what stands, which image of each disk a crash leaves.
+pub fn law_left_still<M: Machine>()
+    ensures { (old new : Kept M DiskState M.Step) (first second : ℕ) → Unfound told_calls (λ (d : DiskState). counted d.faults) Went M.state old new
+        → IsArmed (first_disk old.journal) first → IsArmed (second_disk old.journal) second → (first_disk new.journal).starved ≡ false → (second_disk new.journal).starved ≡ false
+        → LeftStill first second old.journal new.journal }
 {}

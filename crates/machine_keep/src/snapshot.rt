@@ -17,7 +17,7 @@ use ps_time::memory::Memory;
 use std::alloc::Global;
 
 /// No snapshot has more bytes.
-const MOST_IMAGE_BYTES: usize = 4_294_967_295;
+pub(crate) const MOST_IMAGE_BYTES: usize = 4_294_967_295;
 
 /// Puts a snapshot of the machine in place of all records. `StepFault::Memory` puts it off, and leaves all but the room: memory
 /// for it was wanting, it has too many bytes, or the journal is in its last generation.
@@ -46,26 +46,25 @@ pub fn put_snapshot<M: Machine, D: Disk>(
         return Err(StepFault::Memory);
     }
     let image = image_in(alloc, machine, journal)?;
+    if image.len() > MOST_IMAGE_BYTES {
+        return Err(StepFault::Memory);
+    }
     journal.snapshot(image)?;
     Ok(())
 }
 
-// The machine's snapshot in the journal's own buffer, with room for what is written behind it.
-fn image_in<M: Machine, D: Disk>(
+/// The machine's snapshot in the journal's own buffer, with room for what is written behind it.
+pub(crate) fn image_in<M: Machine, D: Disk>(
     alloc: Global,
     machine: &M,
     journal: &mut Journal<D>,
 ) -> Result<SnapshotImage, Memory>
     ensures stands { IfOk result (λ image. M.stands_for (image.bytes ∷ []) (M.state machine.now)) }
     ensures room { IfOk result (λ image. length image.bytes + 13 ≤ image.room) }
-    ensures bound { IfOk result (λ image. length image.bytes ≤ 4294967295) }
     ensures same { SameButRoom journal.old journal.new }
 {
     journal.reserve(machine.image_guess())?;
     let mut image = machine.write_image(alloc, journal.begin_image())?;
     image.reserve_end()?;
-    if image.len() > MOST_IMAGE_BYTES {
-        return Err(Memory);
-    }
     Ok(image)
 }

@@ -1,6 +1,7 @@
 //! A gatherer whose steps a crash stops: which bytes are there then, by the call at which it stops and the image.
 
-use crate::disks::{Kept, asked, has_bytes, new_keep, opened, pair_on};
+use crate::disks::{Kept, Pair, asked, has_bytes, new_keep, opened, pair_on};
+use crate::journals::place_of;
 use crate::snapshot_tests::{PIECE, gathers, piece};
 use ps_disks::image::Image;
 use ps_disks::rack::FRESH_FIRST;
@@ -79,27 +80,70 @@ fn with_pieces(alloc: Global) -> Result<Option<Kept>, Memory> {
     }
 }
 
-// One more is gathered, and there are so many then.
-fn has_pieces(alloc: Global, stop: u64, image: Image, pieces: usize) -> Result<bool, Memory> {
+// The disks, where the gathering of one more stops.
+fn with_one_more(alloc: Global, stop: u64, image: Image) -> Result<Option<Pair>, Memory> {
     let Some(keep) = with_pieces(alloc)? else {
-        return Ok(false);
+        return Ok(None);
     };
     if !keep.is_ready() {
-        return Ok(false);
+        return Ok(None);
     }
     let piece = piece(alloc)?;
-    let pair = keep.crash_in(alloc, piece, stop, image)?;
+    Ok(Some(keep.crash_in(alloc, piece, stop, image)?))
+}
+
+// There are so many then.
+fn has_pieces(alloc: Global, stop: u64, image: Image, pieces: usize) -> Result<bool, Memory> {
+    let Some(pair) = with_one_more(alloc, stop, image)? else {
+        return Ok(false);
+    };
     match opened(alloc, 2_000_000, pair) {
         Some(again) => Ok(again.machine().bytes.len() == pieces.saturating_mul(PIECE)),
         None => Ok(false),
     }
 }
 
-fn each_snapshot_stop(alloc: Global) -> Result<bool, Memory> {
-    for stop in 5..13 {
-        if !has_pieces(alloc, stop, Image::Old, 16)?
-            || !has_pieces(alloc, stop, Image::New, 16)?
-            || !has_pieces(alloc, stop, Image::Torn, 16)?
+// Which disk counts, its generation, and the bytes of its snapshot and of its records: with fifteen records, with sixteen, and with
+// the bytes of sixteen in a snapshot behind its mark.
+type Place = (u8, u64, u64, u64);
+
+const BEFORE: Place = (1, 1, 0, 983_115);
+
+const RECORD: Place = (1, 1, 0, 1_048_656);
+
+const SNAPSHOT: Place = (2, 2, 1_048_577, 0);
+
+// The call at which the gathering of the sixteenth stops, the fifth to the eleventh being those of the snapshot; and the place in
+// the images old, new and torn.
+static EARLY_STOPS: [(u64, Place, Place, Place); 6] = [
+    (2, BEFORE, BEFORE, BEFORE),
+    (3, BEFORE, RECORD, BEFORE),
+    (4, BEFORE, RECORD, BEFORE),
+    (5, RECORD, RECORD, RECORD),
+    (6, RECORD, RECORD, RECORD),
+    (7, RECORD, RECORD, RECORD),
+];
+
+static LATE_STOPS: [(u64, Place, Place, Place); 5] = [
+    (8, RECORD, RECORD, RECORD),
+    (9, RECORD, RECORD, RECORD),
+    (10, RECORD, SNAPSHOT, RECORD),
+    (11, RECORD, SNAPSHOT, RECORD),
+    (12, SNAPSHOT, SNAPSHOT, SNAPSHOT),
+];
+
+fn is_left_at(alloc: Global, stop: u64, image: Image, place: Place) -> Result<bool, Memory> {
+    match with_one_more(alloc, stop, image)? {
+        Some(pair) => Ok(place_of(alloc, pair) == Some(place)),
+        None => Ok(false),
+    }
+}
+
+fn each_snapshot_stop(alloc: Global, stops: &[(u64, Place, Place, Place)]) -> Result<bool, Memory> {
+    for (stop, old, new, torn) in stops {
+        if !is_left_at(alloc, *stop, Image::Old, *old)?
+            || !is_left_at(alloc, *stop, Image::New, *new)?
+            || !is_left_at(alloc, *stop, Image::Torn, *torn)?
         {
             return Ok(false);
         }
@@ -107,10 +151,23 @@ fn each_snapshot_stop(alloc: Global) -> Result<bool, Memory> {
     Ok(true)
 }
 
-// The fifth call to the eleventh are those of the snapshot.
 #[test]
-fn a_stop_in_a_snapshot_keeps_the_step(rt: HostRuntime) -> Result<(), Fail> {
+fn a_stop_before_a_snapshot_is_filled_leaves_the_records(rt: HostRuntime) -> Result<(), Fail> {
+    assert!(rt; each_snapshot_stop(rt.alloc(), &EARLY_STOPS)?);
+    Ok(())
+}
+
+#[test]
+fn a_stop_in_a_snapshot_turns_the_disks_from_its_open_head_on(rt: HostRuntime) -> Result<(), Fail> {
+    assert!(rt; each_snapshot_stop(rt.alloc(), &LATE_STOPS)?);
+    Ok(())
+}
+
+#[test]
+fn an_opening_behind_it_finds_the_step(rt: HostRuntime) -> Result<(), Fail> {
     assert!(rt; has_pieces(rt.alloc(), 4, Image::Old, 15)?);
-    assert!(rt; each_snapshot_stop(rt.alloc())?);
+    assert!(rt; has_pieces(rt.alloc(), 7, Image::Torn, 16)?);
+    assert!(rt; has_pieces(rt.alloc(), 11, Image::New, 16)?);
+    assert!(rt; has_pieces(rt.alloc(), 13, Image::Old, 16)?);
     Ok(())
 }

@@ -19,8 +19,8 @@ static FAULTS: [(u64, bool, bool, bool, bool); 5] = [
     (5, true, true, true, true),
 ];
 
-// The disks of a gatherer that gathered a byte while this call failed.
-fn faulted(alloc: Global, call: u64) -> Result<Option<Pair>, Memory> {
+// A gatherer that gathered a byte while this call failed.
+fn faulted(alloc: Global, call: u64) -> Result<Option<Kept>, Memory> {
     let Some(mut keep) = new_keep(alloc, 1_000)? else {
         return Ok(None);
     };
@@ -31,7 +31,7 @@ fn faulted(alloc: Global, call: u64) -> Result<Option<Pair>, Memory> {
         return Ok(None);
     }
     keep.fail_at(None);
-    Ok(Some(keep.into_disks()))
+    Ok(Some(keep))
 }
 
 fn kept_bytes(kept: bool) -> &'static [u8] {
@@ -40,7 +40,7 @@ fn kept_bytes(kept: bool) -> &'static [u8] {
 
 fn is_read(alloc: Global, call: u64, kept: bool) -> Result<bool, Memory> {
     match faulted(alloc, call)? {
-        Some(pair) => Ok(has_bytes(alloc, pair, kept_bytes(kept))),
+        Some(keep) => Ok(has_bytes(alloc, keep.into_disks(), kept_bytes(kept))),
         None => Ok(false),
     }
 }
@@ -53,7 +53,7 @@ fn crashed(pair: Pair, image: Image) -> Result<Pair, Memory> {
 
 fn is_left(alloc: Global, call: u64, image: Image, kept: bool) -> Result<bool, Memory> {
     match faulted(alloc, call)? {
-        Some(pair) => Ok(has_bytes(alloc, crashed(pair, image)?, kept_bytes(kept))),
+        Some(keep) => { Ok(has_bytes(alloc, crashed(keep.into_disks(), image)?, kept_bytes(kept))) }
         None => Ok(false),
     }
 }
@@ -74,6 +74,50 @@ fn each_fault(alloc: Global, faults: &[(u64, bool, bool, bool, bool)]) -> Result
 #[test]
 fn a_fault_keeps_a_step_from_the_sync_of_its_open_gate_on(rt: HostRuntime) -> Result<(), Fail> {
     assert!(rt; each_fault(rt.alloc(), &FAULTS)?);
+    Ok(())
+}
+
+// The call at which the gathering of 7 stops, where the fourth of that of 5 failed, two syncs being the first two; and the bytes
+// then, in the images old, new and torn.
+static STOPS: [(u64, &[u8], &[u8], &[u8]); 9] = [
+    (0, &[], &[5], &[]),
+    (1, &[], &[5], &[]),
+    (2, &[5], &[5], &[5]),
+    (3, &[5], &[5], &[5]),
+    (4, &[5], &[5], &[5]),
+    (5, &[5], &[5, 7], &[5]),
+    (6, &[5], &[5, 7], &[5]),
+    (7, &[5, 7], &[5, 7], &[5, 7]),
+    (8, &[5, 7], &[5, 7], &[5, 7]),
+];
+
+fn stops_so(alloc: Global, stop: u64, image: Image, bytes: &[u8]) -> Result<bool, Memory> {
+    let Some(keep) = faulted(alloc, 4)? else {
+        return Ok(false);
+    };
+    if keep.is_ready() {
+        return Ok(false);
+    }
+    let seven = asked(alloc, Some(7))?;
+    let pair = keep.crash_in_again(alloc, seven, stop, image)?;
+    Ok(has_bytes(alloc, pair, bytes))
+}
+
+fn each_stop(alloc: Global, stops: &[(u64, &[u8], &[u8], &[u8])]) -> Result<bool, Memory> {
+    for (stop, old, new, torn) in stops {
+        if !stops_so(alloc, *stop, Image::Old, old)?
+            || !stops_so(alloc, *stop, Image::New, new)?
+            || !stops_so(alloc, *stop, Image::Torn, torn)?
+        {
+            return Ok(false);
+        }
+    }
+    Ok(true)
+}
+
+#[test]
+fn a_step_behind_a_fault_stops_from_its_syncs_on(rt: HostRuntime) -> Result<(), Fail> {
+    assert!(rt; each_stop(rt.alloc(), &STOPS)?);
     Ok(())
 }
 
@@ -171,5 +215,28 @@ fn a_crash_behind_it_keeps_the_step(rt: HostRuntime) -> Result<(), Fail> {
     assert!(rt; turns_so(rt.alloc(), Image::Old, 1)?);
     assert!(rt; turns_so(rt.alloc(), Image::New, 2)?);
     assert!(rt; turns_so(rt.alloc(), Image::Torn, 1)?);
+    Ok(())
+}
+
+// A call that stops behind it, with no step of its own: at the first sync, at the second, or behind both.
+fn stops_in_syncs(alloc: Global, stop: u64, image: Image, generation: u64) -> Result<bool, Memory> {
+    let Some(keep) = with_pieces(alloc, 11)? else {
+        return Ok(false);
+    };
+    if keep.is_ready() {
+        return Ok(false);
+    }
+    let none = asked(alloc, None)?;
+    let pair = keep.crash_in_again(alloc, none, stop, image)?;
+    Ok(has_pieces(alloc, pair, true, generation))
+}
+
+// It is the second disk whose last sync failed.
+#[test]
+fn a_sync_of_the_first_disk_makes_sure_of_that_alone(rt: HostRuntime) -> Result<(), Fail> {
+    assert!(rt; stops_in_syncs(rt.alloc(), 1, Image::Old, 1)?);
+    assert!(rt; stops_in_syncs(rt.alloc(), 2, Image::Old, 1)?);
+    assert!(rt; stops_in_syncs(rt.alloc(), 2, Image::New, 2)?);
+    assert!(rt; stops_in_syncs(rt.alloc(), 3, Image::Old, 2)?);
     Ok(())
 }

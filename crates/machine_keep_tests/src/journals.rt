@@ -25,3 +25,14 @@ pub fn list_of(alloc: Global, pair: Pair) -> Option<Items<Items<u8>>> {
     let (_journal, list) = found(alloc, pair)?;
     Some(list)
 }
+
+// Which disk of a pair counts, its generation, and the bytes of its snapshot and of its records.
+pub fn place_of(alloc: Global, pair: Pair) -> Option<(u8, u64, u64, u64)> {
+    let (journal, _list) = found(alloc, pair)?;
+    Some((
+        journal.counting_disk(),
+        journal.generation(),
+        journal.snapshot_bytes(),
+        journal.record_bytes(),
+    ))
+}
