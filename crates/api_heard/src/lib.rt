@@ -2,3 +2,4 @@
 #![tactic(auto)]
 
 pub mod hear;
+pub mod law;

@@ -1,7 +1,12 @@
-mod InputLemmas
-mod OrderLemmas
+pub mod AnswerLemmas
+mod FewTools
+pub mod InputLemmas
+pub mod OrderLemmas
 mod OrderWalk
-mod OrderlyChanges
-mod OrderlySteps
+pub mod OrderlyChanges
+pub mod OrderlySteps
 mod ReplyLemmas
 mod SendLemmas
+pub mod ToldChanges
+pub mod ToldSteps
+mod ToldTexts

@@ -3,6 +3,8 @@ ghost use Rattle.std.specs.Prelude.{◌≡◌, ◌≤◌, All, List, Ok, Some, l
 ghost use Rattle.ps_http.specs.Sendable.{IsSendable};
 ghost use Rattle.ps_http.specs.declared.message.HttpLimits.{HttpLimits};
 ghost use Rattle.ps_http.specs.declared.message.Request.{Request};
+ghost use Rattle.ps_time.specs.declared.key.RunKey.{RunKey};
+ghost use Rattle.run_states.specs.declared.proposal.Proposal.{Proposal};
 ghost use Rattle.host_model.specs.Book.{Book, empty_book};
 ghost use Rattle.host_model.specs.Conditions.{IsConfig, MayStep};
 ghost use Rattle.host_model.specs.Lawful.{Lawful};
@@ -11,13 +13,19 @@ ghost use Rattle.host_model.specs.Step.{step_book, step_reply};
 ghost use Rattle.host_model.specs.declared.config.Config.{Config};
 ghost use Rattle.host_model.specs.declared.input.Input.{Input};
 ghost use Rattle.host_model.specs.declared.order.Order.{Order};
+ghost use Rattle.host_model.specs.declared.order.OrderBody.{OrderBody};
+ghost use Rattle.psched_world.specs.Laws.{SaysDiffers};
+ghost use Rattle.psched_world.specs.World.{input_of};
 ghost use Rattle.api_input.specs.Understood.{most_address_bytes, understood};
 ghost use Rattle.api_reply.specs.Bounds.{IsReplyShown};
 ghost use Rattle.api_order.specs.Meant.{KeepsBounds};
 ghost use Rattle.api_order.specs.Ordered.{IsOrder, order_request_of};
+ghost use Rattle.api_heard.specs.Replied.{IsReplyTo};
 ghost use Rattle.api_law.specs.Listed.{IsListed};
 ghost use Rattle.api_law.specs.Orderly.{IsOrderly, IsSized};
 ghost use Rattle.api_law.specs.Sent.{HasKeys, HasRoom};
+ghost use Rattle.api_law.specs.Told.{AreTold};
+ghost use Rattle.api_law.specs.Widths.{HasWidths};
 
 /// A law: what each step that may be made replies can be shown, as `respond` asks.
 pub fn law_reply()
@@ -51,4 +59,18 @@ pub fn law_bounds()
 pub fn law_request()
     ensures { (limits : HttpLimits) (c : Config) (order : Order) (r : Request) (authority : List ℕ) → HasKeys c → order_request_of c order ≡ Some r
         → HasRoom limits authority r → IsSendable limits r authority }
+{}
+
+/// A law: the results of the empty book are compact texts, and each step that may be made leaves a book whose results are so.
+pub fn law_told()
+    ensures empty { AreTold empty_book }
+    ensures step { (c : Config) (b : Book) (clock : ℕ) (i : Input) → MayStep c b clock i → AreTold b → AreTold (step_book c b clock i) }
+{}
+
+/// A law: what a step replies to an order is a reply to that order, as `law_heard` of `api_heard` asks, where the results of the book are
+/// compact texts. A proposal is one that doesn't differ from the row of its key, as none does that was sent.
+pub fn law_answer()
+    ensures { (c : Config) (b : Book) (clock sender : ℕ) (k : RunKey) (body : OrderBody) → MayStep c b clock (input_of sender k body) → AreTold b
+        → ((p : Proposal) → body ≡ OrderBody.Propose p → SaysDiffers (step_reply c b clock (input_of sender k body)) → ⊥)
+        → HasWidths (step_reply c b clock (input_of sender k body)) → IsReplyTo body (step_reply c b clock (input_of sender k body)) }
 {}

@@ -30,7 +30,7 @@ use Rattle.api_input.specs.declared.route.Methods.TheVariants.{Delete, Get, Post
 use Rattle.api_reply.specs.Denials.{proposal_data}
 use Rattle.api_order.proofs.PathLemmas.{confirm_named, drop_named, free_named, material_named, propose_named, result_named, target}
 use Rattle.api_order.specs.Meant.{IsMeant, IsReadKey, IsReadMaterial, IsReadProposal, IsReadQuestion, Knows}
-use Rattle.api_order.specs.Ordered.{asked, mark_for, material_data, question_data, request_by, run_path}
+use Rattle.api_order.specs.Ordered.{asked, material_data, question_data, request_by, run_path}
 
 -- ---- the sender
 some_same : {A : Type 0} (x y : A) → Some x ≡ Some y → x ≡ y
@@ -71,40 +71,40 @@ read_in bytes read ask x is = go (body_tree bytes) is
     go (Ok d) is = rw is refl
 
 -- ---- each order
-module _ (c : Config) (p : Peer) (k : RunKey) where
+module _ (mark : PeerMark) (k : RunKey) where
   pub free_meant : (q : Question) → IsReadQuestion q
-      → IsMeant c p k (order.Free q) (request_by (mark_for c p) k (order.Free q))
-  free_meant q reads d knows bounds address m =
-      at_place d (mark_for c p) c.name knows (codes "POST") (codes "/pscheduler/peer/free") (compact_text (question_data q)) peer.Free Post (free_named d.number) refl address m
-      ∙ read_in (compact_text (question_data q)) question_of (λ q. Ok (input.Free knows.peer.number q)) q (reads bounds) ∙ ap (λ n. Ok (input.Free n q)) (known_number d (mark_for c p) c.name knows)
+      → IsMeant mark k (order.Free q) (request_by mark k (order.Free q))
+  free_meant q reads d name knows bounds address m =
+      at_place d mark name knows (codes "POST") (codes "/pscheduler/peer/free") (compact_text (question_data q)) peer.Free Post (free_named d.number) refl address m
+      ∙ read_in (compact_text (question_data q)) question_of (λ q. Ok (input.Free knows.peer.number q)) q (reads bounds) ∙ ap (λ n. Ok (input.Free n q)) (known_number d mark name knows)
 
   pub propose_meant : (proposal : Proposal) → IsReadProposal proposal
-      → IsMeant c p k (order.Propose proposal) (request_by (mark_for c p) k (order.Propose proposal))
-  propose_meant proposal reads d knows bounds address m =
-      at_place d (mark_for c p) c.name knows (codes "POST") (codes "/pscheduler/peer/runs") (compact_text (proposal_data proposal)) peer.Propose Post (propose_named d.number) refl address m
-      ∙ ap (λ name. then_with (in_body (body_tree (compact_text (proposal_data proposal)))) (λ d. then_with (in_body (proposal_of most_texts name d)) (λ p. Ok (input.Propose knows.peer.number p)))) knows.name
-      ∙ read_in (compact_text (proposal_data proposal)) (proposal_of most_texts c.name) (λ p. Ok (input.Propose knows.peer.number p)) proposal (reads c.name bounds) ∙ ap (λ n. Ok (input.Propose n proposal)) (known_number d (mark_for c p) c.name knows)
+      → IsMeant mark k (order.Propose proposal) (request_by mark k (order.Propose proposal))
+  propose_meant proposal reads d name knows bounds address m =
+      at_place d mark name knows (codes "POST") (codes "/pscheduler/peer/runs") (compact_text (proposal_data proposal)) peer.Propose Post (propose_named d.number) refl address m
+      ∙ ap (λ lead. then_with (in_body (body_tree (compact_text (proposal_data proposal)))) (λ d. then_with (in_body (proposal_of most_texts lead d)) (λ p. Ok (input.Propose knows.peer.number p)))) knows.name
+      ∙ read_in (compact_text (proposal_data proposal)) (proposal_of most_texts name) (λ p. Ok (input.Propose knows.peer.number p)) proposal (reads name bounds) ∙ ap (λ n. Ok (input.Propose n proposal)) (known_number d mark name knows)
 
-module _ (c : Config) (p : Peer) (k : RunKey) (names : IsReadKey k) where
-  pub confirm_meant : IsMeant c p k order.Confirm (request_by (mark_for c p) k order.Confirm)
-  confirm_meant d knows bounds address m =
-      at_place d (mark_for c p) c.name knows (codes "PUT") (run_path k (codes "/confirm")) [] (peer.Confirm k) Put (confirm_named d.number k names) refl address m
-      ∙ ap (λ n. Ok (input.Confirm n k)) (known_number d (mark_for c p) c.name knows)
+module _ (mark : PeerMark) (k : RunKey) (names : IsReadKey k) where
+  pub confirm_meant : IsMeant mark k order.Confirm (request_by mark k order.Confirm)
+  confirm_meant d name knows bounds address m =
+      at_place d mark name knows (codes "PUT") (run_path k (codes "/confirm")) [] (peer.Confirm k) Put (confirm_named d.number k names) refl address m
+      ∙ ap (λ n. Ok (input.Confirm n k)) (known_number d mark name knows)
 
-  pub cancel_meant : IsMeant c p k order.Cancel (request_by (mark_for c p) k order.Cancel)
-  cancel_meant d knows bounds address m =
-      at_place d (mark_for c p) c.name knows (codes "DELETE") (run_path k []) [] (peer.Drop k) Delete (drop_named d.number k names) refl address m
-      ∙ ap (λ n. Ok (input.Drop n k)) (known_number d (mark_for c p) c.name knows)
+  pub cancel_meant : IsMeant mark k order.Cancel (request_by mark k order.Cancel)
+  cancel_meant d name knows bounds address m =
+      at_place d mark name knows (codes "DELETE") (run_path k []) [] (peer.Drop k) Delete (drop_named d.number k names) refl address m
+      ∙ ap (λ n. Ok (input.Drop n k)) (known_number d mark name knows)
 
-  pub result_meant : IsMeant c p k order.Result (request_by (mark_for c p) k order.Result)
-  result_meant d knows bounds address m =
-      at_place d (mark_for c p) c.name knows (codes "GET") (run_path k (codes "/result")) [] (peer.Result k) Get (result_named d.number k names) refl address m
-      ∙ ap (λ n. Ok (input.Collect n k)) (known_number d (mark_for c p) c.name knows)
+  pub result_meant : IsMeant mark k order.Result (request_by mark k order.Result)
+  result_meant d name knows bounds address m =
+      at_place d mark name knows (codes "GET") (run_path k (codes "/result")) [] (peer.Result k) Get (result_named d.number k names) refl address m
+      ∙ ap (λ n. Ok (input.Collect n k)) (known_number d mark name knows)
 
-  pub material_meant : (text : List ℕ) → IsReadMaterial text → IsMeant c p k (order.Material text) (request_by (mark_for c p) k (order.Material text))
-  material_meant text reads d knows bounds address m =
-      at_place d (mark_for c p) c.name knows (codes "PUT") (run_path k (codes "/material")) (compact_text (material_data text)) (peer.Material k) Put (material_named d.number k names) refl address m
-      ∙ read_in (compact_text (material_data text)) material_of (λ t. Ok (input.Material knows.peer.number k t)) text (reads bounds) ∙ ap (λ n. Ok (input.Material n k text)) (known_number d (mark_for c p) c.name knows)
+  pub material_meant : (text : List ℕ) → IsReadMaterial text → IsMeant mark k (order.Material text) (request_by mark k (order.Material text))
+  material_meant text reads d name knows bounds address m =
+      at_place d mark name knows (codes "PUT") (run_path k (codes "/material")) (compact_text (material_data text)) (peer.Material k) Put (material_named d.number k names) refl address m
+      ∙ read_in (compact_text (material_data text)) material_of (λ t. Ok (input.Material knows.peer.number k t)) text (reads bounds) ∙ ap (λ n. Ok (input.Material n k text)) (known_number d mark name knows)
 
 -- what holds of a value holds of an answer that gives it
 pub of_same : {A E : Type 0} (P : A → Type 0) (r : Result A E) (x : A) → IfOk r (λ t. t ≡ x) → P x → IfOk r P

@@ -74,11 +74,11 @@ abbrev pub IsReadKey : RunKey → Type 0
 IsReadKey k = id_of_text (run_text k) ≡ Some (Run k)
 
 -- ---- the law
--- each host that knows the sender takes the request for exactly this, from whatever address it comes and whenever
-abbrev pub IsMeant : Config → Peer → RunKey → OrderBody → Request → Type 0
-IsMeant c p k body r =
-    (d : Config) → Knows d (mark_for c p) c.name → KeepsBounds c.name body → (address : List ℕ) (m : ℕ) → understood d r address m ≡ Ok (input_of c.number k body)
+-- each host that knows the sender, by whatever name, takes the request for exactly this, from whatever address it comes and whenever
+abbrev pub IsMeant : PeerMark → RunKey → OrderBody → Request → Type 0
+IsMeant mark k body r =
+    (d : Config) (name : List ℕ) → Knows d mark name → KeepsBounds name body → (address : List ℕ) (m : ℕ) → understood d r address m ≡ Ok (input_of mark.number k body)
 
 -- what is ordered is understood
 abbrev pub IsUnderstood : Config → Order → Request → Type 0
-IsUnderstood c order r = (p : Peer) → peer_named c.peers order.to ≡ Some p → IsMeant c p order.key order.body r
+IsUnderstood c order r = (p : Peer) → peer_named c.peers order.to ≡ Some p → IsMeant (mark_for c p) order.key order.body r

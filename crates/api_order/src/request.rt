@@ -60,7 +60,7 @@ fn ask_free(
 ) -> Result<Request, Memory>
     requires { IsTest question.now.test }
     ensures request { IfOk result (λ made. made ≡ request_by (mark_for config.now peer.now) key (OrderBody.Free question.now)) }
-    ensures meant { IfOk result (IsMeant config.now peer.now key (OrderBody.Free question.now)) }
+    ensures meant { IfOk result (IsMeant (mark_for config.now peer.now) key (OrderBody.Free question.now)) }
 {
     let body = question_bytes(alloc, question)?;
     let path = Text::new(alloc, "/pscheduler/peer/free")?;
@@ -76,7 +76,7 @@ fn propose(
 ) -> Result<Request, Memory>
     requires { IsTest proposal.now.test }
     ensures request { IfOk result (λ made. made ≡ request_by (mark_for config.now peer.now) key (OrderBody.Propose proposal.now)) }
-    ensures meant { IfOk result (IsMeant config.now peer.now key (OrderBody.Propose proposal.now)) }
+    ensures meant { IfOk result (IsMeant (mark_for config.now peer.now) key (OrderBody.Propose proposal.now)) }
 {
     let body = proposal_bytes(alloc, proposal)?;
     let path = Text::new(alloc, "/pscheduler/peer/runs")?;
@@ -85,7 +85,7 @@ fn propose(
 
 fn confirm(alloc: Global, config: &Config, peer: &Peer, key: RunKey) -> Result<Request, Memory>
     ensures request { IfOk result (λ made. made ≡ request_by (mark_for config.now peer.now) key OrderBody.Confirm) }
-    ensures meant { IfOk result (IsMeant config.now peer.now key OrderBody.Confirm) }
+    ensures meant { IfOk result (IsMeant (mark_for config.now peer.now) key OrderBody.Confirm) }
 {
     let path = run_path(alloc, key, "/confirm")?;
     ask(alloc, config, peer, "PUT", path, Items::new(alloc))
@@ -93,7 +93,7 @@ fn confirm(alloc: Global, config: &Config, peer: &Peer, key: RunKey) -> Result<R
 
 fn cancel(alloc: Global, config: &Config, peer: &Peer, key: RunKey) -> Result<Request, Memory>
     ensures request { IfOk result (λ made. made ≡ request_by (mark_for config.now peer.now) key OrderBody.Cancel) }
-    ensures meant { IfOk result (IsMeant config.now peer.now key OrderBody.Cancel) }
+    ensures meant { IfOk result (IsMeant (mark_for config.now peer.now) key OrderBody.Cancel) }
 {
     let path = run_path(alloc, key, "")?;
     ask(alloc, config, peer, "DELETE", path, Items::new(alloc))
@@ -107,7 +107,7 @@ fn hand_over(
     text: &Text,
 ) -> Result<Request, Memory>
     ensures request { IfOk result (λ made. made ≡ request_by (mark_for config.now peer.now) key (OrderBody.Material text.now)) }
-    ensures meant { IfOk result (IsMeant config.now peer.now key (OrderBody.Material text.now)) }
+    ensures meant { IfOk result (IsMeant (mark_for config.now peer.now) key (OrderBody.Material text.now)) }
 {
     let body = material_bytes(alloc, text)?;
     let path = run_path(alloc, key, "/material")?;
@@ -116,7 +116,7 @@ fn hand_over(
 
 fn ask_result(alloc: Global, config: &Config, peer: &Peer, key: RunKey) -> Result<Request, Memory>
     ensures request { IfOk result (λ made. made ≡ request_by (mark_for config.now peer.now) key OrderBody.Result) }
-    ensures meant { IfOk result (IsMeant config.now peer.now key OrderBody.Result) }
+    ensures meant { IfOk result (IsMeant (mark_for config.now peer.now) key OrderBody.Result) }
 {
     let path = run_path(alloc, key, "/result")?;
     ask(alloc, config, peer, "GET", path, Items::new(alloc))
@@ -132,7 +132,7 @@ fn request_by(
 ) -> Result<Request, Memory>
     requires { IsOrder body.now }
     ensures request { IfOk result (λ made. made ≡ request_by (mark_for config.now peer.now) key body.now) }
-    ensures meant { IfOk result (IsMeant config.now peer.now key body.now) }
+    ensures meant { IfOk result (IsMeant (mark_for config.now peer.now) key body.now) }
 {
     match body {
         OrderBody::Free(question) => ask_free(alloc, config, peer, key, question),

@@ -10,4 +10,4 @@ returns-clause-meant c =
     let peer = c.args.peer.now in
     let body = Free c.args.question.now in
     let made = rw (c.in_ok-path.ensures, c.in_ok-body.ensures.text) at c.ask.ensures in
-    of_same (IsMeant self peer c.args.key body) c.ask.result (request_by (mark_for self peer) c.args.key body) made (free_meant self peer c.args.key c.args.question.now c.in_ok-body.ensures.reads)
+    of_same (IsMeant (mark_for self peer) c.args.key body) c.ask.result (request_by (mark_for self peer) c.args.key body) made (free_meant (mark_for self peer) c.args.key c.args.question.now c.in_ok-body.ensures.reads)

@@ -12,4 +12,4 @@ returns-clause-meant c =
     let self = c.args.config.now in
     let peer = c.args.peer.now in
     let made = rw (c.in_ok-path.ensures.text, c.new.ensures) at c.ask.ensures in
-    of_same (IsMeant self peer c.args.key Confirm) c.ask.result (request_by (mark_for self peer) c.args.key Confirm) made (confirm_meant self peer c.args.key c.in_ok-path.ensures.reads)
+    of_same (IsMeant (mark_for self peer) c.args.key Confirm) c.ask.result (request_by (mark_for self peer) c.args.key Confirm) made (confirm_meant (mark_for self peer) c.args.key c.in_ok-path.ensures.reads)

@@ -10,4 +10,4 @@ returns-clause-meant c =
     let peer = c.args.peer.now in
     let body = Material c.args.text.now in
     let made = rw (c.in_ok-path.ensures.text, c.in_ok-body.ensures.text) at c.ask.ensures in
-    of_same (IsMeant self peer c.args.key body) c.ask.result (request_by (mark_for self peer) c.args.key body) made (material_meant self peer c.args.key c.in_ok-path.ensures.reads c.args.text.now c.in_ok-body.ensures.reads)
+    of_same (IsMeant (mark_for self peer) c.args.key body) c.ask.result (request_by (mark_for self peer) c.args.key body) made (material_meant (mark_for self peer) c.args.key c.in_ok-path.ensures.reads c.args.text.now c.in_ok-body.ensures.reads)

@@ -10,4 +10,4 @@ returns-clause-meant c =
     let peer = c.args.peer.now in
     let body = Propose c.args.proposal.now in
     let made = rw (c.in_ok-path.ensures, c.in_ok-body.ensures.text) at c.ask.ensures in
-    of_same (IsMeant self peer c.args.key body) c.ask.result (request_by (mark_for self peer) c.args.key body) made (propose_meant self peer c.args.key c.args.proposal.now c.in_ok-body.ensures.reads)
+    of_same (IsMeant (mark_for self peer) c.args.key body) c.ask.result (request_by (mark_for self peer) c.args.key body) made (propose_meant (mark_for self peer) c.args.key c.args.proposal.now c.in_ok-body.ensures.reads)
