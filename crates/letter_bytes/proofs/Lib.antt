@@ -1,0 +1,4 @@
+mod ReadLemmas
+mod Samples
+mod ValueLemmas
+mod WriteLemmas
