@@ -8,9 +8,9 @@ use Rattle.psched_script.specs.Lawful.{AreLawfulHosts}
 use Rattle.psched_script.specs.declared.script.ScriptHost.{ScriptHost}
 use Rattle.rehearsal_model.specs.After.{moved_seen}
 use Rattle.rehearsal_model.specs.Moves.{Move, joining}
-use Rattle.rehearsal_model.specs.Reaching.{MayMove}
+use Rattle.rehearsal_model.specs.Reaching.{IsScriptPeer, MayMove}
 use Rattle.rehearsal_model.specs.Rehearsal.{Show, first_show}
-use Rattle.rehearsal_model.specs.Seen.{Seen, is_sent}
+use Rattle.rehearsal_model.specs.Seen.{Seen, config_at, is_sent}
 use Rattle.rehearsal_model.proofs.LineLemmas.{is_within}
 use Rattle.psched_rehearse.specs.Ready.{IsReady}
 use Rattle.psched_rehearse.specs.Playing.{IsPlaying}
@@ -59,6 +59,9 @@ module _ (hosts : List ScriptHost) (b : Seen) (shown : IsShown hosts b) where
   -- ---- what a step asks
   pub is_playing : IsPlaying hosts b
   is_playing = subst (IsPlaying hosts) shown.seen_so (playing hosts shown.lawful shown.show shown.reaches)
+
+  pub peers : (place : ℕ) → place < 8 → All IsScriptPeer (config_at b place).peers
+  peers place within = is_playing.peers place (omega (arith, within, is_playing.places, shown.eight))
 
   pub ready : (place clock : ℕ) → place < 8 → clock ≤ greatest_moment → IsReady b place clock
   ready place clock within low =

@@ -3,6 +3,7 @@ use Rattle.std.specs.Prelude.{codes}
 use Rattle.std.proofs.Common.{◌≡◌, ◌≤◌, ◌<◌, ◌+◌, ◌%◌, ◌∙◌, Err, Ok, OnOk, Result, ℕ, zero, suc, Bool, true, false, List, [], ◌∷◌, ap, arith, length, refl, subst, sym}
 use Rattle.std.proofs.lemmas.Nat.{mod_below}
 use Rattle.ps_time.specs.Numbers.{greatest_moment}
+use Rattle.ps_doors.specs.declared.archiver.Tried.TheVariants.{Succeeded}
 use Rattle.psched_script.specs.Lawful.{AreLawfulHosts}
 use Rattle.psched_script.specs.declared.script.ScriptHost.{ScriptHost}
 use Rattle.psched_script.specs.declared.script.ScriptLine.TheVariants as line
@@ -104,8 +105,9 @@ module _ (hosts : List ScriptHost) (lawful : AreLawfulHosts hosts) (eight : leng
       (seconds_alike place start within n (omega (arith, low)) st bt alike)
 
   -- ---- a post
+  -- whatever comes of attempts
   posting_is : (b : Seen) (clock : ℕ) (q : Post) → b.last ≤ greatest_moment → clock ≤ greatest_moment → q.place < 8 → IsMove hosts b (posting b clock q)
-  posting_is b clock q last low within = move_is hosts b last (line.Post clock q.place (codes "127.0.0.1") (body_of q)) (low, there q.place within, omega arith)
+  posting_is b clock q last low within = move_is (λ archiver settings tried. Succeeded) hosts b last (line.Post clock q.place (codes "127.0.0.1") (body_of q)) (low, there q.place within, omega arith)
 
   pub post_seen : (clock : ℕ) (q : Post) → clock ≤ greatest_moment → q.place < 8 → (s : Show) (b : Seen) → Seeing s b → MayMove b (posting b clock q) → Seeing (posted (plays hosts) clock q s) (posted (shows hosts) clock q b)
   unfolding posted

@@ -29,7 +29,7 @@ pub fn generate(alloc: Global, count: u32) -> Result<Text, Memory>
     let hosts = work_hosts(alloc)?;
     let all = hosts.as_slice();
     let seats = open_hosts(alloc, all)?;
-    let mut now = Rehearsal::new(alloc, seats);
+    let mut now = Rehearsal::new(alloc, seats)?;
     let mut tally = Tally::new(alloc);
     run_posts(alloc, all, &mut now, &mut tally, count)?;
     summarize(alloc, count, &now, &tally)

@@ -1,12 +1,12 @@
 //! Moves of the hosts, each at a moment.
-ghost use Rattle.std.specs.Prelude.{◌≡◌, ◌<◌, ◌≤◌, IfOk, List, OnOk, codes, true};
+ghost use Rattle.std.specs.Prelude.{◌≡◌, ◌<◌, ◌≤◌, All, IfOk, List, OnOk, codes, true};
 ghost use Rattle.ps_time.specs.declared.moment.TheConstants.{MAX_MOMENT};
 ghost use Rattle.host_model.specs.Conditions.{IsInput};
 ghost use Rattle.psched_script.specs.declared.script.ScriptHost.{ScriptHost};
 ghost use Rattle.psched_rehearse.specs.Playing.{IsPlaying};
 ghost use Rattle.rehearsal_model.specs.After.{moved_seen};
 ghost use Rattle.rehearsal_model.specs.Moves.{Move.Arrives, Move.Lost, Move.Reopens, Move.Turns, asking};
-ghost use Rattle.rehearsal_model.specs.Reaching.{MayMove};
+ghost use Rattle.rehearsal_model.specs.Reaching.{IsScriptPeer, MayMove};
 ghost use Rattle.rehearsal_model.specs.Requests.{post as reading};
 ghost use Rattle.rehearsal_model.specs.Seen.{config_at, is_sent};
 ghost use Rattle.psched_rehearse.specs.Moved.{with_move};
@@ -31,7 +31,8 @@ pub fn take_turn(
     place: usize,
     clock: Moment,
 ) -> Result<(), Memory>
-    requires { IsReady now.old place clock }
+    requires ready { IsReady now.old place clock }
+    requires peers { All IsScriptPeer (config_at now.old place).peers }
     ensures { (hosts : List ScriptHost) → OnOk result (now.new ≡ moved_seen hosts now.old clock (Turns place clock)) }
 {
     let reply = turn(alloc, now, place, clock)?;

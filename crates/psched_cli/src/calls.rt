@@ -1,4 +1,5 @@
 //! Calls of psched over a source and a sink in memory.
+use archivers::plain::PlainArchivers;
 use ps_ports::memory_sink::MemorySink;
 use ps_ports::memory_source::MemorySource;
 use psched_top::psched::psched;
@@ -41,7 +42,8 @@ fn call(
     sink: &mut MemorySink,
     text: &str,
 ) -> Ran {
-    let status = psched(alloc, words, source, sink);
+    let mut archivers = PlainArchivers::new();
+    let status = psched(alloc, words, source, sink, &mut archivers);
     Ran {
         status,
         as_expected: sink.written() == text.as_bytes(),

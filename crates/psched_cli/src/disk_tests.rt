@@ -1,11 +1,11 @@
 //! When the disks of the hosts of a rehearsal are written: as each step is made, and not at the end.
-ghost use Rattle.std.specs.Prelude.{IfOk};
 ghost use Rattle.psched_script.specs.Lawful.{IsLawful};
 
+use crate::scripts::script;
+use archivers::plain::PlainArchivers;
 use ps_time::memory::Memory;
 use psched_rehearse::rehearse::{Disks, Rehearsed, run_script};
-use psched_script::read::read_script;
-use psched_script::script::{Script, ScriptFault};
+use psched_script::script::Script;
 use std::alloc::Global;
 use std::process::Abort;
 use std::test::Fail;
@@ -24,20 +24,6 @@ static CALLS: &str = "\
 1 5 <- host a 1|0 a crash 2 torn|0 a book exclusive 0 100 10|0 a book exclusive 0 100 10
 1 1 <- host a 1|0 a crash 4 new|0 a book exclusive 0 100 10|0 a book exclusive 0 100 10";
 
-fn read(alloc: Global, text: &str) -> Result<Script, Fail>
-    ensures { IfOk result IsLawful }
-{
-    let mut bytes = Vec::new(alloc);
-    for byte in text.bytes() {
-        bytes.push(if byte == b'|' { b'\n' } else { byte })?;
-    }
-    match read_script(alloc, bytes.as_slice()) {
-        Ok(script) => Ok(script),
-        Err(ScriptFault::Memory) => Err(Fail::from(Memory)),
-        Err(_refused) => Err(Fail::from("refused")),
-    }
-}
-
 fn calls(disks: &[Disks]) -> (u64, u64) {
     match disks {
         [(first, second)] => (first.calls(), second.calls()),
@@ -48,14 +34,15 @@ fn calls(disks: &[Disks]) -> (u64, u64) {
 fn ran(alloc: Global, script: &Script) -> Result<(u64, u64), Memory>
     requires { IsLawful script.now }
 {
-    let Rehearsed { report, disks } = run_script(alloc, script)?;
+    let mut archivers = PlainArchivers::new();
+    let Rehearsed { report, disks } = run_script(alloc, script, &mut archivers)?;
     let counted = calls(disks.as_slice());
     drop((report, disks));
     Ok(counted)
 }
 
-fn is_told(alloc: Global, script: &str, wanted: &str) -> Result<bool, Fail> {
-    let script = read(alloc, script)?;
+fn is_told(alloc: Global, text: &str, wanted: &str) -> Result<bool, Fail> {
+    let script = script(alloc, text)?;
     let (first, second) = ran(alloc, &script)?;
     let told = format!(in alloc; "{first} {second}")?;
     Ok(told.as_str() == wanted)
@@ -63,8 +50,8 @@ fn is_told(alloc: Global, script: &str, wanted: &str) -> Result<bool, Fail> {
 
 fn check_calls(rt: &impl Abort, alloc: Global, cases: &str) -> Result<(), Fail> {
     for case in cases.split('\n') {
-        let (wanted, script) = case.split_once(" <- ").ok_or("no script")?;
-        assert!(rt; is_told(alloc, script, wanted)?, "{wanted} at {script}");
+        let (wanted, text) = case.split_once(" <- ").ok_or("no script")?;
+        assert!(rt; is_told(alloc, text, wanted)?, "{wanted} at {text}");
     }
     Ok(())
 }

@@ -2,12 +2,17 @@
 #![tactic(auto)]
 
 #[cfg(test)]
+mod archive_tests;
+#[cfg(test)]
 mod calls;
 #[cfg(test)]
 mod disk_tests;
 #[cfg(test)]
 mod fault_tests;
+#[cfg(test)]
+mod scripts;
 
+use archivers::plain::PlainArchivers;
 use ps_ports::adapters::{ReaderSource, WriterSink};
 use psched_top::psched::{OUT_OF_MEMORY, psched};
 use std::alloc::Global;
@@ -31,5 +36,6 @@ fn main(rt: HostRuntime) -> ExitCode {
     };
     let mut source = ReaderSource::new(rt.stdin());
     let mut sink = WriterSink::new(rt.stdout());
-    ExitCode::from(psched(alloc, &words, &mut source, &mut sink))
+    let mut archivers = PlainArchivers::new();
+    ExitCode::from(psched(alloc, &words, &mut source, &mut sink, &mut archivers))
 }

@@ -1,3 +1,4 @@
+mod ArchiveLemmas
 mod ArriveLemmas
 mod LineLemmas
 pub mod PlayLemmas

@@ -1,22 +1,18 @@
 -- What a line does to what is seen, and the parts of its report.
 use Rattle.std.specs.Fmt.{decimal}
-use Rattle.std.specs.Prelude.{IfSome, codes, if◌then◌else◌}
+use Rattle.std.specs.Prelude.{codes, if◌then◌else◌}
 use Rattle.std.proofs.Common.{◌≡◌, ◌≤◌, ◌<◌, ◌+◌, ◌++◌, ◌∙◌, ℕ, Bool, true, false, List, Option, Some, None, ap, append_assoc, arith, drop, length}
 use Rattle.std.proofs.Math.Seq.{drop-append_seam}
-use Rattle.ps_time.specs.Numbers.{greatest_length}
-use Rattle.ps_doors.specs.declared.archiver.Tried.TheVariants.{Failed, Succeeded}
 use Rattle.std.specs.List.{list_all}
-use Rattle.std.specs.Str.{bytes_eq}
 use Rattle.plugin_core.specs.ReadTest.{all_differ}
 use Rattle.task_spec.specs.ReadTask.{is_tool}
 use Rattle.host_model.specs.Conditions.{IsConfig}
 use Rattle.host_model.specs.declared.config.Config.{Config}
 use Rattle.host_model.specs.declared.input.Input.{Input}
-use Rattle.host_model.specs.declared.lead.Due.{Due}
 use Rattle.psched_script.specs.declared.script.ScriptHost.{ScriptHost}
 use Rattle.psched_world.specs.World.{Letter}
 use Rattle.report_text.specs.Line.{line_text}
-use Rattle.rehearsal_model.specs.Moves.{Move, archived, retry_of, trying}
+use Rattle.rehearsal_model.specs.Moves.{Move}
 use Rattle.rehearsal_model.specs.Reaching.{MayMove}
 use Rattle.rehearsal_model.specs.Rehearsal.{letters_told, retooled}
 use Rattle.rehearsal_model.specs.Seen.{Seen, config_at}
@@ -49,21 +45,7 @@ told_as hosts b line old said begun new before after sent before_is after_is beg
 pub config_stepped : (b : Seen) (place clock : ℕ) (i : Input) → place < length b.stages → config_at (with_step b place clock i) place ≡ config_at b place
 config_stepped b place clock i lt = ap (λ s. s.config) (stage_stepped b place clock i lt)
 
--- ---- what may be tried
--- an archiver asks for no long wait
-chosen : (x y z : Bool) → IfSome (retry_of (if x then Succeeded else if y then (if z then Failed (codes "failed") (Some 0) else Succeeded) else Failed (codes "no such archiver") None)) (λ r. r ≤ greatest_length)
-chosen true y z = tt
-chosen false true true = omega arith
-chosen false true false = tt
-chosen false false z = tt
-
-archived_in : (archiver settings : List ℕ) (tried : ℕ) → IfSome (retry_of (archived archiver settings tried)) (λ r. r ≤ greatest_length)
-archived_in archiver settings tried = chosen (bytes_eq archiver (codes "bitbucket")) (bytes_eq archiver (codes "failer")) _
-
-pub may_try : (b : Seen) (place clock : ℕ) (o : Option Due) → MayMove b (trying place clock o)
-may_try b place clock None = tt
-may_try b place clock (Some d) = archived_in d.archiver d.settings d.tried
-
+-- ---- one of two moves
 pub may_either : (b : Seen) (t : Bool) (x y : Move) → MayMove b x → MayMove b y → MayMove b (if t then x else y)
 may_either b true x y may other = may
 may_either b false x y may other = other

@@ -12,14 +12,14 @@ use Rattle.psched_script.specs.declared.script.Numbered.{Numbered}
 use Rattle.psched_script.specs.declared.script.ScriptHost.{ScriptHost}
 use Rattle.report_text.specs.Line.{line_text}
 use Rattle.rehearsal_model.specs.After.{seen_after}
-use Rattle.rehearsal_model.specs.Moves.{move_of}
+use Rattle.rehearsal_model.specs.Moves.{Outcomes, move_of}
 use Rattle.rehearsal_model.specs.Reaching.{MayMove, Reaches}
 use Rattle.rehearsal_model.specs.Rehearsal.{Show, after, after_all, report_from, seen, told}
 use Rattle.rehearsal_model.specs.Seen.{Seen, is_sent}
 use Rattle.rehearsal_model.specs.Hosts.{first_config}
 use Rattle.rehearsal_model.proofs.HostLemmas.{right_first}
 use Rattle.rehearsal_model.proofs.LineLemmas.{line_reaches, line_seen}
-use Rattle.rehearsal_model.proofs.ReachLemmas.{brings_input, config_is, receiver_within}
+use Rattle.rehearsal_model.proofs.ReachLemmas.{brings_input, comes_known, config_is, receiver_within, replied_so, script_peers}
 use Rattle.psched_rehearse.specs.Playing.{IsPlaying}
 
 -- a number for which a test holds is among those of which P holds
@@ -39,6 +39,9 @@ playing hosts lawful s reach =
       configs = λ place within. config_is hosts lawful s reach place (subst (λ n. place < n) long within);
       receivers = λ n l sent. receiver_within hosts lawful s reach n l sent;
       asks = λ n l sent. brings_input hosts lawful s reach n l sent;
+      known = λ n l sent none. comes_known hosts lawful s reach n l sent none;
+      replies = λ n l clock sent none low widths. replied_so hosts lawful s reach n l sent none clock low widths;
+      peers = λ place within. script_peers hosts lawful s reach place (subst (λ n. place < n) long within);
       flying = λ n e. among (λ k. IsTrue (is_sent (seen hosts s) k)) s.flying n (recursion_from_All (λ k. IsTrue (is_sent (seen hosts s) k)) s.flying reach.flying) e;
       last = reach.last;
     }
@@ -48,30 +51,30 @@ pub right_config : (hosts : List ScriptHost) → AreLawfulHosts hosts → (place
 right_config hosts lawful place h within is = (right_first hosts lawful place h (slice_get-get_or hosts place h within ∙ ap Some (sym is))).config
 
 -- how far a rehearsal has come: some world is seen so, and with what is left to run all is reported
-pub record HasCome (hosts : List ScriptHost) (first : Show) (lines left : List Numbered) (old report : List ℕ) (b : Seen) : Type 0 where
+pub record HasCome (comes : Outcomes) (hosts : List ScriptHost) (first : Show) (lines left : List Numbered) (old report : List ℕ) (b : Seen) : Type 0 where
   pub show : Show
   pub reaches : Reaches hosts show
   pub seen_so : seen hosts show ≡ b
-  pub reported : old ++ report_from hosts first lines ≡ report ++ report_from hosts show left
-  pub ends : after_all hosts first lines ≡ after_all hosts show left
+  pub reported : old ++ report_from comes hosts first lines ≡ report ++ report_from comes hosts show left
+  pub ends : after_all comes hosts first lines ≡ after_all comes hosts show left
 
 -- one line more
-module _ (hosts : List ScriptHost) (lawful : AreLawfulHosts hosts) (first : Show) (lines left : List Numbered) (old report : List ℕ) (b : Seen) (l : Numbered) where
-  pub one_more : HasCome hosts first lines (l ∷ left) old report b → IsLawfulLine (length hosts) l.line → MayMove b (move_of b l.line)
-      → (report_after : List ℕ) → report_after ≡ report ++ line_text l.number (told hosts b l.line)
-      → (b_after : Seen) → b_after ≡ seen_after hosts b l.line
-      → HasCome hosts first lines left old report_after b_after
+module _ (comes : Outcomes) (hosts : List ScriptHost) (lawful : AreLawfulHosts hosts) (first : Show) (lines left : List Numbered) (old report : List ℕ) (b : Seen) (l : Numbered) where
+  pub one_more : HasCome comes hosts first lines (l ∷ left) old report b → IsLawfulLine (length hosts) l.line → MayMove b (move_of comes b l.line)
+      → (report_after : List ℕ) → report_after ≡ report ++ line_text l.number (told comes hosts b l.line)
+      → (b_after : Seen) → b_after ≡ seen_after comes hosts b l.line
+      → HasCome comes hosts first lines left old report_after b_after
   one_more come is may report_after says b_after sees =
       let s = come.show in
-      let may_then : MayMove (seen hosts s) (move_of (seen hosts s) l.line) = subst (λ (x : Seen). MayMove x (move_of x l.line)) (sym come.seen_so) may in
+      let may_then : MayMove (seen hosts s) (move_of comes (seen hosts s) l.line) = subst (λ (x : Seen). MayMove x (move_of comes x l.line)) (sym come.seen_so) may in
       record {
-        show = after hosts s l.line;
-        reaches = line_reaches hosts lawful s come.reaches l.line is may_then;
-        seen_so = line_seen hosts lawful s come.reaches l.line is ∙ (ap (λ x. seen_after hosts x l.line) come.seen_so ∙ sym sees);
+        show = after comes hosts s l.line;
+        reaches = line_reaches hosts lawful s come.reaches comes l.line is may_then;
+        seen_so = line_seen hosts lawful s come.reaches comes l.line is ∙ (ap (λ x. seen_after comes hosts x l.line) come.seen_so ∙ sym sees);
         reported =
             come.reported
-            ∙ (ap (λ x. report ++ (line_text l.number (told hosts x l.line) ++ report_from hosts (after hosts s l.line) left)) come.seen_so
-            ∙ (sym (append_assoc report (line_text l.number (told hosts b l.line)) (report_from hosts (after hosts s l.line) left))
-            ∙ ap (λ x. x ++ report_from hosts (after hosts s l.line) left) (sym says)));
+            ∙ (ap (λ x. report ++ (line_text l.number (told comes hosts x l.line) ++ report_from comes hosts (after comes hosts s l.line) left)) come.seen_so
+            ∙ (sym (append_assoc report (line_text l.number (told comes hosts b l.line)) (report_from comes hosts (after comes hosts s l.line) left))
+            ∙ ap (λ x. x ++ report_from comes hosts (after comes hosts s l.line) left) (sym says)));
         ends = come.ends;
       }

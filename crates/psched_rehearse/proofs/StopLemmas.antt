@@ -2,6 +2,7 @@
 use Rattle.std.specs.Prelude.{IfSome, codes, if◌then◌else◌}
 use Rattle.std.proofs.Common.{◌≡◌, ◌≤◌, ◌<◌, ◌-◌, ◌∙◌, ◌++◌, ℕ, Bool, true, false, Err, List, [], Ok, Option, Result, Some, None, ap, length, option_map, refl, subst, sym}
 use Rattle.std.specs.Result.{OnOk}
+use Rattle.ps_doors.specs.declared.archiver.Tried.TheVariants.{Succeeded}
 use Rattle.ps_time.specs.Numbers.{greatest_moment}
 use Rattle.host_model.specs.Conditions.{IsInput}
 use Rattle.host_model.specs.declared.input.Input.{Input}
@@ -11,7 +12,7 @@ use Rattle.psched_script.specs.declared.script.Stop.{Stop}
 use Rattle.psched_world.specs.Events.{Cause, brings}
 use Rattle.psched_world.specs.World.{Letter}
 use Rattle.report_text.specs.Line.{line_text}
-use Rattle.rehearsal_model.specs.Moves.{Crash, Move, crash_by, crash_in, crash_of, landed_with, receiver, unless_crash}
+use Rattle.rehearsal_model.specs.Moves.{Crash, Move, Outcomes, crash_by, crash_in, crash_of, landed_with, receiver, unless_crash}
 use Rattle.rehearsal_model.specs.Reaching.{MayMove}
 use Rattle.rehearsal_model.specs.Rehearsal.{told_unless}
 use Rattle.rehearsal_model.specs.Seen.{Seen, config_at, message, stop_at, stop_in}
@@ -21,6 +22,10 @@ use Rattle.rehearsal_state.proofs.MoveLemmas.{crashed}
 use Rattle.psched_rehearse.specs.Playing.{IsPlaying}
 use Rattle.psched_rehearse.specs.Stopping.{CanStop, step_of, stopped_in, stopped_step}
 use Rattle.psched_rehearse.specs.declared.stopping.StoppedStep.{StoppedStep}
+
+-- some outcomes, where a fact holds whatever comes of attempts
+abbrev pub all_well : Outcomes
+all_well archiver settings tried = Succeeded
 
 some_is : {A : Type 0} (a b : A) → Some a ≡ Some b → a ≡ b
 some_is a b e = cc

@@ -1,3 +1,4 @@
+pub mod Archiving
 pub mod Playing
 pub mod Stopping
 pub use Rattle.rehearsal_state.specs.Moved

@@ -1,11 +1,13 @@
 //! Messages of a rehearsal that arrive, arrive again, or are lost.
 ghost use Rattle.std.specs.Fmt.{decimal};
-ghost use Rattle.std.specs.Prelude.{◌≡◌, ◌+◌, ◌++◌, ◌∷◌, ◌≤◌, [], IfOk, List, OnOk, Some, codes, if◌then◌else◌, length, true};
+ghost use Rattle.std.specs.Prelude.{◌≡◌, ◌+◌, ◌++◌, ◌∷◌, ◌<◌, ◌≤◌, [], IfOk, List, None, OnOk, Some, codes, if◌then◌else◌, length, true};
 ghost use Rattle.ps_time.specs.declared.moment.TheConstants.{MAX_MOMENT};
 ghost use Rattle.psched_script.specs.declared.script.ScriptHost.{ScriptHost};
 ghost use Rattle.psched_world.specs.Events.{brings};
 ghost use Rattle.psched_world.specs.World.{Letter};
 ghost use Rattle.report_text.specs.Line.{line_text};
+ghost use Rattle.api_heard.specs.Replied.{IsReplyTo};
+ghost use Rattle.api_reply.specs.Bounds.{IsReplyShown};
 ghost use Rattle.api_reply.specs.Replies.{reply_status};
 ghost use Rattle.rehearsal_model.specs.Moves.{Move.Arrives, Move.Lost, Move.Rests, receiver, reply_to};
 ghost use Rattle.rehearsal_model.specs.Rehearsal.{arrival_told, letters_told};
@@ -13,6 +15,8 @@ ghost use Rattle.rehearsal_model.specs.Seen.{has_arrived, is_flying, is_sent, la
 ghost use Rattle.rehearsal_state.specs.Moved.{with_letters, with_move, with_step};
 ghost use Rattle.psched_rehearse.specs.Playing.{IsPlaying};
 
+use crate::ask::ask;
+use api_law::widths::reply_widths;
 use api_reply::respond::reply_status;
 use host_model::reply::Reply;
 use ps_time::memory::Memory;
@@ -38,22 +42,35 @@ fn bring(
     requires sent { is_sent now.old number ≡ true }
     requires clock { clock ≤ MAX_MOMENT }
     ensures reply { (l : Letter) → message now.old number ≡ Some l → IfOk result (λ reply. reply ≡ reply_to hosts.now now.old clock l) }
+    ensures shown { IfOk result IsReplyShown }
+    ensures told { (l : Letter) → message now.old number ≡ Some l → l.reply ≡ None → IfOk result (IsReplyTo l.order.body) }
     ensures seen { (l : Letter) → message now.old number ≡ Some l
         → OnOk result (now.new ≡ with_step (record now.old { flying = landed number now.old.flying }) (receiver hosts.now l) clock (brings l l.reply)) }
 {
-    let message = now.message(number);
-    let place = place_of(hosts, message.goes_to());
-    let input = message.brings(alloc)?;
+    let place = place_of(hosts, now.message(number).goes_to());
+    let input = now.brings(alloc, number, place, clock)?;
     now.land(number);
-    now.ask(alloc, place, clock, input)
+    let reply = ask(alloc, now, place, clock, input)?;
+    reply_widths(&reply);
+    Ok(reply)
 }
 
-/// An order was replied to: the reply is sent.
-fn send_back(alloc: Global, now: &mut Rehearsal, number: u64, reply: Reply) -> Result<(), Memory>
-    requires { is_sent now.old number ≡ true }
+/// An order was replied to by the host at a place: the reply is sent.
+fn send_back(
+    alloc: Global,
+    now: &mut Rehearsal,
+    number: u64,
+    place: usize,
+    reply: Reply,
+) -> Result<(), Memory>
+    requires sent { is_sent now.old number ≡ true }
+    requires place { place < length now.old.stages }
+    requires shown { IsReplyShown reply }
+    requires told { (l : Letter) → message now.old number ≡ Some l → IsReplyTo l.order.body reply }
     ensures { (l : Letter) → message now.old number ≡ Some l → OnOk result (now.new ≡ with_letters now.old (record l { reply = Some reply } ∷ [])) }
 {
-    let letter = now.message(number).answered(alloc, reply)?;
+    let config = now.seat(place).config();
+    let letter = now.message(number).answered(alloc, config, reply)?;
     now.send(letter)
 }
 
@@ -71,33 +88,40 @@ pub fn receive(
     requires clock { clock ≤ MAX_MOMENT }
     ensures { OnOk result (now.new ≡ with_move hosts.now now.old (Arrives number clock)) }
 {
-    let is_order = now.message(number).reply.is_none();
+    let message = now.message(number);
+    let is_order = message.reply.is_none();
+    let place = place_of(hosts, message.goes_to());
     let reply = bring(alloc, hosts, now, number, clock)?;
     if is_order {
-        return send_back(alloc, now, number, reply);
+        return send_back(alloc, now, number, place, reply);
     }
     drop(reply);
     Ok(())
 }
 
-/// An order was replied to: the reply is sent, and both are reported.
+/// An order was replied to by the host at a place: the reply is sent, and both are reported.
 fn send_reply(
     alloc: Global,
     hosts: &[ScriptHost],
     now: &mut Rehearsal,
     number: u64,
+    place: usize,
     reply: Reply,
     line: u64,
     report: &mut ReportText,
 ) -> Result<(), Memory>
-    requires { is_sent now.old number ≡ true }
+    requires sent { is_sent now.old number ≡ true }
+    requires place { place < length now.old.stages }
+    requires shown { IsReplyShown reply }
+    requires told { (l : Letter) → message now.old number ≡ Some l → IsReplyTo l.order.body reply }
     ensures report { (l : Letter) → message now.old number ≡ Some l
         → OnOk result (report.new ≡ report.old ++ line_text line (decimal (reply_status reply) ++ letters_told hosts.now (length now.old.letters + 1) (record l { reply = Some reply } ∷ []))) }
     ensures seen { (l : Letter) → message now.old number ≡ Some l → OnOk result (now.new ≡ with_letters now.old (record l { reply = Some reply } ∷ [])) }
 {
     let before = now.messages().len();
     let status = reply_status(&reply);
-    let letter = now.message(number).answered(alloc, reply)?;
+    let config = now.seat(place).config();
+    let letter = now.message(number).answered(alloc, config, reply)?;
     now.send(letter)?;
     begin_status(report, line, status)?;
     add_letters(report, hosts, now.messages(), before)
@@ -119,10 +143,12 @@ fn arrive(
     ensures report { OnOk result (report.new ≡ report.old ++ line_text line (arrival_told hosts.now now.old clock (message now.old number))) }
     ensures seen { OnOk result (now.new ≡ with_move hosts.now now.old (Arrives number clock)) }
 {
-    let is_order = now.message(number).reply.is_none();
+    let message = now.message(number);
+    let is_order = message.reply.is_none();
+    let place = place_of(hosts, message.goes_to());
     let reply = bring(alloc, hosts, now, number, clock)?;
     if is_order {
-        return send_reply(alloc, hosts, now, number, reply, line, report);
+        return send_reply(alloc, hosts, now, number, place, reply, line, report);
     }
     drop(reply);
     add_said(report, line, "heard")

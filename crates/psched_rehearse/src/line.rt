@@ -1,23 +1,24 @@
 //! A line of a script is run on the hosts as they stand, and reported.
-ghost use Rattle.std.specs.Prelude.{◌≡◌, ◌++◌, ◌<◌, List, OnOk, codes, length, true};
+ghost use Rattle.std.specs.Prelude.{◌≡◌, ◌++◌, ◌<◌, All, List, OnOk, codes, false, length, true};
 ghost use Rattle.psched_script.specs.Lawful.{IsLawfulLine};
 ghost use Rattle.psched_script.specs.declared.script.ScriptHost.{ScriptHost};
 ghost use Rattle.report_text.specs.Line.{line_text};
 ghost use Rattle.rehearsal_model.specs.After.{seen_after};
-ghost use Rattle.host_model.specs.Conditions.{IsConfig, IsInput};
-ghost use Rattle.rehearsal_model.specs.Moves.{Move.Turns, landed_with, move_of, stopped};
-ghost use Rattle.rehearsal_model.specs.Reaching.{MayMove};
+ghost use Rattle.host_model.specs.Conditions.{IsConfig};
+ghost use Rattle.rehearsal_model.specs.Moves.{Move.Turns, Outcomes, move_of, stopped};
+ghost use Rattle.rehearsal_model.specs.Reaching.{IsScriptPeer, MayMove};
 ghost use Rattle.rehearsal_model.specs.Rehearsal.{plainly_told, retooled, told, turn_told};
 ghost use Rattle.rehearsal_model.specs.Seen.{config_at};
-ghost use Rattle.rehearsal_state.specs.Moved.{with_crash, with_move, with_stop, with_tools};
+ghost use Rattle.rehearsal_state.specs.Moved.{with_move, with_stop, with_tools};
 ghost use Rattle.rehearsal_state.specs.Ready.{IsReady};
-ghost use Rattle.psched_rehearse.specs.Playing.{AreConfigs, IsPlaying, is_asked, is_at_path};
+ghost use Rattle.psched_rehearse.specs.Playing.{AreConfigs, IsPlaying, is_archive, is_asked, is_at_path};
 
 use crate::archive::archive;
 use crate::arrive::{deliver, lose, repeat};
 use crate::ask::{book, booking, limit};
 use crate::request::{delete, get, post};
-use crate::stopping::{StoppedStep, stopped_step};
+use crate::stopping::{crash, stopped_step};
+use archivers::by_name::Archivers;
 use ps_time::items::Items;
 use ps_time::memory::Memory;
 use ps_time::moment::Moment;
@@ -74,7 +75,8 @@ fn take_turn(
     line: u64,
     report: &mut ReportText,
 ) -> Result<(), Memory>
-    requires { IsReady now.old place clock }
+    requires ready { IsReady now.old place clock }
+    requires peers { All IsScriptPeer (config_at now.old place).peers }
     ensures report { OnOk result (report.new ≡ report.old ++ line_text line (turn_told hosts.now now.old place clock)) }
     ensures seen { OnOk result (now.new ≡ with_move hosts.now now.old (Turns place clock)) }
 {
@@ -97,9 +99,9 @@ fn run_at_path(
     requires kind { is_at_path event.now ≡ true }
     requires lawful { IsLawfulLine (length now.old.stages) event.now }
     requires configs { AreConfigs now.old }
-    ensures report { (hosts : List ScriptHost) → OnOk result (report.new ≡ report.old ++ line_text line (plainly_told hosts now.old event.now)) }
-    ensures seen { (hosts : List ScriptHost) → OnOk result (now.new ≡ with_move hosts now.old (move_of now.old event.now)) }
-    ensures may { OnOk result (MayMove now.old (move_of now.old event.now)) }
+    ensures report { (comes : Outcomes) (hosts : List ScriptHost) → OnOk result (report.new ≡ report.old ++ line_text line (plainly_told comes hosts now.old event.now)) }
+    ensures seen { (comes : Outcomes) (hosts : List ScriptHost) → OnOk result (now.new ≡ with_move hosts now.old (move_of comes now.old event.now)) }
+    ensures may { (comes : Outcomes) → OnOk result (MayMove now.old (move_of comes now.old event.now)) }
 {
     match event {
         ScriptLine::Get { at, host, path } => {
@@ -130,9 +132,9 @@ fn run_asked(
     requires kind { is_asked event.now ≡ true }
     requires lawful { IsLawfulLine (length now.old.stages) event.now }
     requires configs { AreConfigs now.old }
-    ensures report { (hosts : List ScriptHost) → OnOk result (report.new ≡ report.old ++ line_text line (plainly_told hosts now.old event.now)) }
-    ensures seen { (hosts : List ScriptHost) → OnOk result (now.new ≡ with_move hosts now.old (move_of now.old event.now)) }
-    ensures may { OnOk result (MayMove now.old (move_of now.old event.now)) }
+    ensures report { (comes : Outcomes) (hosts : List ScriptHost) → OnOk result (report.new ≡ report.old ++ line_text line (plainly_told comes hosts now.old event.now)) }
+    ensures seen { (comes : Outcomes) (hosts : List ScriptHost) → OnOk result (now.new ≡ with_move hosts now.old (move_of comes now.old event.now)) }
+    ensures may { (comes : Outcomes) → OnOk result (MayMove now.old (move_of comes now.old event.now)) }
 {
     match event {
         ScriptLine::Book {
@@ -159,7 +161,7 @@ fn run_asked(
     }
 }
 
-// What a line asks for happens, and no step of it stops.
+// What a line asks for happens, and no step of it stops. The line has no host try an archive.
 fn run_event(
     alloc: Global,
     hosts: &[ScriptHost],
@@ -168,18 +170,18 @@ fn run_event(
     line: u64,
     report: &mut ReportText,
 ) -> Result<(), Memory>
+    requires kind { is_archive event.now ≡ false }
     requires playing { IsPlaying hosts.now now.old }
     requires lawful { IsLawfulLine (length hosts.now) event.now }
-    ensures report { OnOk result (report.new ≡ report.old ++ line_text line (plainly_told hosts.now now.old event.now)) }
-    ensures seen { OnOk result (now.new ≡ with_move hosts.now now.old (move_of now.old event.now)) }
-    ensures may { OnOk result (MayMove now.old (move_of now.old event.now)) }
+    ensures report { (comes : Outcomes) → OnOk result (report.new ≡ report.old ++ line_text line (plainly_told comes hosts.now now.old event.now)) }
+    ensures seen { (comes : Outcomes) → OnOk result (now.new ≡ with_move hosts.now now.old (move_of comes now.old event.now)) }
+    ensures may { (comes : Outcomes) → OnOk result (MayMove now.old (move_of comes now.old event.now)) }
 {
     match event {
         ScriptLine::Host { .. } => add_ok(report, line),
         ScriptLine::Tools { host, tools } => retool(alloc, now, *host, tools, line, report),
         ScriptLine::Limits { host, limits } => limit(alloc, now, *host, limits, line, report),
         ScriptLine::Turn { at, host } => take_turn(alloc, hosts, now, *host, *at, line, report),
-        ScriptLine::Archive { at, host } => archive(alloc, now, *host, *at, line, report),
         ScriptLine::Crash { at: _, host, stop } => arm(now, *host, *stop, line, report),
         ScriptLine::Deliver { at, message } => deliver(
             alloc, hosts, now, *message, *at, line, report,
@@ -192,24 +194,7 @@ fn run_event(
     }
 }
 
-// A step stops, and its host is opened again.
-fn crash(
-    alloc: Global,
-    now: &mut Rehearsal,
-    step: StoppedStep,
-    line: u64,
-    report: &mut ReportText,
-) -> Result<(), Memory>
-    requires ready { IsReady now.old step.place step.clock }
-    requires input { IsInput (config_at now.old step.place) step.input }
-    ensures report { OnOk result (report.new ≡ report.old ++ line_text line (codes "crashed")) }
-    ensures seen { OnOk result (now.new ≡ with_crash (record now.old { flying = landed_with step.landing now.old.flying }) step.place step.clock step.input step.stop) }
-{
-    step.crash(alloc, now)?;
-    add_said(report, line, "crashed")
-}
-
-// What a line asks for happens, or its step stops.
+// What a line asks for happens, or its step stops. The line has no host try an archive.
 fn run_or_crash(
     alloc: Global,
     hosts: &[ScriptHost],
@@ -218,11 +203,12 @@ fn run_or_crash(
     line: u64,
     report: &mut ReportText,
 ) -> Result<(), Memory>
+    requires kind { is_archive event.now ≡ false }
     requires playing { IsPlaying hosts.now now.old }
     requires lawful { IsLawfulLine (length hosts.now) event.now }
-    ensures report { OnOk result (report.new ≡ report.old ++ line_text line (told hosts.now now.old event.now)) }
-    ensures seen { OnOk result (now.new ≡ with_move hosts.now now.old (stopped hosts.now now.old (move_of now.old event.now))) }
-    ensures may { OnOk result (MayMove now.old (move_of now.old event.now)) }
+    ensures report { (comes : Outcomes) → OnOk result (report.new ≡ report.old ++ line_text line (told comes hosts.now now.old event.now)) }
+    ensures seen { (comes : Outcomes) → OnOk result (now.new ≡ with_move hosts.now now.old (stopped hosts.now now.old (move_of comes now.old event.now))) }
+    ensures may { (comes : Outcomes) → OnOk result (MayMove now.old (move_of comes now.old event.now)) }
 {
     match stopped_step(alloc, hosts, now, event)? {
         Some(step) => crash(alloc, now, step, line, report),
@@ -230,21 +216,49 @@ fn run_or_crash(
     }
 }
 
-/// Runs a line of a script and reports it. The greatest moment of the lines is that of this line, where it is later.
-pub fn run_line(
+// An attempt is made, where the line asks for one, or what else it asks for happens; or its step stops.
+fn try_or_run<A: Archivers>(
     alloc: Global,
     hosts: &[ScriptHost],
+    archivers: &mut A,
+    now: &mut Rehearsal,
+    event: &ScriptLine,
+    line: u64,
+    report: &mut ReportText,
+) -> Result<(), Memory>
+    requires playing { IsPlaying hosts.now now.old }
+    requires lawful { IsLawfulLine (length hosts.now) event.now }
+    ensures report { OnOk result (report.new ≡ report.old ++ line_text line (told (A.comes archivers.old) hosts.now now.old event.now)) }
+    ensures seen { OnOk result (now.new ≡ with_move hosts.now now.old (stopped hosts.now now.old (move_of (A.comes archivers.old) now.old event.now))) }
+    ensures may { OnOk result (MayMove now.old (move_of (A.comes archivers.old) now.old event.now)) }
+    ensures stays { A.comes archivers.new ≡ A.comes archivers.old }
+{
+    match event {
+        ScriptLine::Archive { at, host } => archive(
+            alloc, archivers, now, *host, *at, line, report,
+        ),
+        _ => run_or_crash(alloc, hosts, now, event, line, report),
+    }
+}
+
+/// Runs a line of a script and reports it. The greatest moment of the lines is that of this line, where it is later.
+pub fn run_line<A: Archivers>(
+    alloc: Global,
+    hosts: &[ScriptHost],
+    archivers: &mut A,
     now: &mut Rehearsal,
     numbered: &Numbered,
     report: &mut ReportText,
 ) -> Result<(), Memory>
     requires playing { IsPlaying hosts.now now.old }
     requires lawful { IsLawfulLine (length hosts.now) numbered.now.line }
-    ensures report { OnOk result (report.new ≡ report.old ++ line_text numbered.now.number (told hosts.now now.old numbered.now.line)) }
-    ensures seen { OnOk result (now.new ≡ seen_after hosts.now now.old numbered.now.line) }
-    ensures may { OnOk result (MayMove now.old (move_of now.old numbered.now.line)) }
+    ensures report { OnOk result (report.new ≡ report.old ++ line_text numbered.now.number (told (A.comes archivers.old) hosts.now now.old numbered.now.line)) }
+    ensures seen { OnOk result (now.new ≡ seen_after (A.comes archivers.old) hosts.now now.old numbered.now.line) }
+    ensures may { OnOk result (MayMove now.old (move_of (A.comes archivers.old) now.old numbered.now.line)) }
+    ensures stays { A.comes archivers.new ≡ A.comes archivers.old }
 {
-    run_or_crash(alloc, hosts, now, &numbered.line, numbered.number, report)?;
+    let line = numbered.number;
+    try_or_run(alloc, hosts, archivers, now, &numbered.line, line, report)?;
     now.advance(numbered.line.moment().unwrap_or(0));
     Ok(())
 }

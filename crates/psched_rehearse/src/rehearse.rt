@@ -9,6 +9,7 @@ ghost use Rattle.rehearsal_model.specs.Rehearsal.{first_show, last_show, report_
 ghost use Rattle.rehearsal_state.specs.Kept.{AreKeptOn};
 
 use crate::line::run_line;
+use archivers::by_name::Archivers;
 use ps_disks::memory_disk::MemoryDisk;
 use ps_time::items::Items;
 use ps_time::memory::Memory;
@@ -34,17 +35,19 @@ pub fn open_hosts(alloc: Global, hosts: &[ScriptHost]) -> Result<Vec<Seat>, Memo
     Ok(seats)
 }
 
-fn run_lines(
+fn run_lines<A: Archivers>(
     alloc: Global,
     script: &Script,
+    archivers: &mut A,
     now: &mut Rehearsal,
     report: &mut ReportText,
 ) -> Result<(), Memory>
     requires lawful { IsLawful script.now }
     requires first { now.old ≡ first_seen script.now.hosts }
-    ensures report { OnOk result (report.new ≡ report.old ++ report_from script.now.hosts (first_show script.now.hosts) script.now.lines) }
-    ensures seen { OnOk result (now.new ≡ seen script.now.hosts (last_show script.now)) }
-    ensures reaches { OnOk result (Reaches script.now.hosts (last_show script.now)) }
+    ensures report { OnOk result (report.new ≡ report.old ++ report_from (A.comes archivers.old) script.now.hosts (first_show script.now.hosts) script.now.lines) }
+    ensures seen { OnOk result (now.new ≡ seen script.now.hosts (last_show (A.comes archivers.old) script.now)) }
+    ensures reaches { OnOk result (Reaches script.now.hosts (last_show (A.comes archivers.old) script.now)) }
+    ensures stays { A.comes archivers.new ≡ A.comes archivers.old }
 {
     law_first();
     law_line();
@@ -52,7 +55,7 @@ fn run_lines(
     law_message();
     let hosts = script.hosts.as_slice();
     for numbered in script.lines.as_slice() {
-        run_line(alloc, hosts, now, numbered, report)?;
+        run_line(alloc, hosts, archivers, now, numbered, report)?;
     }
     Ok(())
 }
@@ -91,20 +94,25 @@ fn disks_of(alloc: Global, seats: Vec<Seat>) -> Result<Vec<Disks>, Memory>
     Ok(disks)
 }
 
-/// Runs the hosts of a script, each opened with an empty book at moment 0, and gives the report on what they do, and their disks.
-/// docs/specification/rehearsal.md states the report.
-pub fn run_script(alloc: Global, script: &Script) -> Result<Rehearsed, Memory>
+/// Runs the hosts of a script, each opened with an empty book at moment 0, with these archivers, and gives the report on what they do,
+/// and their disks. docs/specification/rehearsal.md states the report.
+pub fn run_script<A: Archivers>(
+    alloc: Global,
+    script: &Script,
+    archivers: &mut A,
+) -> Result<Rehearsed, Memory>
     requires { IsLawful script.now }
-    ensures report { IfOk result (λ made. made.report ≡ report_of script.now) }
+    ensures report { IfOk result (λ made. made.report ≡ report_of (A.comes archivers.old) script.now) }
     // What each host did is kept.
-    ensures kept { IfOk result (λ made. AreKeptOn (seen script.now.hosts (last_show script.now)).stages made.disks.items) }
-    ensures safe { OnOk result (Safe (world_of script.now)) }
+    ensures kept { IfOk result (λ made. AreKeptOn (seen script.now.hosts (last_show (A.comes archivers.old) script.now)).stages made.disks.items) }
+    ensures safe { OnOk result (Safe (world_of (A.comes archivers.old) script.now)) }
+    ensures stays { A.comes archivers.new ≡ A.comes archivers.old }
 {
     law_rehearsed();
     let seats = open_hosts(alloc, script.hosts.as_slice())?;
-    let mut now = Rehearsal::new(alloc, seats);
+    let mut now = Rehearsal::new(alloc, seats)?;
     let mut report = ReportText::new(alloc);
-    run_lines(alloc, script, &mut now, &mut report)?;
+    run_lines(alloc, script, archivers, &mut now, &mut report)?;
     add_tables(alloc, &now, &mut report)?;
     let disks = disks_of(alloc, now.into_seats())?;
     Ok(Rehearsed {
@@ -114,12 +122,17 @@ pub fn run_script(alloc: Global, script: &Script) -> Result<Rehearsed, Memory>
 }
 
 /// The report alone.
-pub fn rehearse(alloc: Global, script: &Script) -> Result<Items<u8>, Memory>
+pub fn rehearse<A: Archivers>(
+    alloc: Global,
+    script: &Script,
+    archivers: &mut A,
+) -> Result<Items<u8>, Memory>
     requires { IsLawful script.now }
-    ensures report { IfOk result (λ report. report ≡ report_of script.now) }
-    ensures safe { OnOk result (Safe (world_of script.now)) }
+    ensures report { IfOk result (λ report. report ≡ report_of (A.comes archivers.old) script.now) }
+    ensures safe { OnOk result (Safe (world_of (A.comes archivers.old) script.now)) }
+    ensures stays { A.comes archivers.new ≡ A.comes archivers.old }
 {
-    let Rehearsed { report, disks } = run_script(alloc, script)?;
+    let Rehearsed { report, disks } = run_script(alloc, script, archivers)?;
     drop(disks);
     Ok(report)
 }

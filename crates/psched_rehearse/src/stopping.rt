@@ -1,29 +1,32 @@
 //! Lines whose step is to stop.
-ghost use Rattle.std.specs.Prelude.{◌≡◌, ◌<◌, ◌≤◌, List, IfOk, IfSome, None as NoMessage, OnOk, false, if◌then◌else◌, length, true};
+ghost use Rattle.std.specs.Prelude.{◌≡◌, ◌++◌, ◌<◌, ◌≤◌, List, IfOk, IfSome, None as NoMessage, OnOk, codes, false, if◌then◌else◌, length, true};
 ghost use Rattle.ps_time.specs.declared.moment.TheConstants.{MAX_MOMENT};
 ghost use Rattle.host_model.specs.Conditions.{IsInput};
 ghost use Rattle.limit_apply.specs.Read.{IsKept};
 ghost use Rattle.host_model.specs.declared.input.Input.TheVariants.{Limits as AsLimits};
 ghost use Rattle.psched_script.specs.Lawful.{IsLawfulLine};
 ghost use Rattle.psched_script.specs.declared.script.ScriptHost.{ScriptHost};
-ghost use Rattle.rehearsal_model.specs.Moves.{Move.Arrives, Move.Asks, Move.Rests, Move.Tries, Move.Turns, asking, attempt, landed_with, move_of, trying};
+ghost use Rattle.report_text.specs.Line.{line_text};
+ghost use Rattle.rehearsal_model.specs.Moves.{Move.Arrives, Move.Asks, Move.Rests, Move.Turns, Outcomes, asking, landed_with, move_of};
 ghost use Rattle.rehearsal_model.specs.Requests.{delete as deleting, get as getting, post as posting};
 ghost use Rattle.rehearsal_model.specs.Seen.{config_at, has_arrived, is_flying, is_sent};
 ghost use Rattle.rehearsal_state.specs.Moved.{with_crash};
 ghost use Rattle.rehearsal_state.specs.Ready.{IsReady};
-ghost use Rattle.psched_rehearse.specs.Playing.{AreConfigs, IsPlaying, is_request};
+ghost use Rattle.psched_rehearse.specs.Playing.{AreConfigs, IsPlaying, is_archive, is_request};
 ghost use Rattle.psched_rehearse.specs.Stopping.{CanStop, stopped_in, stopped_step};
 
-use crate::archive::{first_attempt, make_attempt};
 use crate::ask::booking;
 use host_model::input::Input;
 use limit_apply::limits::Limits;
+use ps_http::reader::FieldSpans;
 use ps_time::memory::Memory;
 use ps_time::moment::Moment;
 use psched_script::script::{ScriptHost, ScriptLine, Stop};
 use rehearsal_requests::request::{self, Asked};
 use rehearsal_state::hosts::place_of;
 use rehearsal_state::rehearsal::Rehearsal;
+use report_text::line::add_said;
+use report_text::report::ReportText;
 use std::alloc::Global;
 
 /// A step that is to stop.
@@ -69,6 +72,23 @@ impl StoppedStep {
     }
 }
 
+/// A step stops, its host is opened again, and that is reported.
+pub fn crash(
+    alloc: Global,
+    now: &mut Rehearsal,
+    step: StoppedStep,
+    line: u64,
+    report: &mut ReportText,
+) -> Result<(), Memory>
+    requires ready { IsReady now.old step.place step.clock }
+    requires input { IsInput (config_at now.old step.place) step.input }
+    ensures report { OnOk result (report.new ≡ report.old ++ line_text line (codes "crashed")) }
+    ensures seen { OnOk result (now.new ≡ with_crash (record now.old { flying = landed_with step.landing now.old.flying }) step.place step.clock step.input step.stop) }
+{
+    step.crash(alloc, now)?;
+    add_said(report, line, "crashed")
+}
+
 fn land(now: &mut Rehearsal, landing: Option<u64>)
     ensures { now.new ≡ record now.old { flying = landed_with landing now.old.flying } }
 {
@@ -111,35 +131,6 @@ fn stop_turn(now: &Rehearsal, place: usize, clock: Moment) -> Option<StoppedStep
     ensures can { IfSome result (CanStop now.now (Turns place clock)) }
 {
     stopped_in(now, place, clock, Input::Turn)
-}
-
-fn stop_tried(now: &Rehearsal, place: usize, clock: Moment, input: Input) -> Option<StoppedStep>
-    requires ready { IsReady now.now place clock }
-    requires input { IsInput (config_at now.now place) input }
-    ensures step { (hosts : List ScriptHost) → result ≡ stopped_step hosts now.now (Tries place clock input) }
-    ensures can { IfSome result (CanStop now.now (Tries place clock input)) }
-{
-    stopped_in(now, place, clock, input)
-}
-
-fn stop_archive(
-    alloc: Global,
-    now: &Rehearsal,
-    place: usize,
-    clock: Moment,
-) -> Result<Option<StoppedStep>, Memory>
-    requires { IsReady now.now place clock }
-    ensures step { (hosts : List ScriptHost) → IfOk result (λ o. o ≡ stopped_step hosts now.now (trying place clock (attempt now.now place clock))) }
-    ensures can { IfOk result (λ o. IfSome o (CanStop now.now (trying place clock (attempt now.now place clock)))) }
-{
-    match first_attempt(alloc, now.seat(place).book(), clock)? {
-        Some(due) => {
-            let input = make_attempt(alloc, &due);
-            drop(due);
-            Ok(stop_tried(now, place, clock, input?))
-        }
-        None => Ok(None),
-    }
 }
 
 fn stop_limits(
@@ -237,7 +228,9 @@ fn stop_arrival(
     let place = place_of(hosts, message.goes_to());
     match now.stop(place) {
         Some(stop) => {
-            let input = message.brings(alloc)?;
+            let mut fields = FieldSpans::new(alloc)?;
+            let config = now.seat(place).config();
+            let input = message.brings(alloc, &mut fields, config, clock)?;
             Ok(Some(StoppedStep {
                 place,
                 clock,
@@ -295,8 +288,8 @@ fn stop_request(
     requires kind { is_request event.now ≡ true }
     requires lawful { IsLawfulLine (length now.now.stages) event.now }
     requires configs { AreConfigs now.now }
-    ensures step { (hosts : List ScriptHost) → IfOk result (λ o. o ≡ stopped_step hosts now.now (move_of now.now event.now)) }
-    ensures can { IfOk result (λ o. IfSome o (CanStop now.now (move_of now.now event.now))) }
+    ensures step { (comes : Outcomes) (hosts : List ScriptHost) → IfOk result (λ o. o ≡ stopped_step hosts now.now (move_of comes now.now event.now)) }
+    ensures can { (comes : Outcomes) → IfOk result (λ o. IfSome o (CanStop now.now (move_of comes now.now event.now))) }
 {
     match event {
         ScriptLine::Post {
@@ -324,10 +317,11 @@ fn stop_other(
     event: &ScriptLine,
 ) -> Result<Option<StoppedStep>, Memory>
     requires kind { is_request event.now ≡ false }
+    requires no_archive { is_archive event.now ≡ false }
     requires playing { IsPlaying hosts.now now.now }
     requires lawful { IsLawfulLine (length hosts.now) event.now }
-    ensures step { IfOk result (λ o. o ≡ stopped_step hosts.now now.now (move_of now.now event.now)) }
-    ensures can { IfOk result (λ o. IfSome o (CanStop now.now (move_of now.now event.now))) }
+    ensures step { (comes : Outcomes) → IfOk result (λ o. o ≡ stopped_step hosts.now now.now (move_of comes now.now event.now)) }
+    ensures can { (comes : Outcomes) → IfOk result (λ o. IfSome o (CanStop now.now (move_of comes now.now event.now))) }
 {
     match event {
         ScriptLine::Limits { host, limits } => stop_limits(alloc, now, *host, limits),
@@ -343,24 +337,24 @@ fn stop_other(
             Ok(stop_client(now, *host, *at, input))
         }
         ScriptLine::Turn { at, host } => Ok(stop_turn(now, *host, *at)),
-        ScriptLine::Archive { at, host } => stop_archive(alloc, now, *host, *at),
         ScriptLine::Deliver { at, message } => stop_delivery(alloc, hosts, now, *message, *at),
         ScriptLine::Repeat { at, message } => stop_repetition(alloc, hosts, now, *message, *at),
         _ => Ok(None),
     }
 }
 
-/// The step of a line, where it is to stop.
+/// The step of a line, where it is to stop. The line has no host try an archive.
 pub fn stopped_step(
     alloc: Global,
     hosts: &[ScriptHost],
     now: &Rehearsal,
     event: &ScriptLine,
 ) -> Result<Option<StoppedStep>, Memory>
+    requires kind { is_archive event.now ≡ false }
     requires playing { IsPlaying hosts.now now.now }
     requires lawful { IsLawfulLine (length hosts.now) event.now }
-    ensures step { IfOk result (λ o. o ≡ stopped_step hosts.now now.now (move_of now.now event.now)) }
-    ensures can { IfOk result (λ o. IfSome o (CanStop now.now (move_of now.now event.now))) }
+    ensures step { (comes : Outcomes) → IfOk result (λ o. o ≡ stopped_step hosts.now now.now (move_of comes now.now event.now)) }
+    ensures can { (comes : Outcomes) → IfOk result (λ o. IfSome o (CanStop now.now (move_of comes now.now event.now))) }
 {
     if !now.has_stops() {
         return Ok(None);

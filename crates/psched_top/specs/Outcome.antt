@@ -8,6 +8,7 @@ use Rattle.limit_apply.specs.Limits.{Config}
 use Rattle.psched_script.specs.declared.script.Script.{Script}
 use Rattle.psched_script.specs.declared.script.ScriptFault.{ScriptFault}
 use Rattle.psched_script.specs.Refusal.{fault_text}
+use Rattle.rehearsal_model.specs.Moves.{Outcomes}
 use Rattle.rehearsal_model.specs.Rehearsal.{report_of}
 use Rattle.psched_script.specs.Script.{script_of}
 use Rattle.limit_apply.specs.Read.{config_in}
@@ -48,9 +49,9 @@ text_of TooLong = line (codes "input too long")
 text_of CannotRead = line (codes "cannot read")
 
 -- what the grammar makes of an input: the report on its script, or its first refusal
-abbrev pub outcome_of_script : Result Script ScriptFault → Outcome
-outcome_of_script (Ok script) = Report (report_of script)
-outcome_of_script (Err fault) = Refused (line (fault_text fault))
+abbrev pub outcome_of_script : Outcomes → Result Script ScriptFault → Outcome
+outcome_of_script comes (Ok script) = Report (report_of comes script)
+outcome_of_script comes (Err fault) = Refused (line (fault_text fault))
 
 -- the line of a configuration's counts, or its first refusal
 abbrev pub outcome_of_limits : Result Config LimitFault → Outcome
@@ -67,11 +68,11 @@ unread_of MoreCame = Some TooLong
 unread_of ReadFault = Some CannotRead
 unread_of Memory = None
 
--- what psched comes to by its words and its whole input, where reading meets no fault
-abbrev pub outcome_of : Option Command → List ℕ → Outcome
-outcome_of None input = WrongWords
-outcome_of (Some Help) input = Usage
-outcome_of (Some VersionWord) input = Version
-outcome_of (Some (Generate count)) input = Summary (summary_of count)
-outcome_of (Some Rehearse) input = outcome_of_input (λ bytes. outcome_of_script (script_of bytes)) input
-outcome_of (Some ValidateLimits) input = outcome_of_input (λ bytes. outcome_of_limits (config_in bytes)) input
+-- what psched comes to by what comes of attempts, its words and its whole input, where reading meets no fault
+abbrev pub outcome_of : Outcomes → Option Command → List ℕ → Outcome
+outcome_of comes None input = WrongWords
+outcome_of comes (Some Help) input = Usage
+outcome_of comes (Some VersionWord) input = Version
+outcome_of comes (Some (Generate count)) input = Summary (summary_of count)
+outcome_of comes (Some Rehearse) input = outcome_of_input (λ bytes. outcome_of_script comes (script_of bytes)) input
+outcome_of comes (Some ValidateLimits) input = outcome_of_input (λ bytes. outcome_of_limits (config_in bytes)) input

@@ -6,6 +6,7 @@ use Rattle.ps_ports.specs.Causes.{Rose}
 use Rattle.psched_world.specs.Laws.{Safe}
 use Rattle.limit_apply.specs.Limits.{Config}
 use Rattle.psched_script.specs.declared.script.Script.{Script}
+use Rattle.rehearsal_model.specs.Moves.{Outcomes}
 use Rattle.rehearsal_model.specs.Rehearsal.{report_of, world_of}
 use Rattle.psched_script.specs.Script.{script_of}
 use Rattle.generated_work.specs.Summary.{summary_of}
@@ -27,10 +28,10 @@ abbrev pub IsReadToEnd : Option (List ℕ) → Option (List ℕ) → Type 0
 IsReadToEnd held left = IfSome held (λ bytes. left ≡ Some [])
 
 -- it is what the command makes of an input, which is all that the source held
-pub record IsGiven (command : Option Command) (held : Option (List ℕ)) (outcome : Outcome) : Type 0 where
+pub record IsGiven (comes : Outcomes) (command : Option Command) (held : Option (List ℕ)) (outcome : Outcome) : Type 0 where
   pub input : List ℕ
   pub all : IsAll held input
-  pub given : outcome ≡ outcome_of command input
+  pub given : outcome ≡ outcome_of comes command input
 
 -- a command that reads, whose source failed, so that its count rose
 pub record IsReadFault (asked : Option Command) (before now : ℕ) (outcome : Outcome) : Type 0 where
@@ -39,28 +40,28 @@ pub record IsReadFault (asked : Option Command) (before now : ℕ) (outcome : Ou
   pub cause : Rose before now
 
 -- why this outcome comes
-abbrev pub Comes : Option Command → Option (List ℕ) → ℕ → ℕ → Outcome → Type 0
-Comes command held before now outcome = IsGiven command held outcome ⊎ IsReadFault command before now outcome
+abbrev pub Comes : Outcomes → Option Command → Option (List ℕ) → ℕ → ℕ → Outcome → Type 0
+Comes comes command held before now outcome = IsGiven comes command held outcome ⊎ IsReadFault command before now outcome
 
 -- the input was read to its end and is a script whose world keeps the laws
-pub record Rehearsed (held left : Option (List ℕ)) : Type 0 where
+pub record Rehearsed (comes : Outcomes) (held left : Option (List ℕ)) : Type 0 where
   pub input : List ℕ
   pub all : IsAll held input
   pub ended : IsReadToEnd held left
   pub script : Script
   pub grammar : script_of input ≡ Ok script
-  pub safe : Safe (world_of script)
+  pub safe : Safe (world_of comes script)
 
 -- its report is the outcome
-abbrev pub IsRehearsed : Option (List ℕ) → Option (List ℕ) → Outcome → Type 0
-IsRehearsed held left outcome = (r : Rehearsed held left) × (outcome ≡ Report (report_of r.script))
+abbrev pub IsRehearsed : Outcomes → Option (List ℕ) → Option (List ℕ) → Outcome → Type 0
+IsRehearsed comes held left outcome = (r : Rehearsed comes held left) × (outcome ≡ Report (report_of comes r.script))
 
 -- the input is a script whose world keeps the laws, and its report is the outcome
-pub record IsSafeReport (input : List ℕ) (outcome : Outcome) : Type 0 where
+pub record IsSafeReport (comes : Outcomes) (input : List ℕ) (outcome : Outcome) : Type 0 where
   pub script : Script
   pub grammar : script_of input ≡ Ok script
-  pub safe : Safe (world_of script)
-  pub report : outcome ≡ Report (report_of script)
+  pub safe : Safe (world_of comes script)
+  pub report : outcome ≡ Report (report_of comes script)
 
 -- the input was read to its end and is a configuration of limits
 pub record Checked (held left : Option (List ℕ)) : Type 0 where
@@ -81,9 +82,9 @@ pub record IsValid (input : List ℕ) (outcome : Outcome) : Type 0 where
   pub counts : outcome ≡ Valid (line (valid_text config))
 
 -- the status of the outcome that comes, whose text was written whole
-pub record Told (command : Option Command) (held : Option (List ℕ)) (before now : ℕ) (old new : Option (List ℕ)) (status : ℕ) : Type 0 where
+pub record Told (comes : Outcomes) (command : Option Command) (held : Option (List ℕ)) (before now : ℕ) (old new : Option (List ℕ)) (status : ℕ) : Type 0 where
   pub outcome : Outcome
-  pub comes : Comes command held before now outcome
+  pub cause : Comes comes command held before now outcome
   pub status_is : status ≡ status_of outcome
   pub written : Appends old new (text_of outcome)
 
@@ -92,14 +93,14 @@ abbrev pub Exactly : Outcome → Option (List ℕ) → Option (List ℕ) → ℕ
 Exactly outcome old new status = (status ≡ status_of outcome) × Appends old new (text_of outcome)
 
 -- a part of the front of the text of the outcome that comes was written
-pub record CutShort (command : Option Command) (held : Option (List ℕ)) (before now : ℕ) (old new : Option (List ℕ)) : Type 0 where
+pub record CutShort (comes : Outcomes) (command : Option Command) (held : Option (List ℕ)) (before now : ℕ) (old new : Option (List ℕ)) : Type 0 where
   pub outcome : Outcome
-  pub comes : Comes command held before now outcome
+  pub cause : Comes comes command held before now outcome
   pub written : WrotePrefix old new (text_of outcome)
 
 -- the report on the script was written
-abbrev pub Reported : Option (List ℕ) → Option (List ℕ) → Option (List ℕ) → Option (List ℕ) → Type 0
-Reported held left old new = (r : Rehearsed held left) × Appends old new (report_of r.script)
+abbrev pub Reported : Outcomes → Option (List ℕ) → Option (List ℕ) → Option (List ℕ) → Option (List ℕ) → Type 0
+Reported comes held left old new = (r : Rehearsed comes held left) × Appends old new (report_of comes r.script)
 
 -- the line of the configuration's counts was written
 abbrev pub Validated : Option (List ℕ) → Option (List ℕ) → Option (List ℕ) → Option (List ℕ) → Type 0

@@ -1,6 +1,6 @@
--- What somebody asks who is no peer is a client's.
+-- What somebody asks who is no peer is a client's, and keeps a book orderly.
 use Rattle.std.specs.Prelude.{bytes_eq, codes}
-use Rattle.std.proofs.Common.{◌≡◌, ◌&&◌, ℕ, Bool, true, false, cond, not, List, Option, Some, None, is_some, Result, Ok, Err, refl, subst}
+use Rattle.std.proofs.Common.{◌≡◌, ◌≤◌, ◌&&◌, ℕ, Bool, true, false, cond, length, not, List, Option, Some, None, is_some, Result, Ok, Err, refl, subst}
 use Rattle.ps_http.specs.declared.message.Request.{Request}
 use Rattle.ps_http.specs.declared.message.Response.{Response}
 use Rattle.ps_json.specs.Answer.{then_with}
@@ -16,7 +16,7 @@ use Rattle.api_input.specs.Places.{target_of}
 use Rattle.api_input.specs.Query.{window_of}
 use Rattle.api_input.specs.Refused.{in_body}
 use Rattle.api_input.specs.Routes.{allows}
-use Rattle.api_input.specs.Understood.{by_target, from_peer, input_at, is_schedule, open_input, posted_input, schedule_input, sender_of, task_input, understood}
+use Rattle.api_input.specs.Understood.{most_address_bytes, by_target, from_peer, input_at, is_schedule, open_input, posted_input, schedule_input, sender_of, task_input, understood}
 use Rattle.api_input.specs.declared.place.Place.{Place}
 use Rattle.api_input.specs.declared.place.Place.TheVariants.{Public, Peer}
 use Rattle.api_input.specs.declared.place.PublicPlace.{PublicPlace}
@@ -27,6 +27,8 @@ use Rattle.api_input.specs.declared.refusal.Refusal.TheVariants.{Method, Query}
 use Rattle.api_reply.specs.Replies.{answered}
 use Rattle.api_reply.specs.Shown.{error}
 use Rattle.psched_world.specs.Events.{is_client}
+use Rattle.api_law.specs.Orderly.{IsSized}
+use Rattle.api_law.proofs.InputLemmas.{understood_sized}
 use Rattle.rehearsal_model.specs.Requests.{asks, is_target, is_too_large, or_refused, request_to}
 
 abbrev IsClient : Input → Type 0
@@ -112,3 +114,11 @@ asked_by_client c method target body address clock i e = go (not (is_target targ
     go true b f = cc
     go false true f = cc
     go false false f = at_target c (target_of c.number (request_to method target body).path) (request_to method target body) refl address clock i (was_understood (understood c (request_to method target body) address clock) i f)
+
+pub asked_sized : (c : Config) (method target body address : List ℕ) (clock : ℕ) (i : Input) → length address ≤ most_address_bytes → asks c method target body address clock ≡ Ok i → IsSized i
+asked_sized c method target body address clock i near e = go (not (is_target target)) (is_too_large target body) e
+  where
+    go : (a b : Bool) → Comes (cond a (Err (answered 400 (error (codes "bad head")))) (cond b (Err (answered 413 (error (codes "too large")))) (or_refused (understood c (request_to method target body) address clock)))) i → IsSized i
+    go true b f = cc
+    go false true f = cc
+    go false false f = understood_sized c (request_to method target body) address clock i near (was_understood (understood c (request_to method target body) address clock) i f)

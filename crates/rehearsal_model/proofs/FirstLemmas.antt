@@ -2,18 +2,23 @@
 use Rattle.std.specs.List.{AllByRecursion}
 use Rattle.std.specs.Prelude.{IsTrue}
 use Rattle.std.proofs.Common.{◌≡◌, ◌≢◌, ℕ, List, [], ◌∷◌, map, get_or, reverse, option_map, refl, sym, ap, ◌∙◌, arith}
-use Rattle.std.proofs.lemmas.List.Elements.{All-nil, All-same, recursion_from_All}
+use Rattle.std.proofs.lemmas.List.Elements.{All-map, All-nil, All-same, recursion_from_All}
 use Rattle.std.proofs.lemmas.Option.{get_or_from_slice_get, slice_get-get_or, slice_get-map}
 use Rattle.host_model.specs.Book.{empty_book}
+use Rattle.host_model.proofs.LawfulBook.{empty_lawful}
 use Rattle.host_model.specs.declared.input.Input.TheVariants as input
 use Rattle.psched_world.specs.Events.{Event, Event.Reopen, MayRun, Right, run, step_stage}
 use Rattle.psched_world.specs.World.{Letter, Stage, World, push, start}
 use Rattle.psched_world.proofs.Worlds.{now_same}
+use Rattle.api_law.proofs.OrderlyChanges.{empty_orderly}
+use Rattle.api_law.proofs.OrderlySteps.{step_orderly}
+use Rattle.api_law.proofs.ToldChanges.{empty_told}
+use Rattle.api_law.proofs.ToldSteps.{step_told}
 use Rattle.psched_script.specs.Lawful.{AreLawfulHosts}
 use Rattle.psched_script.specs.declared.script.ScriptHost.{ScriptHost}
 use Rattle.rehearsal_model.specs.After.{first_seen, opened_stage}
 use Rattle.rehearsal_model.specs.Hosts.{config_numbered, every_tool, first_config, name_numbered}
-use Rattle.rehearsal_model.specs.Reaching.{IsAsFirst, IsHost, Reaches}
+use Rattle.rehearsal_model.specs.Reaching.{IsAsFirst, IsBetween, IsOrderlyStage, IsToldStage, Reaches}
 use Rattle.rehearsal_model.specs.Rehearsal.{first_show, first_world, openings, seen}
 use Rattle.rehearsal_model.specs.Seen.{acted, is_sent, nobody}
 use Rattle.rehearsal_model.proofs.HostLemmas.{Differ, StandsAt, differ, right_first}
@@ -81,14 +86,23 @@ module _ (hosts : List ScriptHost) where
         ap (λ xs. stage_in xs place) stages_first ∙ get_or_from_slice_get (map (opened_stage hosts) hosts) place (opened_stage hosts h) nobody (slice_get-map (opened_stage hosts) hosts place ∙ ap (option_map (opened_stage hosts)) at) in
         (every_tool, ap (λ (x : Stage). x.config) stage)
 
+    opened_orderly : (h : ScriptHost) → IsOrderlyStage (opened_stage hosts h)
+    opened_orderly h = step_orderly (first_config hosts h) empty_book 0 input.Open tt (empty_orderly (first_config hosts h).name)
+
+    opened_told : (place : ℕ) (h : ScriptHost) → StandsAt hosts place h → IsToldStage (opened_stage hosts h)
+    opened_told place h at =
+        step_told (first_config hosts h) empty_book 0 input.Open (record { config = (right_first hosts lawful place h at).config; book = empty_lawful h.number; moment = omega arith; bounds = tt }) empty_told
+
     pub first_reaches : Reaches hosts (first_show hosts)
     first_reaches = record {
       events = openings hosts;
       may = may_open hosts empty (recursion_from_All (λ (h : ScriptHost). Right (name_numbered hosts) h.number (first_config hosts h)) hosts (λ k d lt. right_first hosts lawful k (get_or hosts k d) (slice_get-get_or hosts k d lt)));
       world = refl;
       configs = configs_first;
-      askers = All-same (λ (l : Letter). IsHost hosts l.asker) (first_world hosts).letters [] letters_first (All-nil (λ (l : Letter). IsHost hosts l.asker));
-      asked = All-same (λ (l : Letter). IsHost hosts l.asked) (first_world hosts).letters [] letters_first (All-nil (λ (l : Letter). IsHost hosts l.asked));
+      orderly = All-same IsOrderlyStage (present hosts (first_world hosts)) (map (opened_stage hosts) hosts) stages_first (All-map IsOrderlyStage (opened_stage hosts) hosts (λ k d lt. opened_orderly (get_or hosts k d)));
+      told = All-same IsToldStage (present hosts (first_world hosts)) (map (opened_stage hosts) hosts) stages_first
+          (All-map IsToldStage (opened_stage hosts) hosts (λ k d lt. opened_told k (get_or hosts k d) (slice_get-get_or hosts k d lt)));
+      letters = All-same (IsBetween hosts) (first_world hosts).letters [] letters_first (All-nil (IsBetween hosts));
       flying = All-nil (λ n. IsTrue (is_sent (seen hosts (first_show hosts)) n));
       last = omega arith;
     }

@@ -54,7 +54,7 @@ same_number a b e = grind (arith, nat_tests)
 other_number : (a b : ℕ) → a ≢ b → (a == b) ≡ false
 other_number a b apart = grind (arith, nat_tests)
 
-is_number : (a b : ℕ) → (a == b) ≡ true → a ≡ b
+pub is_number : (a b : ℕ) → (a == b) ≡ true → a ≡ b
 is_number a b e = grind (arith, nat_tests)
 
 pub found : (hosts : List ScriptHost) → Differ hosts → (place : ℕ) (h : ScriptHost) → StandsAt hosts place h → host_numbered hosts h.number ≡ Some h
@@ -102,7 +102,7 @@ stands (g ∷ hs) n lt = go (g.number == n) refl lt (λ f. stands hs n f)
 pub config_known : (hosts : List ScriptHost) → Differ hosts → (place : ℕ) (h : ScriptHost) → StandsAt hosts place h → config_numbered hosts h.number ≡ first_config hosts h
 config_known hosts apart place h e = ap (found_config hosts h.number) (found hosts apart place h e)
 
-name_known : (hosts : List ScriptHost) → Differ hosts → (place : ℕ) (h : ScriptHost) → StandsAt hosts place h → name_numbered hosts h.number ≡ h.name
+pub name_known : (hosts : List ScriptHost) → Differ hosts → (place : ℕ) (h : ScriptHost) → StandsAt hosts place h → name_numbered hosts h.number ≡ h.name
 name_known hosts apart place h e = ap (λ c. c.name) (config_known hosts apart place h e)
 
 -- what none of the hosts that pass has, none of their peers has

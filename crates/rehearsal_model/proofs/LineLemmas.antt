@@ -1,35 +1,50 @@
 -- A move and a line lead on: what is seen after it, and that its world is one that a rehearsal comes to.
+use Rattle.std.specs.List.{list_any}
 use Rattle.std.specs.Prelude.{All, IsTrue, filter, max, nat_le, set}
-use Rattle.std.proofs.Common.{◌≡◌, ◌≤◌, ◌<◌, ◌+◌, ◌-◌, ◌&&◌, ◌==◌, inl, inr, ℕ, true, not, List, [], ◌∷◌, ◌++◌, length, map, get_or, reverse, Option, Some, None, refl, sym, ap, ◌∙◌, subst, arith}
-use Rattle.std.proofs.lemmas.Bool.{and_from, and_parts, cases_eq}
+use Rattle.std.proofs.Common.{◌≡◌, ◌≢◌, ◌≤◌, ◌<◌, ◌+◌, ◌-◌, ◌&&◌, ◌==◌, inl, inr, ℕ, Bool, true, false, not, List, [], ◌∷◌, ◌++◌, length, map, get_or, reverse, slice_get, Option, Some, None, refl, sym, ap, ◌∙◌, subst, arith}
+use Rattle.std.proofs.lemmas.Bool.{and_from, and_parts, both_ways, cases_eq, not-true, or_parts}
 use Rattle.std.proofs.lemmas.Bool.Decides.{nat_tests}
 use Rattle.std.proofs.lemmas.Grind.{get_or-set_at}
 use Rattle.std.proofs.lemmas.List.{get_or-set_other, length-append, length-map, reverse-append, reverse-reverse}
-use Rattle.std.proofs.lemmas.List.Elements.{All-append, All-cons, All-filter, All-map, All-nil, All-same, All-weaker, recursion_from_All}
+use Rattle.std.proofs.lemmas.List.Elements.{All-append, All-cons, All-filter, All-map, All-nil, All-same, All-set, All-weaker, recursion_from_All}
 use Rattle.std.proofs.lemmas.Option.{slice_get-get_or, slice_get_within}
 use Rattle.ps_time.specs.Numbers.{greatest_moment}
+use Rattle.ps_time.specs.declared.key.RunKey.{RunKey}
+use Rattle.host_model.specs.Conditions.{IsInput, MayStep, numbers_differ}
+use Rattle.host_model.specs.Step.{step_book}
 use Rattle.host_model.specs.declared.config.Config.{Config}
 use Rattle.host_model.specs.declared.config.Peer.{Peer}
+use Rattle.host_model.specs.declared.input.Input.{Input}
 use Rattle.host_model.specs.declared.input.Input.TheVariants as input
+use Rattle.host_model.specs.declared.order.Order.{Order}
+use Rattle.host_model.specs.declared.order.OrderBody.{OrderBody}
+use Rattle.host_model.specs.declared.order.OrderBody.TheVariants as order
 use Rattle.host_model.specs.declared.reply.Reply.{Reply}
 use Rattle.host_model.specs.Orders.{orders}
-use Rattle.psched_world.specs.Events.{Event, MayRun, brings, run}
-use Rattle.psched_world.specs.World.{Letter, Stage, World, start}
+use Rattle.host_model.proofs.StepFollows.{step_lawful}
+use Rattle.psched_world.specs.Events.{Cause, Event, MayRun, brings, is_inner, run}
+use Rattle.psched_world.specs.World.{Letter, Stage, World, input_of, start}
+use Rattle.api_order.specs.Meant.{KeepsBounds}
+use Rattle.api_law.specs.Orderly.{IsSized}
+use Rattle.api_law.proofs.OrderLemmas.{orders_bound}
+use Rattle.api_law.proofs.OrderlySteps.{step_orderly}
+use Rattle.api_law.proofs.ToldSteps.{step_told}
 use Rattle.psched_script.specs.Lawful.{AreLawfulHosts, IsLawfulLine}
 use Rattle.psched_script.specs.declared.script.ScriptHost.{ScriptHost}
 use Rattle.psched_script.specs.declared.script.ScriptLine.{ScriptLine}
 use Rattle.psched_script.specs.declared.script.Stop.{Stop}
 use Rattle.machine_keep.specs.Crash.{keeps_step}
-use Rattle.rehearsal_model.specs.After.{arrived_at, crashed_stage, moved_seen, seen_after, stages_after}
+use Rattle.rehearsal_model.specs.After.{arrived_at, crashed_stage, cut_stage, moved_seen, seen_after, stages_after}
 use Rattle.rehearsal_model.specs.Hosts.{config_numbered, name_numbered, others_of, peer_of}
-use Rattle.rehearsal_model.specs.Moves.{Move, flying_after, is_untold, joining, landed_with, moment_of_line, move_of, numbers_from, receiver, replied, replies, still_flying, stopped, stops_after}
-use Rattle.rehearsal_model.specs.Reaching.{IsAsFirst, IsHost, MayMove, Reaches}
+use Rattle.rehearsal_model.specs.Moves.{Move, Outcomes, flying_after, is_untold, joining, landed_with, moment_of_line, move_of, numbers_from, receiver, replied, replies, still_flying, stopped, stops_after}
+use Rattle.rehearsal_model.specs.Reaching.{IsAsFirst, IsBetween, IsHost, IsOrderlyStage, IsToldStage, MayAsk, MayMove, Reaches}
 use Rattle.rehearsal_model.specs.Rehearsal.{Show, after, events_of, moved, retooled, seen}
-use Rattle.rehearsal_model.specs.Seen.{Seen, acted, config_at, is_sent, message, nobody, stage_at}
-use Rattle.rehearsal_model.proofs.HostLemmas.{StandsAt, differ, host_at, is_host}
+use Rattle.rehearsal_model.specs.Seen.{Seen, acted, book_at, config_at, is_sent, message, nobody, stage_at}
+use Rattle.rehearsal_model.proofs.HostLemmas.{StandsAt, differ, host_at, is_host, name_known, same_number}
 use Rattle.rehearsal_model.proofs.ListLemmas.{aged_is, all_reverse}
-use Rattle.rehearsal_model.proofs.MoveLemmas.{IsMove, cut_config, known, letters_moved, may_moved, moment_within, move_is, stages_moved, stopped_is, stopped_may}
-use Rattle.rehearsal_model.proofs.SeenLemmas.{stage_in}
+use Rattle.rehearsal_model.proofs.MoveLemmas.{HasCause, IsMove, cut_config, goes_known, known, letters_moved, may_moved, moment_within, move_is, stages_moved, stopped_is, stopped_may}
+use Rattle.rehearsal_model.proofs.ReachLemmas.{book_lawful, brings_input, config_is, receiver_within, told_at}
+use Rattle.rehearsal_model.proofs.SeenLemmas.{present, stage_in}
 use Rattle.rehearsal_model.proofs.TurnLemmas.{peer_number, sent_all}
 use Rattle.rehearsal_model.proofs.WorldLemmas.{may_more, run_more}
 
@@ -59,6 +74,30 @@ is_within n count more le e =
 is_new : (n count more : ℕ) → count + 1 ≤ n → n ≤ more → IsTrue (nat_le 1 n && nat_le n more)
 is_new n count more low high = grind (arith, nat_tests)
 
+-- ---- what keeps a book orderly
+inner_sized : (i : Input) → is_inner i ≡ true → IsSized i
+inner_sized (input.Post task requester) e = cc
+inner_sized _ e = tt
+
+asked_sized : (n : ℕ) (k : RunKey) (body : OrderBody) → IsSized (input_of n k body)
+asked_sized n k (order.Free q) = tt
+asked_sized n k (order.Propose p) = tt
+asked_sized n k order.Confirm = tt
+asked_sized n k order.Cancel = tt
+asked_sized n k (order.Material text) = tt
+asked_sized n k order.Result = tt
+
+brings_sized : (l : Letter) (r : Option Reply) → IsSized (brings l r)
+brings_sized l None = asked_sized l.asker l.order.key l.order.body
+brings_sized l (Some said) = tt
+
+-- a number that no peer has
+apart_all : (m : ℕ) (peers : List Peer) → list_any (λ other. other == m) (map (λ (p : Peer). p.number) peers) ≡ false → All (λ (p : Peer). m ≢ p.number) peers
+apart_all m [] none = All-nil (λ (p : Peer). m ≢ p.number)
+apart_all m (p ∷ ps) none =
+    let parts = or_parts (p.number == m) (list_any (λ other. other == m) (map (λ (q : Peer). q.number) ps)) none in
+    All-cons (λ (q : Peer). m ≢ q.number) p ps (λ same. both_ways (p.number == m) parts.0 (same_number p.number m (sym same))) (apart_all m ps parts.1)
+
 -- ---- a move
 abbrev seen_with : List Stage → List Letter → List ℕ → ℕ → List (ℕ × Stop) → Seen
 seen_with stages letters flying last stops = record { stages = stages; letters = letters; flying = flying; last = last; stops = stops }
@@ -68,7 +107,7 @@ module _ (hosts : List ScriptHost) (lawful : AreLawfulHosts hosts) (s : Show) (r
   b = seen hosts s
 
   abbrev Known : Letter → Type 0
-  Known l = IsHost hosts l.asker × IsHost hosts l.asked
+  Known l = IsBetween hosts l
 
   abbrev world_after : Move → World
   world_after move = run (events_of hosts s move) s.world
@@ -106,6 +145,99 @@ module _ (hosts : List ScriptHost) (lawful : AreLawfulHosts hosts) (s : Show) (r
   configs_moved (Move.Arms place stop) = reach.configs
   configs_moved (Move.Crashes c) = configs_at c.place (crashed_stage c.stop (stage_at b c.place) c.clock c.asked) (cut_config (keeps_step c.stop.call c.stop.image) (stage_at b c.place) c.clock c.asked)
 
+  -- ---- orderly books
+  stage_orderly : (place : ℕ) → place < length hosts → IsOrderlyStage (stage_at b place)
+  stage_orderly place within = reach.orderly place nobody (subst (λ k. place < k) (sym long) within)
+
+  acted_orderly : (x : Stage) (clock : ℕ) (i : Input) → IsSized i → IsOrderlyStage x → IsOrderlyStage (acted x clock i)
+  acted_orderly x clock i sized own = step_orderly x.config x.book clock i sized own
+
+  cut_orderly : (kept : Bool) (x : Stage) (clock : ℕ) (i : Input) → IsSized i → IsOrderlyStage x → IsOrderlyStage (cut_stage kept x clock i)
+  cut_orderly true x clock i sized own = acted_orderly x clock i sized own
+  cut_orderly false x clock i sized own = own
+
+  orderly_at : (place : ℕ) (new : Stage) → IsOrderlyStage new → All IsOrderlyStage (set b.stages place new)
+  orderly_at place new own = All-set IsOrderlyStage b.stages place new own reach.orderly
+
+  stepped_orderly : (place clock : ℕ) (i : Input) → place < length hosts → IsSized i → All IsOrderlyStage (set b.stages place (acted (stage_at b place) clock i))
+  stepped_orderly place clock i within sized = orderly_at place (acted (stage_at b place) clock i) (acted_orderly (stage_at b place) clock i sized (stage_orderly place within))
+
+  arrived_orderly : (clock : ℕ) (o : Option Letter) → ((l : Letter) → o ≡ Some l → Known l) → All IsOrderlyStage (arrived_at hosts b clock o)
+  arrived_orderly clock None each = reach.orderly
+  arrived_orderly clock (Some l) each =
+      stepped_orderly (receiver hosts l) clock (brings l l.reply) (goes_known hosts l (each l refl).asker (each l refl).asked l.reply) (brings_sized l l.reply)
+
+  cause_sized : (place : ℕ) (cause : Cause) (i : Input) → HasCause hosts b place cause i → IsSized i
+  cause_sized place (Cause.ByClient j) i has = subst IsSized (sym has.0) has.2
+  cause_sized place (Cause.ByInner j) i has = subst IsSized (sym has.0) (inner_sized j has.1)
+  cause_sized place (Cause.ByLetter j) i has = subst IsSized (sym has.3) (brings_sized has.0 has.0.reply)
+  cause_sized place (Cause.ByOpening c) i has = absurd has
+
+  orderly_moved : (move : Move) → IsMove hosts b move → All IsOrderlyStage (stages_after hosts b move)
+  orderly_moved Move.Rests is = reach.orderly
+  orderly_moved (Move.Asks place clock i) is = stepped_orderly place clock i is.0 is.3
+  orderly_moved (Move.Tries place clock i) is = stepped_orderly place clock i is.0 (inner_sized i is.2)
+  orderly_moved (Move.Turns place clock) is = stepped_orderly place clock input.Turn is.0 tt
+  orderly_moved (Move.Retools place tools) is = orderly_at place (record { config = retooled tools (config_at b place); book = book_at b place }) (stage_orderly place is.0)
+  orderly_moved (Move.Reopens place clock) is = stepped_orderly place clock input.Open is.0 tt
+  orderly_moved (Move.Arrives n clock) is = arrived_orderly clock (message b n) (λ l e. known hosts lawful s reach (n - 1) l (sym (aged_is s.world.letters (n - 1)) ∙ e))
+  orderly_moved (Move.Lost n) is = reach.orderly
+  orderly_moved (Move.Arms place stop) is = reach.orderly
+  orderly_moved (Move.Crashes c) is =
+      let kept : Bool = keeps_step c.stop.call c.stop.image in
+      let left : Stage = cut_stage kept (stage_at b c.place) c.clock c.asked in
+      orderly_at c.place (acted left c.clock input.Open) (acted_orderly left c.clock input.Open tt (cut_orderly kept (stage_at b c.place) c.clock c.asked (cause_sized c.place c.cause c.asked is.2) (stage_orderly c.place is.0)))
+
+  -- ---- results that are told
+  may_step : (place clock : ℕ) (i : Input) → place < length hosts → clock ≤ greatest_moment → IsInput (config_at b place) i → MayStep (config_at b place) (book_at b place) clock i
+  may_step place clock i within low asked = record { config = config_is hosts lawful s reach place within; book = book_lawful hosts lawful s reach place within; moment = low; bounds = asked }
+
+  told_set : (place : ℕ) (new : Stage) → IsToldStage new → All IsToldStage (set b.stages place new)
+  told_set place new told = All-set IsToldStage b.stages place new told reach.told
+
+  stepped_told : (place clock : ℕ) (i : Input) → place < length hosts → clock ≤ greatest_moment → IsInput (config_at b place) i → All IsToldStage (set b.stages place (acted (stage_at b place) clock i))
+  stepped_told place clock i within low asked =
+      told_set place (acted (stage_at b place) clock i) (step_told (config_at b place) (book_at b place) clock i (may_step place clock i within low asked) (told_at hosts lawful s reach place within))
+
+  arrived_told : (n clock : ℕ) (o : Option Letter) → clock ≤ greatest_moment → message b n ≡ o → All IsToldStage (arrived_at hosts b clock o)
+  arrived_told n clock None low e = reach.told
+  arrived_told n clock (Some l) low e = stepped_told (receiver hosts l) clock (brings l l.reply) (receiver_within hosts lawful s reach n l e) low (brings_input hosts lawful s reach n l e)
+
+  cause_asked : (place : ℕ) (cause : Cause) (i : Input) → HasCause hosts b place cause i → MayAsk (config_at b place) cause → IsInput (config_at b place) i
+  cause_asked place (Cause.ByClient j) i has may = subst (IsInput (config_at b place)) (sym has.0) may
+  cause_asked place (Cause.ByInner j) i has may = subst (IsInput (config_at b place)) (sym has.0) may
+  cause_asked place (Cause.ByLetter j) i has may =
+      let l : Letter = has.0 in
+      let back : j + 1 - 1 ≡ j = omega arith in
+      let sent : message b (j + 1) ≡ Some l = ap (slice_get b.letters) back ∙ has.1 in
+      subst (λ p. IsInput (config_at b p) i) (sym has.2) (subst (IsInput (config_at b (receiver hosts l))) (sym has.3) (brings_input hosts lawful s reach (j + 1) l sent))
+  cause_asked place (Cause.ByOpening c) i has may = absurd has
+
+  -- what is left where the step stopped is opened
+  cut_told : (kept : Bool) (place clock : ℕ) (i : Input) → place < length hosts → clock ≤ greatest_moment → IsInput (config_at b place) i → IsToldStage (acted (cut_stage kept (stage_at b place) clock i) clock input.Open)
+  cut_told true place clock i within low asked =
+      let c = config_at b place in
+      let may = may_step place clock i within low asked in
+      let book = step_book c (book_at b place) clock i in
+      step_told c book clock input.Open (record { config = may.config; book = step_lawful c (book_at b place) clock i may; moment = low; bounds = tt })
+      (step_told c (book_at b place) clock i may (told_at hosts lawful s reach place within))
+  cut_told false place clock i within low asked =
+      step_told (config_at b place) (book_at b place) clock input.Open (may_step place clock input.Open within low tt) (told_at hosts lawful s reach place within)
+
+  told_moved : (move : Move) → IsMove hosts b move → MayMove b move → All IsToldStage (stages_after hosts b move)
+  told_moved Move.Rests is may = reach.told
+  told_moved (Move.Asks place clock i) is may = stepped_told place clock i is.0 is.1 may
+  told_moved (Move.Tries place clock i) is may = stepped_told place clock i is.0 is.1 may
+  told_moved (Move.Turns place clock) is may = stepped_told place clock input.Turn is.0 is.1 tt
+  told_moved (Move.Retools place tools) is may = told_set place (record { config = retooled tools (config_at b place); book = book_at b place }) (told_at hosts lawful s reach place is.0)
+  told_moved (Move.Reopens place clock) is may = stepped_told place clock input.Open is.0 is.1 tt
+  told_moved (Move.Arrives n clock) is may = arrived_told n clock (message b n) is refl
+  told_moved (Move.Lost n) is may = reach.told
+  told_moved (Move.Arms place stop) is may = reach.told
+  told_moved (Move.Crashes c) is may =
+      let kept : Bool = keeps_step c.stop.call c.stop.image in
+      told_set c.place (crashed_stage c.stop (stage_at b c.place) c.clock c.asked) (cut_told kept c.place c.clock c.asked is.0 is.1 (cause_asked c.place c.cause c.asked is.2 may))
+
   -- ---- letters
   module _ (place : ℕ) (within : place < length hosts) where
     abbrev h : ScriptHost
@@ -120,11 +252,40 @@ module _ (hosts : List ScriptHost) (lawful : AreLawfulHosts hosts) (s : Show) (r
         (All-map (λ (p : Peer). IsHost hosts p.number) peer_of (others_of hosts h.number) (All-filter (λ g. not (g.number == h.number)) (λ (g : ScriptHost). IsHost hosts g.number) hosts
         (λ k d lt. is_host hosts (differ hosts lawful) k (get_or hosts k d) (slice_get-get_or hosts k d lt))))
 
-    sent_known : (clock : ℕ) → All Known (joining hosts b (Move.Turns place clock))
-    sent_known clock = sent_all Known (config_at b place) (λ o asked e. (asker_known, peer_number (IsHost hosts) (config_at b place).peers o.to asked (recursion_from_All (λ (p : Peer). IsHost hosts p.number) (config_at b place).peers peers_known) e)) (filter (is_untold b) (orders (acted (stage_at b place) clock input.Turn).book clock))
+    -- the other hosts
+    peers_apart : All (λ (p : Peer). IsHost hosts p.number × ((config_at b place).number ≢ p.number)) (config_at b place).peers
+    peers_apart = λ k d lt. (peers_known k d lt, apart_all (config_at b place).number (config_at b place).peers own_number k d lt)
+      where
+        own_number : list_any (λ other. other == (config_at b place).number) (map (λ (p : Peer). p.number) (config_at b place).peers) ≡ false
+        own_number = not-true _ (and_parts (not (list_any (λ other. other == (config_at b place).number) (map (λ (p : Peer). p.number) (config_at b place).peers))) (numbers_differ (map (λ (p : Peer). p.number) (config_at b place).peers)) (config_is hosts lawful s reach place within).numbers).0
+
+    name_is : (config_at b place).name ≡ name_numbered hosts (config_at b place).number
+    name_is =
+        let first = (reach.configs place h (host_at hosts place within).1).1 in
+        ap (λ (c : Config). c.name) first ∙ (sym (name_known hosts (differ hosts lawful) place h (host_at hosts place within).1) ∙ ap (λ (c : Config). name_numbered hosts c.number) (sym first))
+
+    turned_bounds : (clock : ℕ) → clock ≤ greatest_moment → All (λ (o : Order). KeepsBounds (name_numbered hosts (config_at b place).number) o.body) (orders (acted (stage_at b place) clock input.Turn).book clock)
+    turned_bounds clock low =
+        let c = config_at b place in
+        let book = book_at b place in
+        let config = config_is hosts lawful s reach place within in
+        let may : MayStep c book clock input.Turn = record { config = config; book = book_lawful hosts lawful s reach place within; moment = low; bounds = tt } in
+        subst (λ name. All (λ (o : Order). KeepsBounds name o.body) (orders (step_book c book clock input.Turn) clock)) name_is
+        (orders_bound c (step_book c book clock input.Turn) clock config (step_lawful c book clock input.Turn may) (step_orderly c book clock input.Turn tt (stage_orderly place within)))
+
+    sent_known : (clock : ℕ) → clock ≤ greatest_moment → All Known (joining hosts b (Move.Turns place clock))
+    sent_known clock low =
+        let c = config_at b place in
+        let Bound : Order → Type 0 = λ o. KeepsBounds (name_numbered hosts c.number) o.body in
+        let listed : List Order = orders (acted (stage_at b place) clock input.Turn).book clock in
+        sent_all Known Bound c
+        (λ o asked keeps e.
+        let other = peer_number (λ k. IsHost hosts k × (c.number ≢ k)) c.peers o.to asked (recursion_from_All (λ (p : Peer). IsHost hosts p.number × (c.number ≢ p.number)) c.peers peers_apart) e in
+        record { asker = asker_known; asked = other.0; apart = other.1; bounds = keeps })
+        (filter (is_untold b) listed) (All-filter (is_untold b) Bound listed (turned_bounds clock low))
 
   replied_known : (clock : ℕ) (l : Letter) → Known l → (r : Option Reply) → All Known (replied hosts b clock l r)
-  replied_known clock l ok None = All-cons Known (record l { reply = Some _ }) [] ok (All-nil Known)
+  replied_known clock l ok None = All-cons Known (record l { reply = Some _ }) [] (record { asker = ok.asker; asked = ok.asked; apart = ok.apart; bounds = ok.bounds }) (All-nil Known)
   replied_known clock l ok (Some said) = All-nil Known
 
   replies_known : (clock : ℕ) (o : Option Letter) → ((l : Letter) → o ≡ Some l → Known l) → All Known (replies hosts b clock o)
@@ -135,7 +296,7 @@ module _ (hosts : List ScriptHost) (lawful : AreLawfulHosts hosts) (s : Show) (r
   joined_known Move.Rests is = All-nil Known
   joined_known (Move.Asks place clock i) is = All-nil Known
   joined_known (Move.Tries place clock i) is = All-nil Known
-  joined_known (Move.Turns place clock) is = sent_known place is.0 clock
+  joined_known (Move.Turns place clock) is = sent_known place is.0 clock is.1
   joined_known (Move.Retools place tools) is = All-nil Known
   joined_known (Move.Reopens place clock) is = All-nil Known
   joined_known (Move.Arrives n clock) is = replies_known clock (message b n) (λ l e. known hosts lawful s reach (n - 1) l (sym (aged_is s.world.letters (n - 1)) ∙ e))
@@ -143,10 +304,10 @@ module _ (hosts : List ScriptHost) (lawful : AreLawfulHosts hosts) (s : Show) (r
   joined_known (Move.Arms place stop) is = All-nil Known
   joined_known (Move.Crashes c) is = All-nil Known
 
-  letters_all : (P : Letter → Type 0) → ((l : Letter) → Known l → P l) → All P s.world.letters → (move : Move) → IsMove hosts b move → All P (world_after move).letters
-  letters_all P from old move is =
-      All-same P (world_after move).letters (reverse (joining hosts b move) ++ s.world.letters) (letters_moved hosts lawful s reach move is)
-      (All-append P (reverse (joining hosts b move)) s.world.letters (all_reverse P (joining hosts b move) (All-weaker Known P from (joining hosts b move) (joined_known move is))) old)
+  letters_all : (move : Move) → IsMove hosts b move → All Known (world_after move).letters
+  letters_all move is =
+      All-same Known (world_after move).letters (reverse (joining hosts b move) ++ s.world.letters) (letters_moved hosts lawful s reach move is)
+      (All-append Known (reverse (joining hosts b move)) s.world.letters (all_reverse Known (joining hosts b move) (joined_known move is)) reach.letters)
 
   -- ---- messages in flight
   counted : (move : Move) → IsMove hosts b move → length (reverse (world_after move).letters) ≡ length b.letters + length (joining hosts b move)
@@ -189,16 +350,17 @@ module _ (hosts : List ScriptHost) (lawful : AreLawfulHosts hosts) (s : Show) (r
         may = may_more reach.events events first reach.may (subst (λ v. MayRun v events) reach.world (may_moved hosts lawful s reach move is may));
         world = ap (run events) reach.world ∙ sym (run_more reach.events events first);
         configs = subst (ConfigsOf hosts) (sym (stages_moved hosts lawful s reach move is)) (configs_moved move);
-        askers = letters_all (λ l. IsHost hosts l.asker) (λ l ok. ok.0) reach.askers move is;
-        asked = letters_all (λ l. IsHost hosts l.asked) (λ l ok. ok.1) reach.asked move is;
+        orderly = All-same IsOrderlyStage (present hosts (world_after move)) (stages_after hosts b move) (stages_moved hosts lawful s reach move is) (orderly_moved move is);
+        told = All-same IsToldStage (present hosts (world_after move)) (stages_after hosts b move) (stages_moved hosts lawful s reach move is) (told_moved move is may);
+        letters = letters_all move is;
         flying = flying_moved m move is;
         last = omega (arith, last, low);
       }
 
   -- ---- a line
-  pub line_seen : (l : ScriptLine) → IsLawfulLine (length hosts) l → seen hosts (after hosts s l) ≡ seen_after hosts (seen hosts s) l
-  line_seen l is = seen_moved (moment_of_line l) (stopped hosts b (move_of b l)) (stopped_is hosts lawful s reach (move_of b l) (move_is hosts b reach.last l is))
+  pub line_seen : (comes : Outcomes) (l : ScriptLine) → IsLawfulLine (length hosts) l → seen hosts (after comes hosts s l) ≡ seen_after comes hosts (seen hosts s) l
+  line_seen comes l is = seen_moved (moment_of_line l) (stopped hosts b (move_of comes b l)) (stopped_is hosts lawful s reach (move_of comes b l) (move_is comes hosts b reach.last l is))
 
-  pub line_reaches : (l : ScriptLine) → IsLawfulLine (length hosts) l → MayMove (seen hosts s) (move_of (seen hosts s) l) → Reaches hosts (after hosts s l)
-  line_reaches l is may =
-      reaches_moved (moment_of_line l) (stopped hosts b (move_of b l)) (stopped_is hosts lawful s reach (move_of b l) (move_is hosts b reach.last l is)) (stopped_may hosts lawful s reach (move_of b l) may) (moment_within (length hosts) l is)
+  pub line_reaches : (comes : Outcomes) (l : ScriptLine) → IsLawfulLine (length hosts) l → MayMove (seen hosts s) (move_of comes (seen hosts s) l) → Reaches hosts (after comes hosts s l)
+  line_reaches comes l is may =
+      reaches_moved (moment_of_line l) (stopped hosts b (move_of comes b l)) (stopped_is hosts lawful s reach (move_of comes b l) (move_is comes hosts b reach.last l is)) (stopped_may hosts lawful s reach (move_of comes b l) may) (moment_within (length hosts) l is)

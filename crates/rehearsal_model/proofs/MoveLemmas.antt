@@ -18,6 +18,7 @@ use Rattle.host_model.specs.declared.reply.Reply.{Reply}
 use Rattle.host_model.proofs.StepFollows.{step_follows}
 use Rattle.psched_world.specs.Events.{Cause, Event, MayHappen, MayRun, Right, answered, arrived, brings, brought_to, config_by, cut, delivered, goes_to, happens, idle_stage, input_by, is_client, is_inner, reply_now, run, step_stage, stepped}
 use Rattle.psched_world.specs.World.{Letter, Stage, World, aged, push, stages, start}
+use Rattle.api_law.specs.Orderly.{IsSized}
 use Rattle.psched_world.proofs.Lawfulness.{right_now}
 use Rattle.psched_world.proofs.Stages.{aged_last}
 use Rattle.psched_world.proofs.Worlds.{now_same, stages_same}
@@ -29,12 +30,12 @@ use Rattle.psched_script.specs.declared.script.Stop.{Stop}
 use Rattle.machine_keep.specs.Crash.{keeps_step}
 use Rattle.rehearsal_model.specs.After.{arrived_at, crashed_stage, cut_stage, stages_after, stepped_at}
 use Rattle.rehearsal_model.specs.Hosts.{config_numbered, first_config, name_numbered}
-use Rattle.rehearsal_model.specs.Moves.{Crash, Move, asking, attempt, crash_by, joining, moment_of_line, move_of, place_numbered, receiver, replied, replies, reply_to, sent_at, stopped, trying, unless_crash}
-use Rattle.rehearsal_model.specs.Reaching.{IsHost, MayAsk, MayMove, Reaches}
+use Rattle.rehearsal_model.specs.Moves.{Crash, Move, Outcomes, asking, attempt, crash_by, joining, moment_of_line, move_of, place_numbered, receiver, replied, replies, reply_to, sent_at, stopped, trying, unless_crash}
+use Rattle.rehearsal_model.specs.Reaching.{IsBetween, IsHost, MayAsk, MayMove, Reaches}
 use Rattle.rehearsal_model.specs.Rehearsal.{Show, events_of, number_at, retooled, seen}
 use Rattle.rehearsal_model.specs.Requests.{delete, get, post}
 use Rattle.rehearsal_model.specs.Seen.{Seen, acted, config_at, has_arrived, is_flying, message, reply_at, stage_at, stop_at}
-use Rattle.rehearsal_model.proofs.AskLemmas.{asked_by_client}
+use Rattle.rehearsal_model.proofs.AskLemmas.{asked_by_client, asked_sized}
 use Rattle.rehearsal_model.proofs.HostLemmas.{differ, host_at, number_is, right_with, same_number, stands}
 use Rattle.rehearsal_model.proofs.KnownLemmas.{known_inv}
 use Rattle.rehearsal_model.proofs.ListLemmas.{aged_is, all_aged}
@@ -45,7 +46,7 @@ use Rattle.rehearsal_model.proofs.WorldLemmas.{run_named}
 -- ---- moves of lines
 -- a host is asked this by that
 abbrev pub HasCause : List ScriptHost → Seen → ℕ → Cause → Input → Type 0
-HasCause hosts b place (Cause.ByClient i) asked = (asked ≡ i) × (is_client i ≡ true)
+HasCause hosts b place (Cause.ByClient i) asked = (asked ≡ i) × (is_client i ≡ true) × IsSized i
 HasCause hosts b place (Cause.ByInner i) asked = (asked ≡ i) × (is_inner i ≡ true)
 HasCause hosts b place (Cause.ByLetter j) asked = (l : Letter) × (slice_get b.letters j ≡ Some l) × (place ≡ receiver hosts l) × (asked ≡ brings l l.reply)
 HasCause hosts b place (Cause.ByOpening c) asked = ⊥
@@ -53,7 +54,7 @@ HasCause hosts b place (Cause.ByOpening c) asked = ⊥
 -- a move is about a host of the script, at a moment, and asks what may be asked there
 abbrev pub IsMove : List ScriptHost → Seen → Move → Type 0
 IsMove hosts b Move.Rests = Unit {0}
-IsMove hosts b (Move.Asks place clock i) = (place < length hosts) × (clock ≤ greatest_moment) × (is_client i ≡ true)
+IsMove hosts b (Move.Asks place clock i) = (place < length hosts) × (clock ≤ greatest_moment) × (is_client i ≡ true) × IsSized i
 IsMove hosts b (Move.Tries place clock i) = (place < length hosts) × (clock ≤ greatest_moment) × (is_inner i ≡ true)
 IsMove hosts b (Move.Turns place clock) = (place < length hosts) × (clock ≤ greatest_moment)
 IsMove hosts b (Move.Retools place tools) = (place < length hosts) × (list_all is_tool tools ≡ true) × (all_differ tools ≡ true)
@@ -63,34 +64,39 @@ IsMove hosts b (Move.Lost n) = Unit {0}
 IsMove hosts b (Move.Arms place stop) = Unit {0}
 IsMove hosts b (Move.Crashes c) = (c.place < length hosts) × (c.clock ≤ greatest_moment) × HasCause hosts b c.place c.cause c.asked
 
-asking_is : (hosts : List ScriptHost) (b : Seen) (place clock : ℕ) (r : Result Input Response) → place < length hosts → clock ≤ greatest_moment → ((i : Input) → r ≡ Ok i → is_client i ≡ true) → IsMove hosts b (asking place clock r)
-asking_is hosts b place clock (Ok i) within low client = (within, low, client i refl)
-asking_is hosts b place clock (Err response) within low client = tt
+asking_is : (hosts : List ScriptHost) (b : Seen) (place clock : ℕ) (r : Result Input Response) → place < length hosts → clock ≤ greatest_moment → ((i : Input) → r ≡ Ok i → is_client i ≡ true) → ((i : Input) → r ≡ Ok i → IsSized i)
+    → IsMove hosts b (asking place clock r)
+asking_is hosts b place clock (Ok i) within low client sized = (within, low, client i refl, sized i refl)
+asking_is hosts b place clock (Err response) within low client sized = tt
 
-trying_is : (hosts : List ScriptHost) (b : Seen) (place clock : ℕ) (o : Option Due) → place < length hosts → clock ≤ greatest_moment → IsMove hosts b (trying place clock o)
-trying_is hosts b place clock None within low = tt
-trying_is hosts b place clock (Some d) within low = (within, low, refl)
+trying_is : (comes : Outcomes) (hosts : List ScriptHost) (b : Seen) (place clock : ℕ) (o : Option Due) → place < length hosts → clock ≤ greatest_moment → IsMove hosts b (trying comes place clock o)
+trying_is comes hosts b place clock None within low = tt
+trying_is comes hosts b place clock (Some d) within low = (within, low, refl)
 
 either_is : (hosts : List ScriptHost) (b : Seen) (t : Bool) (move other : Move) → IsMove hosts b move → IsMove hosts b other → IsMove hosts b (cond t move other)
 either_is hosts b true move other is is_other = is
 either_is hosts b false move other is is_other = is_other
 
-pub move_is : (hosts : List ScriptHost) (b : Seen) → b.last ≤ greatest_moment → (l : ScriptLine) → IsLawfulLine (length hosts) l → IsMove hosts b (move_of b l)
-move_is hosts b low (line.Host place) is = tt
-move_is hosts b low (line.Tools host tools) is = is
-move_is hosts b low (line.Limits host limits) is = (is.0, low, refl)
-move_is hosts b low (line.Book at host class priority start len) is = (is.1, is.0, refl)
-move_is hosts b low (line.Post at host address body) is =
+pub move_is : (comes : Outcomes) (hosts : List ScriptHost) (b : Seen) → b.last ≤ greatest_moment → (l : ScriptLine) → IsLawfulLine (length hosts) l → IsMove hosts b (move_of comes b l)
+move_is comes hosts b low (line.Host place) is = tt
+move_is comes hosts b low (line.Tools host tools) is = is
+move_is comes hosts b low (line.Limits host limits) is = (is.0, low, refl, tt)
+move_is comes hosts b low (line.Book at host class priority start len) is = (is.1, is.0, refl, tt)
+move_is comes hosts b low (line.Post at host address body) is =
     asking_is hosts b host at (post (config_at b host) address body at) is.1 is.0 (asked_by_client (config_at b host) (codes "POST") (codes "/pscheduler/tasks") body address at)
-move_is hosts b low (line.Get at host path) is = asking_is hosts b host at (get (config_at b host) path at) is.1 is.0 (asked_by_client (config_at b host) (codes "GET") path [] (codes "127.0.0.1") at)
-move_is hosts b low (line.Delete at host address path) is =
+    (λ i e. asked_sized (config_at b host) (codes "POST") (codes "/pscheduler/tasks") body address at i is.2 e)
+move_is comes hosts b low (line.Get at host path) is =
+    asking_is hosts b host at (get (config_at b host) path at) is.1 is.0 (asked_by_client (config_at b host) (codes "GET") path [] (codes "127.0.0.1") at)
+    (λ i e. asked_sized (config_at b host) (codes "GET") path [] (codes "127.0.0.1") at i (omega arith) e)
+move_is comes hosts b low (line.Delete at host address path) is =
     asking_is hosts b host at (delete (config_at b host) address path at) is.1 is.0 (asked_by_client (config_at b host) (codes "DELETE") path [] address at)
-move_is hosts b low (line.Turn at host) is = (is.1, is.0)
-move_is hosts b low (line.Archive at host) is = trying_is hosts b host at (attempt b host at) is.1 is.0
-move_is hosts b low (line.Crash at host stop) is = tt
-move_is hosts b low (line.Deliver at n) is = either_is hosts b (is_flying b n) (Move.Arrives n at) Move.Rests is tt
-move_is hosts b low (line.Repeat at n) is = either_is hosts b (has_arrived b n) (Move.Arrives n at) Move.Rests is tt
-move_is hosts b low (line.Lose n) is = either_is hosts b (is_flying b n) (Move.Lost n) Move.Rests tt tt
+    (λ i e. asked_sized (config_at b host) (codes "DELETE") path [] address at i is.2 e)
+move_is comes hosts b low (line.Turn at host) is = (is.1, is.0)
+move_is comes hosts b low (line.Archive at host) is = trying_is comes hosts b host at (attempt b host at) is.1 is.0
+move_is comes hosts b low (line.Crash at host stop) is = tt
+move_is comes hosts b low (line.Deliver at n) is = either_is hosts b (is_flying b n) (Move.Arrives n at) Move.Rests is tt
+move_is comes hosts b low (line.Repeat at n) is = either_is hosts b (has_arrived b n) (Move.Arrives n at) Move.Rests is tt
+move_is comes hosts b low (line.Lose n) is = either_is hosts b (is_flying b n) (Move.Lost n) Move.Rests tt tt
 
 -- no line is later than the last moment
 pub moment_within : (hosts : ℕ) (l : ScriptLine) → IsLawfulLine hosts l → moment_of_line l ≤ greatest_moment
@@ -125,10 +131,10 @@ module _ (hosts : List ScriptHost) (lawful : AreLawfulHosts hosts) (s : Show) (r
   b = seen hosts s
 
   abbrev Known : Letter → Type 0
-  Known l = IsHost hosts l.asker × IsHost hosts l.asked
+  Known l = IsBetween hosts l
 
   pub known : (j : ℕ) (l : Letter) → aged w.letters j ≡ Some l → Known l
-  known j l e = (all_aged (λ (x : Letter). IsHost hosts x.asker) w.letters j l reach.askers e, all_aged (λ (x : Letter). IsHost hosts x.asked) w.letters j l reach.asked e)
+  known j l e = all_aged (IsBetween hosts) w.letters j l reach.letters e
 
   -- ---- the host at a place
   module _ (place : ℕ) (within : place < length hosts) where
@@ -211,11 +217,11 @@ module _ (hosts : List ScriptHost) (lawful : AreLawfulHosts hosts) (s : Show) (r
 
   delivered_stages : (clock : ℕ) (o : Option Letter) → ((l : Letter) → o ≡ Some l → Known l) → present hosts (delivered w clock o) ≡ arrived_at hosts b clock o
   delivered_stages clock None each = refl
-  delivered_stages clock (Some l) each = arrived_stages clock l l.reply (goes_known hosts l (each l refl).0 (each l refl).1 l.reply)
+  delivered_stages clock (Some l) each = arrived_stages clock l l.reply (goes_known hosts l (each l refl).asker (each l refl).asked l.reply)
 
   delivered_letters : (clock : ℕ) (o : Option Letter) → ((l : Letter) → o ≡ Some l → Known l) → (delivered w clock o).letters ≡ reverse (replies hosts b clock o) ++ w.letters
   delivered_letters clock None each = refl
-  delivered_letters clock (Some l) each = arrived_letters clock l l.reply refl (goes_known hosts l (each l refl).0 (each l refl).1 l.reply)
+  delivered_letters clock (Some l) each = arrived_letters clock l l.reply refl (goes_known hosts l (each l refl).asker (each l refl).asked l.reply)
 
   -- ---- a step that stops
   -- what a cause has the host act on, and under which configuration
@@ -348,11 +354,11 @@ module _ (hosts : List ScriptHost) (lawful : AreLawfulHosts hosts) (s : Show) (r
   arrives_stopped n clock low None e = low
   arrives_stopped n clock low (Some l) e =
       let ok = known (n - 1) l (sym (aged_is w.letters (n - 1)) ∙ e) in
-      asks_stopped (receiver hosts l) clock (brings l l.reply) (Cause.ByLetter (n - 1)) (Some n) (Move.Arrives n clock) (goes_known hosts l ok.0 ok.1 l.reply) low (l, e, refl, refl) low (stop_at b (receiver hosts l))
+      asks_stopped (receiver hosts l) clock (brings l l.reply) (Cause.ByLetter (n - 1)) (Some n) (Move.Arrives n clock) (goes_known hosts l ok.asker ok.asked l.reply) low (l, e, refl, refl) low (stop_at b (receiver hosts l))
 
   pub stopped_is : (move : Move) → IsMove hosts b move → IsMove hosts b (stopped hosts b move)
   stopped_is Move.Rests is = is
-  stopped_is (Move.Asks place clock i) is = asks_stopped place clock i (Cause.ByClient i) None (Move.Asks place clock i) is.0 is.1 (refl, is.2) is (stop_at b place)
+  stopped_is (Move.Asks place clock i) is = asks_stopped place clock i (Cause.ByClient i) None (Move.Asks place clock i) is.0 is.1 (refl, is.2, is.3) is (stop_at b place)
   stopped_is (Move.Tries place clock i) is = asks_stopped place clock i (Cause.ByInner i) None (Move.Tries place clock i) is.0 is.1 (refl, is.2) is (stop_at b place)
   stopped_is (Move.Turns place clock) is = asks_stopped place clock input.Turn (Cause.ByInner input.Turn) None (Move.Turns place clock) is.0 is.1 (refl, refl) is (stop_at b place)
   stopped_is (Move.Retools place tools) is = is

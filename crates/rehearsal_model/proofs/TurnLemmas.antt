@@ -3,7 +3,7 @@ use Rattle.std.specs.List.{AllByRecursion, cons_option}
 use Rattle.std.specs.Prelude.{All, bytes_eq, filter, filter_map, find}
 use Rattle.std.proofs.Common.{◌≡◌, ◌≤◌, ◌+◌, ℕ, Bool, true, false, cond, List, [], ◌∷◌, ◌++◌, length, reverse, Option, Some, None, option_map, slice_get, refl, sym, ap, ◌∙◌, subst}
 use Rattle.std.proofs.lemmas.List.{append_assoc, length_push, reverse-append}
-use Rattle.std.proofs.lemmas.List.Elements.{All-from_recursion}
+use Rattle.std.proofs.lemmas.List.Elements.{All-from_recursion, recursion_from_All}
 use Rattle.ps_time.specs.Numbers.{greatest_moment}
 use Rattle.host_model.specs.Orders.{orders}
 use Rattle.host_model.specs.declared.config.Config.{Config}
@@ -88,13 +88,14 @@ peer_number P (p ∷ ps) name n all e = go (bytes_eq p.name name) e (λ f. peer_
     go true f later = let number : p.number ≡ n = cc in subst P number all.0
     go false f later = later f
 
-pub sent_all : (P : Letter → Type 0) (c : Config) → ((o : Order) (asked : ℕ) → number_of c.peers o.to ≡ Some asked → P (record { asker = c.number; asked = asked; order = o; reply = None })) → (os : List Order) → All P (filter_map (letter_of c) os)
-sent_all P c each os = All-from_recursion P (filter_map (letter_of c) os) (from os)
+pub sent_all : (P : Letter → Type 0) (Q : Order → Type 0) (c : Config) → ((o : Order) (asked : ℕ) → Q o → number_of c.peers o.to ≡ Some asked → P (record { asker = c.number; asked = asked; order = o; reply = None })) → (os : List Order)
+    → All Q os → All P (filter_map (letter_of c) os)
+sent_all P Q c each os all = All-from_recursion P (filter_map (letter_of c) os) (from os (recursion_from_All Q os all))
   where
-    from : (xs : List Order) → AllByRecursion P (filter_map (letter_of c) xs)
-    from [] = tt
-    from (o ∷ xs) = one o (filter_map (letter_of c) xs) (number_of c.peers o.to) refl (from xs)
+    from : (xs : List Order) → AllByRecursion Q xs → AllByRecursion P (filter_map (letter_of c) xs)
+    from [] all = tt
+    from (o ∷ xs) all = one o all.0 (filter_map (letter_of c) xs) (number_of c.peers o.to) refl (from xs all.1)
       where
-        one : (o : Order) (ls : List Letter) (m : Option ℕ) → number_of c.peers o.to ≡ m → AllByRecursion P ls → AllByRecursion P (cons_option (option_map (λ asked. record { asker = c.number; asked = asked; order = o; reply = None }) m) ls)
-        one o ls None e rest = rest
-        one o ls (Some asked) e rest = (each o asked e, rest)
+        one : (o : Order) → Q o → (ls : List Letter) (m : Option ℕ) → number_of c.peers o.to ≡ m → AllByRecursion P ls → AllByRecursion P (cons_option (option_map (λ asked. record { asker = c.number; asked = asked; order = o; reply = None }) m) ls)
+        one o own ls None e rest = rest
+        one o own ls (Some asked) e rest = (each o asked own e, rest)

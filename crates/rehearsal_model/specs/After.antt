@@ -10,7 +10,7 @@ use Rattle.psched_script.specs.declared.script.ScriptHost.{ScriptHost}
 use Rattle.psched_script.specs.declared.script.ScriptLine.{ScriptLine}
 use Rattle.psched_script.specs.declared.script.Stop.{Stop}
 use Rattle.rehearsal_model.specs.Hosts.{first_config}
-use Rattle.rehearsal_model.specs.Moves.{Move, flying_after, joining, moment_of_line, move_of, receiver, stopped, stops_after}
+use Rattle.rehearsal_model.specs.Moves.{Move, Outcomes, flying_after, joining, moment_of_line, move_of, receiver, stopped, stops_after}
 use Rattle.rehearsal_model.specs.Rehearsal.{retooled}
 use Rattle.rehearsal_model.specs.Seen.{Seen, acted, book_at, config_at, message, stage_at}
 
@@ -60,5 +60,5 @@ moved_seen hosts b m move = record {
   stops = stops_after b move;
 }
 
-abbrev pub seen_after : List ScriptHost → Seen → ScriptLine → Seen
-seen_after hosts b l = moved_seen hosts b (moment_of_line l) (stopped hosts b (move_of b l))
+abbrev pub seen_after : Outcomes → List ScriptHost → Seen → ScriptLine → Seen
+seen_after comes hosts b l = moved_seen hosts b (moment_of_line l) (stopped hosts b (move_of comes b l))

@@ -1,11 +1,9 @@
 -- What each line of a script does in a world.
-use Rattle.std.specs.Prelude.{◌&&◌, ◌+◌, ◌-◌, ◌==◌, ◌∷◌, ◌++◌, Bool, Err, List, None, Ok, Option, Result, Some, [], codes, false, filter, filter_map, if◌then◌else◌, length, not, option_and_then, option_map, slice_get, true, unwrap_or, ℕ}
+use Rattle.std.specs.Prelude.{◌&&◌, ◌+◌, ◌-◌, ◌==◌, ◌∷◌, ◌++◌, Bool, Err, List, None, Ok, Option, Result, Some, [], false, filter, filter_map, if◌then◌else◌, length, not, option_and_then, option_map, slice_get, true, unwrap_or, ℕ}
 use Rattle.std.specs.List.{list_any, position_or_len}
-use Rattle.std.specs.Str.{bytes_eq}
 use Rattle.ps_time.specs.declared.key.RunKey.{RunKey}
 use Rattle.ps_doors.specs.declared.archiver.Tried.{Tried}
 use Rattle.ps_doors.specs.declared.archiver.Tried.TheVariants.{Failed, Succeeded}
-use Rattle.archivers.specs.Outcome.{failer_outcome}
 use Rattle.ps_http.specs.declared.message.Response.{Response}
 use Rattle.host_model.specs.Archives.{attempt_of, due}
 use Rattle.host_model.specs.Orders.{orders}
@@ -65,12 +63,9 @@ asking place clock (Ok i) = Asks place clock i
 asking place clock (Err response) = Rests
 
 -- ---- archives
--- what the archiver of a name makes of an attempt; the two that need nothing but themselves are there
-abbrev pub archived : List ℕ → List ℕ → ℕ → Tried
-archived archiver settings tried =
-    if bytes_eq archiver (codes "bitbucket") then Succeeded
-    else if bytes_eq archiver (codes "failer") then failer_outcome settings tried
-    else Failed (codes "no such archiver") None
+-- what comes of an attempt, by the archiver's name, the settings, and how many attempts were made before
+abbrev pub Outcomes : Type 0
+Outcomes = List ℕ → List ℕ → ℕ → Tried
 
 abbrev pub is_good : Tried → Bool
 is_good Succeeded = true
@@ -87,25 +82,25 @@ tried_as d t = input.Tried d.key d.index (is_good t) (retry_of t)
 abbrev pub attempt : Seen → ℕ → ℕ → Option Due
 attempt b place clock = option_and_then (λ pair. attempt_of (book_at b place) pair.0 pair.1) (slice_get (due (book_at b place) clock) 0)
 
-abbrev pub trying : ℕ → ℕ → Option Due → Move
-trying place clock None = Rests
-trying place clock (Some d) = Tries place clock (tried_as d (archived d.archiver d.settings d.tried))
+abbrev pub trying : Outcomes → ℕ → ℕ → Option Due → Move
+trying comes place clock None = Rests
+trying comes place clock (Some d) = Tries place clock (tried_as d (comes d.archiver d.settings d.tried))
 
 -- ---- lines
-abbrev pub move_of : Seen → ScriptLine → Move
-move_of b (line.Host place) = Rests
-move_of b (line.Tools host tools) = Retools host tools
-move_of b (line.Limits host limits) = Asks host b.last (input.Limits limits)
-move_of b (line.Book at host class priority start len) = Asks host at (input.Book class priority start len)
-move_of b (line.Post at host address body) = asking host at (post (config_at b host) address body at)
-move_of b (line.Get at host path) = asking host at (get (config_at b host) path at)
-move_of b (line.Delete at host address path) = asking host at (delete (config_at b host) address path at)
-move_of b (line.Turn at host) = Turns host at
-move_of b (line.Archive at host) = trying host at (attempt b host at)
-move_of b (line.Crash at host stop) = Arms host stop
-move_of b (line.Deliver at n) = if is_flying b n then Arrives n at else Rests
-move_of b (line.Repeat at n) = if has_arrived b n then Arrives n at else Rests
-move_of b (line.Lose n) = if is_flying b n then Lost n else Rests
+abbrev pub move_of : Outcomes → Seen → ScriptLine → Move
+move_of comes b (line.Host place) = Rests
+move_of comes b (line.Tools host tools) = Retools host tools
+move_of comes b (line.Limits host limits) = Asks host b.last (input.Limits limits)
+move_of comes b (line.Book at host class priority start len) = Asks host at (input.Book class priority start len)
+move_of comes b (line.Post at host address body) = asking host at (post (config_at b host) address body at)
+move_of comes b (line.Get at host path) = asking host at (get (config_at b host) path at)
+move_of comes b (line.Delete at host address path) = asking host at (delete (config_at b host) address path at)
+move_of comes b (line.Turn at host) = Turns host at
+move_of comes b (line.Archive at host) = trying comes host at (attempt b host at)
+move_of comes b (line.Crash at host stop) = Arms host stop
+move_of comes b (line.Deliver at n) = if is_flying b n then Arrives n at else Rests
+move_of comes b (line.Repeat at n) = if has_arrived b n then Arrives n at else Rests
+move_of comes b (line.Lose n) = if is_flying b n then Lost n else Rests
 
 -- ---- what a turn sends
 abbrev pub same_key : RunKey → RunKey → Bool

@@ -1,6 +1,9 @@
 //! Laws of rehearsals.
-ghost use Rattle.std.specs.Prelude.{◌<◌, ◌≡◌, List, Some, length, ℕ};
+ghost use Rattle.std.specs.Prelude.{◌<◌, ◌≡◌, ◌≤◌, All, List, None, Some, length, ℕ};
+ghost use Rattle.ps_time.specs.Numbers.{greatest_moment};
 ghost use Rattle.host_model.specs.Conditions.{IsConfig, IsInput};
+ghost use Rattle.api_heard.specs.Replied.{IsReplyTo};
+ghost use Rattle.api_law.specs.Widths.{HasWidths};
 ghost use Rattle.psched_script.specs.Lawful.{AreLawfulHosts, IsLawfulLine};
 ghost use Rattle.psched_script.specs.declared.script.ScriptHost.{ScriptHost};
 ghost use Rattle.psched_script.specs.declared.script.ScriptLine.{ScriptLine};
@@ -8,8 +11,8 @@ ghost use Rattle.psched_world.specs.Events.{brings};
 ghost use Rattle.psched_world.specs.Laws.{Safe};
 ghost use Rattle.psched_world.specs.World.{Letter};
 ghost use Rattle.rehearsal_model.specs.After.{first_seen, seen_after};
-ghost use Rattle.rehearsal_model.specs.Moves.{move_of, receiver};
-ghost use Rattle.rehearsal_model.specs.Reaching.{MayMove, Reaches};
+ghost use Rattle.rehearsal_model.specs.Moves.{Outcomes, move_of, receiver, reply_to};
+ghost use Rattle.rehearsal_model.specs.Reaching.{IsKnown, IsScriptPeer, MayMove, Reaches};
 ghost use Rattle.rehearsal_model.specs.Rehearsal.{Show, after, first_show, seen};
 ghost use Rattle.rehearsal_model.specs.Seen.{config_at, is_sent, message};
 
@@ -21,19 +24,28 @@ pub fn law_first()
 
 /// A law: a line leads to a world, and what is seen then is what is seen before with the line's move.
 pub fn law_line()
-    ensures reaches { (hosts : List ScriptHost) (s : Show) (line : ScriptLine) → AreLawfulHosts hosts → Reaches hosts s → IsLawfulLine (length hosts) line → MayMove (seen hosts s) (move_of (seen hosts s) line) → Reaches hosts (after hosts s line) }
-    ensures seen { (hosts : List ScriptHost) (s : Show) (line : ScriptLine) → AreLawfulHosts hosts → Reaches hosts s → IsLawfulLine (length hosts) line → seen hosts (after hosts s line) ≡ seen_after hosts (seen hosts s) line }
+    ensures reaches { (comes : Outcomes) (hosts : List ScriptHost) (s : Show) (line : ScriptLine) → AreLawfulHosts hosts → Reaches hosts s → IsLawfulLine (length hosts) line → MayMove (seen hosts s) (move_of comes (seen hosts s) line) → Reaches hosts (after comes hosts s line) }
+    ensures seen { (comes : Outcomes) (hosts : List ScriptHost) (s : Show) (line : ScriptLine) → AreLawfulHosts hosts → Reaches hosts s → IsLawfulLine (length hosts) line → seen hosts (after comes hosts s line) ≡ seen_after comes hosts (seen hosts s) line }
 {}
 
-/// A law: each host has a configuration that a host may have.
+/// A law: each host has a configuration that a host may have, and its peers are those that hosts of a script know.
 pub fn law_config()
-    ensures { (hosts : List ScriptHost) (s : Show) (place : ℕ) → AreLawfulHosts hosts → Reaches hosts s → place < length hosts → IsConfig (config_at (seen hosts s) place) }
+    ensures config { (hosts : List ScriptHost) (s : Show) (place : ℕ) → AreLawfulHosts hosts → Reaches hosts s → place < length hosts → IsConfig (config_at (seen hosts s) place) }
+    ensures peers { (hosts : List ScriptHost) (s : Show) (place : ℕ) → AreLawfulHosts hosts → Reaches hosts s → place < length hosts → All IsScriptPeer (config_at (seen hosts s) place).peers }
 {}
 
-/// A law: each message that was sent is for a host of the script, and asks what that host may be asked.
+/// A law: each message that was sent is for a host of the script, and asks what that host may be asked. An order comes to a host that
+/// knows the one whose order it is, and takes it for what it means.
 pub fn law_message()
     ensures host { (hosts : List ScriptHost) (s : Show) (n : ℕ) (l : Letter) → AreLawfulHosts hosts → Reaches hosts s → message (seen hosts s) n ≡ Some l → receiver hosts l < length hosts }
     ensures input { (hosts : List ScriptHost) (s : Show) (n : ℕ) (l : Letter) → AreLawfulHosts hosts → Reaches hosts s → message (seen hosts s) n ≡ Some l → IsInput (config_at (seen hosts s) (receiver hosts l)) (brings l l.reply) }
+    ensures known { (hosts : List ScriptHost) (s : Show) (n : ℕ) (l : Letter) → AreLawfulHosts hosts → Reaches hosts s → message (seen hosts s) n ≡ Some l → l.reply ≡ None → IsKnown (config_at (seen hosts s) (receiver hosts l)) l }
+{}
+
+/// A law: what is replied to an order that comes is a reply to that order, which the host that ordered hears as it is meant.
+pub fn law_replied()
+    ensures { (hosts : List ScriptHost) (s : Show) (n : ℕ) (l : Letter) (clock : ℕ) → AreLawfulHosts hosts → Reaches hosts s → message (seen hosts s) n ≡ Some l → l.reply ≡ None → clock ≤ greatest_moment
+        → HasWidths (reply_to hosts (seen hosts s) clock l) → IsReplyTo l.order.body (reply_to hosts (seen hosts s) clock l) }
 {}
 
 /// A law: all that a rehearsal comes to is safe.

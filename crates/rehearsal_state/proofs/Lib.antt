@@ -1,3 +1,4 @@
 pub mod MoveLemmas
 mod RehearsalLemmas
 mod SeatLemmas
+mod TurnLemmas

@@ -1,3 +1,4 @@
+pub mod Carried
 pub mod Kept
 pub mod Moved
 pub mod Ready

@@ -1,27 +1,29 @@
 //! Messages between the hosts of a script.
-ghost use Rattle.std.specs.Prelude.{◌≡◌, IfOk, Some};
+ghost use Rattle.std.specs.Prelude.{◌≡◌, ◌≤◌, IfOk, None, Some};
+ghost use Rattle.ps_time.specs.declared.moment.TheConstants.{MAX_MOMENT};
+ghost use Rattle.api_reply.specs.Bounds.{IsReplyShown};
+ghost use Rattle.api_heard.specs.Replied.{IsReplyTo};
+ghost use Rattle.letter_bytes.specs.Carried.{CarriesOrder};
 ghost use Rattle.psched_world.specs.Events.{brings, goes_to};
-ghost use Rattle.psched_world.specs.World.{heard_as, input_of};
+ghost use Rattle.rehearsal_model.specs.Hosts.{peer_key};
+ghost use Rattle.rehearsal_model.specs.Reaching.{IsKnown};
 
+use host_model::config::Config;
 use host_model::input::Input;
-use host_model::order::{Order, OrderBody, PeerAnswer};
+use host_model::order::Order;
 use host_model::reply::Reply;
 use host_queries::orders::copy_order;
-use ps_time::key::RunKey;
+use letter_bytes::order::receive_order;
+use letter_bytes::reply::{receive_reply, send_reply};
+use ps_http::reader::FieldSpans;
+use ps_time::items::Items;
 use ps_time::memory::Memory;
-use run_states::life::state_of_closed;
-use run_states::why::Denial;
+use ps_time::moment::Moment;
 use std::alloc::Global;
 use std::marker::Model;
 
-// The statuses of HTTP with which the rest is answered.
-const FORBIDDEN: u16 = 403;
-
-const NOT_FOUND: u16 = 404;
-
-const CONFLICT: u16 = 409;
-
-/// An order of one host to another; or the reply to it, which goes the other way.
+/// An order of one host to another; or the reply to it, which goes the other way. What comes to a host is read of the bytes alone;
+/// the host that ordered knows its order besides.
 pub struct Message {
     /// The number of the host whose order it is.
     pub asker: u16,
@@ -29,14 +31,18 @@ pub struct Message {
     pub asked: u16,
     pub order: Order,
     pub reply: Option<Reply>,
+    bytes: Items<u8>,
 }
 
 impl Model for Message {
     ghost use Rattle.psched_world.specs.World.{Letter};
+    ghost use Rattle.rehearsal_state.specs.Carried.{IsCarried};
 
     ghost Value = { Letter };
 
     ghost view = { λ m. record { asker = m.asker; asked = m.asked; order = m.order; reply = m.reply } };
+
+    ghost invariant = { λ m. IsCarried m.asker m.order m.reply m.bytes };
 }
 
 // Written out, so that a drop elsewhere is one call.
@@ -47,11 +53,26 @@ impl Drop for Message {
             asked: _,
             order: _,
             reply: _,
+            bytes: _,
         } = self;
     }
 }
 
 impl Message {
+    /// The order of the host with the number `asker`, whose bytes are these.
+    pub(crate) fn ordered(asker: u16, asked: u16, order: Order, bytes: Items<u8>) -> Message
+        requires { CarriesOrder (record { number = asker; key = peer_key }) order bytes }
+        ensures { result ≡ record { asker = asker; asked = asked; order = order; reply = None } }
+    {
+        Message {
+            asker,
+            asked,
+            order,
+            reply: None,
+            bytes,
+        }
+    }
+
     /// The number of the host to which it goes.
     pub fn goes_to(&self) -> u16
         ensures { result ≡ goes_to self.now self.now.reply }
@@ -62,80 +83,59 @@ impl Message {
         }
     }
 
-    /// What that host is asked by it.
-    pub fn brings(&self, alloc: Global) -> Result<Input, Memory>
+    /// The bytes of HTTP that carry it.
+    pub fn bytes(&self) -> &[u8] {
+        self.bytes.as_slice()
+    }
+
+    /// What the host with this configuration, to which it goes, is asked by its bytes at a clock, in seconds since 1970 UTC.
+    pub fn brings(
+        &self,
+        alloc: Global,
+        fields: &mut FieldSpans,
+        config: &Config,
+        clock: Moment,
+    ) -> Result<Input, Memory>
+        requires clock { clock ≤ MAX_MOMENT }
+        requires known { self.now.reply ≡ None → IsKnown config.now self.now }
         ensures { IfOk result (λ input. input ≡ brings self.now self.now.reply) }
     {
+        let bytes = self.bytes.as_slice();
         match &self.reply {
-            None => input_of(alloc, self.asker, self.order.key, &self.order.body),
-            Some(reply) => {
+            None => receive_order(alloc, fields, config, bytes, clock),
+            Some(_) => {
                 let order = copy_order(alloc, &self.order)?;
-                let answer = heard_as(alloc, reply)?;
-                Ok(Input::Heard { order, answer })
+                receive_reply(alloc, fields, order, bytes)
             }
         }
     }
 
-    /// The reply to it.
-    pub fn answered(&self, alloc: Global, reply: Reply) -> Result<Message, Memory>
+    /// The reply to it, an order, of the host with this configuration.
+    pub fn answered(&self, alloc: Global, config: &Config, reply: Reply) -> Result<Message, Memory>
+        requires shown { IsReplyShown reply }
+        requires told { IsReplyTo self.now.order.body reply }
         ensures { IfOk result (λ made. made ≡ record self.now { reply = Some reply }) }
     {
+        let bytes = match send_reply(alloc, config, &self.order, &reply) {
+            Ok(bytes) => bytes,
+            Err(fault) => {
+                drop(reply);
+                return Err(fault);
+            }
+        };
         match copy_order(alloc, &self.order) {
             Ok(order) => Ok(Message {
                 asker: self.asker,
                 asked: self.asked,
                 order,
                 reply: Some(reply),
+                bytes,
             }),
             Err(fault) => {
                 drop(reply);
+                drop(bytes);
                 Err(fault)
             }
         }
-    }
-}
-
-// What an order of the host with the number asks of another.
-fn input_of(alloc: Global, sender: u16, key: RunKey, body: &OrderBody) -> Result<Input, Memory>
-    ensures { IfOk result (λ input. input ≡ input_of sender key body.now) }
-{
-    match body {
-        OrderBody::Free(question) => Ok(Input::Free {
-            sender,
-            question: question.copy(alloc)?,
-        }),
-        OrderBody::Propose(proposal) => Ok(Input::Propose {
-            sender,
-            proposal: proposal.copy(alloc)?,
-        }),
-        OrderBody::Confirm => Ok(Input::Confirm { sender, key }),
-        OrderBody::Cancel => Ok(Input::Drop { sender, key }),
-        OrderBody::Material(text) => Ok(Input::Material {
-            sender,
-            key,
-            text: text.copy(alloc)?,
-        }),
-        OrderBody::Result => Ok(Input::Collect { sender, key }),
-    }
-}
-
-// How a reply arrives at the host that asked; of a closed run the state alone.
-fn heard_as(alloc: Global, reply: &Reply) -> Result<PeerAnswer, Memory>
-    ensures { IfOk result (λ answer. answer ≡ heard_as reply.now) }
-{
-    match reply {
-        Reply::Free(answer) => Ok(PeerAnswer::Free(answer.copy(alloc)?)),
-        Reply::Accepted(moment) => Ok(PeerAnswer::Accepted(*moment)),
-        Reply::Confirmed(moment) => Ok(PeerAnswer::Confirmed(*moment)),
-        Reply::Dropped => Ok(PeerAnswer::Dropped),
-        Reply::MaterialHeard => Ok(PeerAnswer::MaterialHeard),
-        Reply::Result(text) => Ok(PeerAnswer::Result(text.copy(alloc)?)),
-        Reply::State(state) => Ok(PeerAnswer::State(*state)),
-        Reply::Denied(denial) => Ok(PeerAnswer::Denied(denial.copy(alloc)?)),
-        Reply::Closed(why) => Ok(PeerAnswer::Denied(Denial::Closed(state_of_closed(why)))),
-        Reply::Unknown => Ok(PeerAnswer::Unknown),
-        Reply::NotFound => Ok(PeerAnswer::Other(NOT_FOUND)),
-        Reply::NotRunning => Ok(PeerAnswer::Other(CONFLICT)),
-        _ => Ok(PeerAnswer::Other(FORBIDDEN)),
     }
 }

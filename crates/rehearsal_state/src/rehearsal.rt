@@ -1,10 +1,13 @@
 //! How far a rehearsal has come: its hosts, and the messages between them.
 ghost use Rattle.std.specs.List.{list_any};
-ghost use Rattle.std.specs.Prelude.{◌∷◌, ◌==◌, ◌≡◌, ◌≤◌, ◌<◌, [], IfOk, OnOk, Some, false, length, max, set, slice_index_or, true};
+ghost use Rattle.std.specs.Prelude.{◌∷◌, ◌==◌, ◌≡◌, ◌≤◌, ◌<◌, [], IfOk, None, OnOk, Some, false, length, max, set, slice_index_or, true};
 ghost use Rattle.ps_time.specs.declared.moment.TheConstants.{MAX_MOMENT};
 ghost use Rattle.host_model.specs.Conditions.{IsConfig, IsInput};
 ghost use Rattle.host_model.specs.declared.input.Input.TheVariants.{Open};
+ghost use Rattle.psched_world.specs.Events.{brings};
+ghost use Rattle.psched_world.specs.World.{Letter};
 ghost use Rattle.rehearsal_model.specs.After.{crashed_stage};
+ghost use Rattle.rehearsal_model.specs.Reaching.{IsKnown};
 ghost use Rattle.rehearsal_model.specs.Rehearsal.{retooled};
 ghost use Rattle.rehearsal_model.specs.Seen.{config_at, disarmed, has_arrived, is_flying, is_sent, landed, message, nobody, reply_at, stage_at, stop_at, stop_in};
 ghost use Rattle.rehearsal_state.specs.Moved.{with_crash, with_letters, with_step, with_stop, with_tools};
@@ -14,6 +17,7 @@ use crate::message::Message;
 use crate::seat::Seat;
 use host_model::input::Input;
 use host_model::reply::Reply;
+use ps_http::reader::FieldSpans;
 use ps_time::items::Items;
 use ps_time::memory::Memory;
 use ps_time::moment::Moment;
@@ -33,6 +37,8 @@ pub struct Rehearsal {
     last: Moment,
     // the places of the hosts whose next step is to stop, and where it is to
     stops: Vec<(usize, Stop)>,
+    // room for the fields of the heads that are read
+    fields: FieldSpans,
 }
 
 impl Model for Rehearsal {
@@ -52,22 +58,25 @@ impl Drop for Rehearsal {
             flying: _,
             last: _,
             stops: _,
+            fields: _,
         } = self;
     }
 }
 
 impl Rehearsal {
     /// These hosts, before the first move.
-    pub fn new(alloc: Global, seats: Vec<Seat>) -> Rehearsal
-        ensures { result ≡ record { stages = seats.items; letters = []; flying = []; last = 0; stops = [] } }
+    pub fn new(alloc: Global, seats: Vec<Seat>) -> Result<Rehearsal, Memory>
+        ensures { IfOk result (λ now. now ≡ record { stages = seats.items; letters = []; flying = []; last = 0; stops = [] }) }
     {
-        Rehearsal {
+        let fields = FieldSpans::new(alloc)?;
+        Ok(Rehearsal {
             seats,
             messages: Vec::new(alloc),
             flying: Vec::new(alloc),
             last: 0,
             stops: Vec::new(alloc),
-        }
+            fields,
+        })
     }
 
     pub fn seats(&self) -> &[Seat]
@@ -85,6 +94,7 @@ impl Rehearsal {
             flying: _,
             last: _,
             stops: _,
+            fields: _,
         } = self;
         seats
     }
@@ -226,6 +236,26 @@ impl Rehearsal {
         ensures { message self.now number ≡ Some result.now }
     {
         &self.messages[(number - 1) as usize]
+    }
+
+    /// What the message of a number asks the host at a place, to which it goes, at a clock in seconds since 1970 UTC.
+    pub fn brings(
+        &mut self,
+        alloc: Global,
+        number: u64,
+        place: usize,
+        clock: Moment,
+    ) -> Result<Input, Memory>
+        requires sent { is_sent self.old number ≡ true }
+        requires place { place < length self.old.stages }
+        requires clock { clock ≤ MAX_MOMENT }
+        requires known { (l : Letter) → message self.old number ≡ Some l → l.reply ≡ None → IsKnown (config_at self.old place) l }
+        ensures input { (l : Letter) → message self.old number ≡ Some l → IfOk result (λ input. input ≡ brings l l.reply) }
+        ensures seen { self.new ≡ self.old }
+    {
+        let message = &self.messages[(number - 1) as usize];
+        let config = self.seats[place].config();
+        message.brings(alloc, &mut self.fields, config, clock)
     }
 
     /// The message of this number is no longer in flight.

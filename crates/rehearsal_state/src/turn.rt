@@ -1,22 +1,27 @@
 //! What a host has to say after a turn.
 ghost use Rattle.std.specs.Option.{option_copied};
-ghost use Rattle.std.specs.Prelude.{◌++◌, ◌-◌, ◌∷◌, ◌≡◌, ◌<◌, ◌≤◌, [], List, IfOk, OnOk, length, slice_get};
+ghost use Rattle.std.specs.Prelude.{◌++◌, ◌-◌, ◌∷◌, ◌≡◌, ◌<◌, ◌≤◌, [], All, List, IfOk, OnOk, length, slice_get};
 ghost use Rattle.ps_time.specs.declared.moment.TheConstants.{MAX_MOMENT};
 ghost use Rattle.host_model.specs.declared.input.Input.TheVariants.{Turn as AsTurn};
-ghost use Rattle.psched_world.specs.World.{number_of};
+ghost use Rattle.host_model.specs.Orders.{orders as all_orders};
+ghost use Rattle.api_order.specs.Ordered.{IsOrder};
 ghost use Rattle.psched_script.specs.declared.script.ScriptHost.{ScriptHost};
 ghost use Rattle.rehearsal_model.specs.Moves.{Move.Turns, is_of, is_untold, letter_of, same_key, same_kind, sent_by, tells};
-ghost use Rattle.rehearsal_model.specs.Seen.{reply_at, stage_at};
+ghost use Rattle.rehearsal_model.specs.Reaching.{IsScriptPeer};
+ghost use Rattle.rehearsal_model.specs.Seen.{config_at, reply_at, stage_at};
 ghost use Rattle.rehearsal_state.specs.Moved.{sent_of, with_letters, with_move};
 ghost use Rattle.rehearsal_state.specs.Ready.{IsReady};
 
 use crate::message::Message;
 use crate::rehearsal::Rehearsal;
-use host_model::config::{Config, Peer};
+use crate::seat::Seat;
+use api_law::laws::law_orders;
+use host_model::config::Config;
 use host_model::input::Input;
 use host_model::order::{Order, OrderBody};
 use host_model::reply::Reply;
 use host_queries::orders::orders;
+use letter_bytes::order::send_order;
 use ps_time::items::Items;
 use ps_time::key::RunKey;
 use ps_time::memory::Memory;
@@ -79,50 +84,47 @@ fn is_untold(now: &Rehearsal, order: &Order) -> bool
     true
 }
 
-/// The number of the peer with a name.
-fn number_of(peers: &[Peer], name: &str) -> Option<u16>
-    ensures { result ≡ number_of peers.now name.now }
-{
-    for peer in peers {
-        if peer.name.as_str() == name {
-            return Some(peer.number);
-        }
-    }
-    None
-}
-
 /// The order as a message of the host with this configuration; none where it has no such peer.
-fn letter_of(config: &Config, order: Order) -> Option<Message>
-    ensures { result ≡ letter_of config.now order }
+fn letter_of(alloc: Global, config: &Config, order: Order) -> Result<Option<Message>, Memory>
+    requires order { IsOrder order.body }
+    requires peers { All IsScriptPeer config.now.peers }
+    ensures { IfOk result (λ made. made ≡ letter_of config.now order) }
 {
-    match number_of(config.peers.as_slice(), order.to.as_str()) {
-        Some(asked) => Some(Message {
-            asker: config.number,
-            asked,
-            order,
-            reply: None,
-        }),
-        None => {
+    let asker = config.number;
+    match send_order(alloc, config, &order) {
+        Ok(Some(sent)) => {
+            let asked = sent.asked;
+            let bytes = sent.into_bytes();
+            Ok(Some(Message::ordered(asker, asked, order, bytes)))
+        }
+        Ok(None) => {
             drop(order);
-            None
+            Ok(None)
+        }
+        Err(fault) => {
+            drop(order);
+            Err(fault)
         }
     }
 }
 
 // One more order, where it is to be said.
 fn add_letter(
+    alloc: Global,
     letters: &mut Vec<Message>,
     now: &Rehearsal,
     config: &Config,
     order: Order,
 ) -> Result<(), Memory>
+    requires order { IsOrder order.body }
+    requires peers { All IsScriptPeer config.now.peers }
     ensures { OnOk result (letters.new.items ≡ letters.old.items ++ sent_of now.now config.now (order ∷ [])) }
 {
     if !is_untold(now, &order) {
         drop(order);
         return Ok(());
     }
-    match letter_of(config, order) {
+    match letter_of(alloc, config, order)? {
         Some(letter) => {
             letters.push(letter)?;
             Ok(())
@@ -137,13 +139,27 @@ fn letters_of(
     config: &Config,
     orders: Items<Order>,
 ) -> Result<Vec<Message>, Memory>
+    requires orders { All (λ order. IsOrder order.body) orders }
+    requires peers { All IsScriptPeer config.now.peers }
     ensures { IfOk result (λ letters. letters.items ≡ sent_of now.now config.now orders) }
 {
     let mut letters = Vec::new(alloc);
     for order in orders.into_vec() {
-        add_letter(&mut letters, now, config, order)?;
+        add_letter(alloc, &mut letters, now, config, order)?;
     }
     Ok(letters)
+}
+
+// The orders of a seat, each of which can be sent.
+fn orders_at(alloc: Global, seat: &Seat, clock: Moment) -> Result<Items<Order>, Memory>
+    requires { clock ≤ MAX_MOMENT }
+    ensures orders { IfOk result (λ list. list ≡ all_orders seat.now.book clock) }
+    ensures sent { IfOk result (All (λ order. IsOrder order.body)) }
+{
+    law_orders();
+    let book = seat.book();
+    let _ = book.rows();
+    orders(alloc, seat.config(), book, clock)
 }
 
 /// What the host at a place sends at a clock.
@@ -155,12 +171,12 @@ fn letters_at(
 ) -> Result<Vec<Message>, Memory>
     requires place { place < length now.now.stages }
     requires clock { clock ≤ MAX_MOMENT }
+    requires peers { All IsScriptPeer (config_at now.now place).peers }
     ensures { IfOk result (λ letters. letters.items ≡ sent_by now.now (stage_at now.now place) clock) }
 {
     let seat = now.seat(place);
-    let config = seat.config();
-    let orders = orders(alloc, config, seat.book(), clock)?;
-    letters_of(alloc, now, config, orders)
+    let orders = orders_at(alloc, seat, clock)?;
+    letters_of(alloc, now, seat.config(), orders)
 }
 
 fn send_orders(
@@ -171,6 +187,7 @@ fn send_orders(
 ) -> Result<(), Memory>
     requires place { place < length now.old.stages }
     requires clock { clock ≤ MAX_MOMENT }
+    requires peers { All IsScriptPeer (config_at now.old place).peers }
     ensures { OnOk result (now.new ≡ with_letters now.old (sent_by now.old (stage_at now.old place) clock)) }
 {
     let letters = letters_at(alloc, now, place, clock)?;
@@ -184,7 +201,8 @@ pub fn turn(
     place: usize,
     clock: Moment,
 ) -> Result<Reply, Memory>
-    requires { IsReady now.old place clock }
+    requires ready { IsReady now.old place clock }
+    requires peers { All IsScriptPeer (config_at now.old place).peers }
     ensures reply { IfOk result (λ reply. reply ≡ reply_at now.old place clock AsTurn) }
     ensures seen { (hosts : List ScriptHost) → OnOk result (now.new ≡ with_move hosts now.old (Turns place clock)) }
 {

@@ -4,19 +4,29 @@ use Rattle.rehearsal_model.specs.Moves.{Move}
 use Rattle.rehearsal_model.specs.Seen.{Seen}
 use Rattle.generated_work.specs.Shown.{IsShown}
 use Rattle.generated_work.specs.Work.{shows, turned}
-use Rattle.generated_work.proofs.ShownLemmas.{ready, shown_turned}
+use Rattle.generated_work.proofs.ShownLemmas.{peers, ready, shown_turned}
 use Rattle.generated_work.proofs.WorkLemmas.{both_turned, ok_then}
 use Rattle.generated_work.proofs.job.take_turns.Goals as goal
 
-pub take_turn-requires : goal.take_turn-requires
-take_turn-requires c = ready c.args.hosts.now c.args.now.now c.requires.shown c.args.place c.args.clock c.requires.place c.requires.clock
+pub take_turn-requires-clause-ready : goal.take_turn-requires-clause-ready
+take_turn-requires-clause-ready c = ready c.args.hosts.now c.args.now.now c.requires.shown c.args.place c.args.clock c.requires.place c.requires.clock
 
-pub take_turn-requires-2 : goal.take_turn-requires-2
-take_turn-requires-2 c =
+pub take_turn-requires-clause-peers : goal.take_turn-requires-clause-peers
+take_turn-requires-clause-peers c = peers c.args.hosts.now c.args.now.now c.requires.shown c.args.place c.requires.place
+
+pub take_turn-requires-2-clause-ready : goal.take_turn-requires-2-clause-ready
+take_turn-requires-2-clause-ready c =
     let hosts = c.args.hosts.now in
     let b : Seen = c.take_turn.new.now in
     ready hosts b (subst (IsShown hosts) (sym (c.in_ok-take_turn.ensures hosts)) (shown_turned hosts c.args.now.now c.requires.shown c.args.place c.args.clock c.requires.place c.requires.clock))
     c.partner_of-partner.result c.args.clock c.partner_of-partner.ensures.within c.requires.clock
+
+pub take_turn-requires-2-clause-peers : goal.take_turn-requires-2-clause-peers
+take_turn-requires-2-clause-peers c =
+    let hosts = c.args.hosts.now in
+    let b : Seen = c.take_turn.new.now in
+    peers hosts b (subst (IsShown hosts) (sym (c.in_ok-take_turn.ensures hosts)) (shown_turned hosts c.args.now.now c.requires.shown c.args.place c.args.clock c.requires.place c.requires.clock))
+    c.partner_of-partner.result c.partner_of-partner.ensures.within
 
 pub returns : goal.returns
 returns c =

@@ -5,6 +5,8 @@ use Rattle.psched_script.specs.declared.script.Numbered.{Numbered}
 use Rattle.psched_script.specs.declared.script.ScriptHost.{ScriptHost}
 use Rattle.report_text.specs.Line.{line_text}
 use Rattle.rehearsal_model.specs.After.{seen_after}
+use Rattle.rehearsal_model.specs.Moves.{Outcomes, move_of}
+use Rattle.rehearsal_model.specs.Reaching.{MayMove}
 use Rattle.rehearsal_model.specs.Rehearsal.{first_show, told}
 use Rattle.psched_rehearse.specs.Playing.{IsPlaying}
 use Rattle.psched_rehearse.proofs.PlayLemmas.{HasCome, one_more, playing}
@@ -12,14 +14,16 @@ use Rattle.psched_rehearse.proofs.rehearse.run_lines.Goals as goal
 
 -- the next line can be run
 pub run_line-requires-clause-playing : goal.run_line-requires-clause-playing
-run_line-requires-clause-playing c =
+run_line-requires-clause-playing g c =
     let hosts = c.args.script.now.hosts in
-    let come = c.loop-numbered.invariant in
+    let come = c.loop-numbered.invariant.come in
     subst (λ (hs : List ScriptHost). IsPlaying hs c.loop-numbered.now) (sym c.as_slice-hosts.ensures)
     (subst (IsPlaying hosts) come.seen_so (playing hosts c.requires.lawful.hosts come.show come.reaches))
 
 pub loop-numbered-preserved : goal.loop-numbered-preserved
-loop-numbered-preserved c =
+loop-numbered-preserved g c =
+    let comes : Outcomes = g.A.Archivers.comes c.args.archivers.now in
+    let same : g.A.Archivers.comes c.loop-numbered.archivers ≡ comes = c.loop-numbered.invariant.stays in
     let hosts = c.args.script.now.hosts in
     let lines = c.args.script.now.lines in
     let items : List Numbered = c.as_slice-numbered-items.result.now in
@@ -34,8 +38,12 @@ loop-numbered-preserved c =
     let left : drop i items ≡ l ∷ drop (i + 1) items = drop_more items i l within ∙ ap (λ x. x ∷ drop (i + 1) items) (sym here) in
     let at : get_or lines i l ≡ l = sym (here ∙ ap (λ (xs : List Numbered). get_or xs i l) items_are) in
     let is : IsLawfulLine (length hosts) l.line = subst (λ (x : Numbered). IsLawfulLine (length hosts) x.line) at (c.requires.lawful.lines i l (subst (λ (xs : List Numbered). i < length xs) items_are within)) in
-    one_more hosts c.requires.lawful.hosts (first_show hosts) lines (drop (i + 1) items) c.args.report.now report b l
-    (subst (λ (xs : List Numbered). HasCome hosts (first_show hosts) lines xs c.args.report.now report b) left c.loop-numbered.invariant)
-    is c.in_ok-run_line.ensures.may
-    c.run_line.new.report (c.in_ok-run_line.ensures.report ∙ ap (λ (hs : List ScriptHost). report ++ line_text l.number (told hs b l.line)) hosts_are)
-    c.run_line.new.now (c.in_ok-run_line.ensures.seen ∙ ap (λ (hs : List ScriptHost). seen_after hs b l.line) hosts_are)
+    record {
+      stays = c.run_line.ensures.stays ∙ same;
+      come =
+          one_more comes hosts c.requires.lawful.hosts (first_show hosts) lines (drop (i + 1) items) c.args.report.now report b l
+          (subst (λ (xs : List Numbered). HasCome comes hosts (first_show hosts) lines xs c.args.report.now report b) left c.loop-numbered.invariant.come)
+          is (subst (λ (x : Outcomes). MayMove b (move_of x b l.line)) same c.in_ok-run_line.ensures.may)
+          c.run_line.new.report (c.in_ok-run_line.ensures.report ∙ (ap (λ (hs : List ScriptHost). report ++ line_text l.number (told (g.A.Archivers.comes c.loop-numbered.archivers) hs b l.line)) hosts_are ∙ ap (λ (x : Outcomes). report ++ line_text l.number (told x hosts b l.line)) same))
+          c.run_line.new.now (c.in_ok-run_line.ensures.seen ∙ (ap (λ (hs : List ScriptHost). seen_after (g.A.Archivers.comes c.loop-numbered.archivers) hs b l.line) hosts_are ∙ ap (λ (x : Outcomes). seen_after x hosts b l.line) same));
+    }

@@ -8,7 +8,7 @@ use Rattle.psched_rehearse.specs.Stopping.{stopped_step}
 use Rattle.psched_rehearse.proofs.stopping.stop_other.Goals as goal
 
 pub returns-in-Limits-clause-step : goal.returns-in-Limits-clause-step
-returns-in-Limits-clause-step c = rw c.in-Limits.is (c.stop_limits.ensures.step c.args.hosts.now)
+returns-in-Limits-clause-step c = rw c.in-Limits.is (λ comes. c.stop_limits.ensures.step c.args.hosts.now)
 
 pub returns-in-Book-clause-step : goal.returns-in-Book-clause-step
 returns-in-Book-clause-step c =
@@ -16,10 +16,7 @@ returns-in-Book-clause-step c =
     let law = subst (IsLawfulLine (length c.args.hosts.now)) c.in-Book.is c.requires.lawful in
     let fits : to_z w16 (of_z w16 p) ≡ p = omega (arith, ints, law.2, law.3) in
     let asked = c.booking-input.ensures ∙ ap (λ (z : ℤ). Book c.in-Book.class z c.in-Book.start c.in-Book.length) fits in
-    rw c.in-Book.is (c.stop_client.ensures.step c.args.hosts.now ∙ ap (λ (i : Input). stopped_step c.args.hosts.now c.args.now.now (Move.Asks c.in-Book.host c.in-Book.at i)) asked)
+    rw c.in-Book.is (λ comes. c.stop_client.ensures.step c.args.hosts.now ∙ ap (λ (i : Input). stopped_step c.args.hosts.now c.args.now.now (Move.Asks c.in-Book.host c.in-Book.at i)) asked)
 
 pub returns-in-Turn-clause-step : goal.returns-in-Turn-clause-step
-returns-in-Turn-clause-step c = rw c.in-Turn.is (c.stop_turn.ensures.step c.args.hosts.now)
-
-pub returns-in-Archive-clause-step : goal.returns-in-Archive-clause-step
-returns-in-Archive-clause-step c = rw c.in-Archive.is (c.stop_archive.ensures.step c.args.hosts.now)
+returns-in-Turn-clause-step c = rw c.in-Turn.is (λ comes. c.stop_turn.ensures.step c.args.hosts.now)

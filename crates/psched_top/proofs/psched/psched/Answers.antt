@@ -21,9 +21,9 @@ returns-in-Ok-clause-generated g c = λ zero count asked.
 
 pub returns-in-Ok-clause-exact : goal.returns-in-Ok-clause-exact
 returns-in-Ok-clause-exact g c = λ low.
-    exactly_of _ _ (g.S.Source.read_faults c.args.source.now) (g.S.Source.read_faults c.run.new.source) _ _ _ (record {
+    exactly_of _ _ _ (g.S.Source.read_faults c.args.source.now) (g.S.Source.read_faults c.run.new.source) _ _ _ (record {
       outcome = c.in-Ok.outcome;
-      comes = c.in-Ok.ensures.comes;
+      cause = c.in-Ok.ensures.comes;
       status_is = c.tell.ensures.done (search rules);
       written = c.tell.ensures.told (search rules);
     }) low

@@ -19,17 +19,17 @@ returns-in-Some-ValidateLimits-clause-validated g c =
 pub returns-in-Some-Help-clause-comes : goal.returns-in-Some-Help-clause-comes
 returns-in-Some-Help-clause-comes g c =
     let is : asked c.args.words.now ≡ Some Help = search rules in
-    inl (given_unread _ _ _ (λ input. ap (λ command. outcome_of command input) (sym is)))
+    inl (given_unread _ _ _ _ (λ input. ap (λ command. outcome_of (g.A.Archivers.comes c.args.archivers.now) command input) (sym is)))
 
 pub returns-in-Some-Version-clause-comes : goal.returns-in-Some-Version-clause-comes
 returns-in-Some-Version-clause-comes g c =
     let is : asked c.args.words.now ≡ Some Version = search rules in
-    inl (given_unread _ _ _ (λ input. ap (λ command. outcome_of command input) (sym is)))
+    inl (given_unread _ _ _ _ (λ input. ap (λ command. outcome_of (g.A.Archivers.comes c.args.archivers.now) command input) (sym is)))
 
 pub returns-in-None-clause-comes : goal.returns-in-None-clause-comes
 returns-in-None-clause-comes g c =
     let is : asked c.args.words.now ≡ None = search rules in
-    inl (given_unread _ _ _ (λ input. ap (λ command. outcome_of command input) (sym is)))
+    inl (given_unread _ _ _ _ (λ input. ap (λ command. outcome_of (g.A.Archivers.comes c.args.archivers.now) command input) (sym is)))
 
 pub generate_count-requires : goal.generate_count-requires
 generate_count-requires g c =
@@ -39,7 +39,7 @@ generate_count-requires g c =
 pub returns-in-Some-Generate-clause-comes : goal.returns-in-Some-Generate-clause-comes
 returns-in-Some-Generate-clause-comes g c =
     let is : asked c.args.words.now ≡ Some (Generate c.in-Some-Generate.count) = search rules in
-    IfOk-weaker c.generate_count.result _ _ (λ outcome done. inl (given_unread _ _ _ (λ input. done.1 ∙ ap (λ command. outcome_of command input) (sym is)))) c.generate_count.ensures
+    IfOk-weaker c.generate_count.result _ _ (λ outcome done. inl (given_unread _ _ _ _ (λ input. done.1 ∙ ap (λ command. outcome_of (g.A.Archivers.comes c.args.archivers.now) command input) (sym is)))) c.generate_count.ensures
 
 pub returns-in-Some-Generate-clause-generated : goal.returns-in-Some-Generate-clause-generated
 returns-in-Some-Generate-clause-generated g c =

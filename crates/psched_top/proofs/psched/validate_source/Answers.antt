@@ -8,8 +8,8 @@ returns-in-Ok-clause-validated g c =
     IfOk-weaker c.validate_bytes.result _ _ (λ outcome valid zero. checked_of _ _ _ outcome c.in-Ok.ensures.all (search rules)) c.validate_bytes.ensures.valid
 
 pub returns-in-Err-clause-comes : goal.returns-in-Err-clause-comes
-returns-in-Err-clause-comes g c =
-    IfOk-weaker c.without_input.result _ _ (λ outcome is. comes_unread _ _ (g.S.Source.left c.read_all.new.source) _ _ c.in-Err.fault outcome refl
+returns-in-Err-clause-comes g c = λ comes.
+    IfOk-weaker c.without_input.result _ _ (λ outcome is. comes_unread comes _ _ (g.S.Source.left c.read_all.new.source) _ _ c.in-Err.fault outcome refl
     (λ e. c.read_all.ensures.too_long (search rules)) (λ e. c.read_all.ensures.held_more (search rules)) (λ e. c.read_all.ensures.fault (search rules)) is) c.without_input.ensures
 
 pub returns-in-Err-clause-validated : goal.returns-in-Err-clause-validated

@@ -1,10 +1,18 @@
-use Rattle.std.proofs.Common.{◌∙◌, ◌∷◌, ◌++◌, List, [], ap, append_assoc, sym}
+use Rattle.std.specs.Prelude.{All}
+use Rattle.std.proofs.Common.{◌∙◌, ◌∷◌, ◌++◌, List, [], ap, append_assoc, subst, sym}
+use Rattle.std.proofs.lemmas.List.Elements.{All-head, All-tail}
+use Rattle.api_order.specs.Ordered.{IsOrder}
 use Rattle.std.specs.Vec.Iter.{into_iter_items}
 use Rattle.host_model.specs.declared.order.Order.{Order}
 use Rattle.psched_world.specs.World.{Letter}
 use Rattle.rehearsal_state.specs.Moved.{sent_of}
 use Rattle.rehearsal_state.proofs.MoveLemmas.{sent_more}
 use Rattle.rehearsal_state.proofs.turn.letters_of.Goals as goal
+
+-- it is one of the orders
+pub add_letter-requires-clause-order : goal.add_letter-requires-clause-order
+add_letter-requires-clause-order c =
+    All-head (λ (o : Order). IsOrder o.body) c.in-Some.order (into_iter_items c.next.new.self) (subst (All (λ (o : Order). IsOrder o.body)) c.in-Some.ensures.steps.0 c.loop-order.invariant.left)
 
 -- one more order is looked at
 pub loop-order-preserved : goal.loop-order-preserved
@@ -17,6 +25,7 @@ loop-order-preserved c =
     record {
       can_next = tt;
       is_finite = tt;
+      left = All-tail (λ (o : Order). IsOrder o.body) order rest (subst (All (λ (o : Order). IsOrder o.body)) c.in-Some.ensures.steps.0 c.loop-order.invariant.left);
       sent =
           c.loop-order.invariant.sent
           ∙ (ap (λ os. made ++ sent_of b config os) c.in-Some.ensures.steps.0

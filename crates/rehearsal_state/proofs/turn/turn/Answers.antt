@@ -10,4 +10,4 @@ pub returns-in-Ok-clause-seen : goal.returns-in-Ok-clause-seen
 returns-in-Ok-clause-seen c = λ hosts.
     c.in-Ok.ensures
     ∙ (ap (λ b. with_letters b (sent_by b (stage_at b c.args.place) c.args.clock)) c.in_ok-reply.ensures.seen
-    ∙ turned hosts c.args.now.now c.args.place c.args.clock c.requires.there)
+    ∙ turned hosts c.args.now.now c.args.place c.args.clock c.requires.ready.there)
