@@ -1,17 +1,10 @@
 -- Every step leaves a book whose results are compact texts so.
-use Rattle.std.specs.Prelude.{nat_le}
-use Rattle.std.proofs.Common.{◌+◌, ◌≡◌, ◌≤◌, Bool, List, None, Option, Some, arith, cond, false, refl, subst, true, unwrap_or, ℕ}
-use Rattle.std.proofs.lemmas.Bool.Decides.{nat_tests}
+use Rattle.std.proofs.Common.{◌≤◌, List, None, Option, Some, arith, subst, unwrap_or, ℕ}
 use Rattle.ps_time.specs.Numbers.{greatest_moment}
 use Rattle.ps_time.specs.Span.{Range}
 use Rattle.ps_time.specs.declared.key.RunKey.{RunKey}
 use Rattle.plugin_core.specs.Bounds.{IsTest}
-use Rattle.plugin_core.specs.declared.test_spec.TestSpec.{TestSpec}
-use Rattle.plugin_core.specs.declared.test_spec.TestSpec.TheVariants.{Idle, Idlebgm, Idleex, Idlemany, Simplestream}
-use Rattle.plugin_tool.specs.ResultText.{TicksFit}
-use Rattle.plugin_tool.specs.Run.{outcome_at}
-use Rattle.plugin_tool.specs.declared.run.Outcome.{Outcome as ToolOutcome}
-use Rattle.plugin_tool.specs.declared.run.Outcome.TheVariants.{Good, NotTaken, Restarted, TimedOut}
+use Rattle.plugin_tool.specs.declared.run.Outcome.TheVariants.{Restarted}
 use Rattle.plugin_tool.specs.declared.run.ToolView.{ToolView}
 use Rattle.run_states.specs.declared.answer.Answer.{Answer}
 use Rattle.run_states.specs.declared.answer.Answer.TheVariants.{Free, Accepted, Acknowledged, Result}
@@ -33,46 +26,17 @@ use Rattle.host_model.specs.declared.input.Input.TheVariants as input
 use Rattle.host_model.specs.declared.lead.Planned.{Planned}
 use Rattle.host_model.specs.declared.lead.Planned.TheVariants.{At, NoSlot, NoTool}
 use Rattle.host_model.proofs.Brings.{suits_along}
-use Rattle.host_model.proofs.ResultTexts.{IsOfText}
 use Rattle.host_model.proofs.RowFacts.{lawful_at}
 use Rattle.host_model.proofs.SettledBook.{book_settled}
 use Rattle.host_model.proofs.StepAlong.{book_along, cancel_along, collect_along, confirm_along, drop_along, free_along, hear_along, limits_along, material_along, open_along, post_along, propose_along, tried_along, view_along}
 use Rattle.host_model.proofs.StepCanApply.{step_can}
 use Rattle.host_model.proofs.StepFollows.{input_brings}
+use Rattle.host_model.proofs.TurnBrings.{no_ticks, of_text, ticks_by}
 use Rattle.host_model.proofs.WalkLemmas.{AllAlong, turn_along}
 use Rattle.host_model.proofs.Wishes.{ask_granted, cancel_granted, end_granted, merge_granted, plan_granted, purge_granted, restart_granted, start_granted}
 use Rattle.api_law.specs.Told.{AreTold}
 use Rattle.api_law.proofs.ToldTexts.{tool_told}
 use Rattle.api_law.proofs.ToldChanges.{BringsTold, KeepsTold, after_told}
-
--- ---- the result of a tool
-of_text : (test : TestSpec) → IsTest test → IsOfText test
-of_text (Idle sleep) is = tt
-of_text (Idleex sleep) is = tt
-of_text (Idlebgm sleep i) is = tt
-of_text (Idlemany sleep hosts) is = tt
-of_text (Simplestream dest material dawdle timeout) is = is.utf8
-
-ticks_by : (test : TestSpec) (view : ToolView) (outcome : ToolOutcome) (m : ℕ) → m ≤ greatest_moment → outcome_at test view m ≡ Some outcome → TicksFit test view outcome
-ticks_by (Idle sleep) view outcome m now e = tt
-ticks_by (Idleex sleep) view outcome m now e = tt
-ticks_by (Idlemany sleep hosts) view outcome m now e = tt
-ticks_by (Simplestream dest material dawdle timeout) view outcome m now e = tt
-ticks_by (Idlebgm sleep i) view TimedOut m now e = tt
-ticks_by (Idlebgm sleep i) view NotTaken m now e = tt
-ticks_by (Idlebgm sleep i) view Restarted m now e = tt
-ticks_by (Idlebgm sleep i) view Good m now e = go (nat_le (view.started + sleep.duration) m) refl e
-  where
-    go : (t : Bool) → nat_le (view.started + sleep.duration) m ≡ t → cond t (Some Good) None ≡ Some Good → view.started + sleep.duration ≤ greatest_moment
-    go true over e = let past : view.started + sleep.duration ≤ m = grind (arith, nat_tests, over) in omega (arith, past, now)
-    go false over e = cc
-
-no_ticks : (test : TestSpec) (view : ToolView) → TicksFit test view Restarted
-no_ticks (Idle sleep) view = tt
-no_ticks (Idleex sleep) view = tt
-no_ticks (Idlebgm sleep i) view = tt
-no_ticks (Idlemany sleep hosts) view = tt
-no_ticks (Simplestream dest material dawdle timeout) view = tt
 
 -- ---- changes that bring no result
 heard_told : (k : RunKey) (place : ℕ) (told : Answer) → BringsTold (fact_of k place told)

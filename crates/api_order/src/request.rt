@@ -144,7 +144,8 @@ fn request_by(
     }
 }
 
-fn find_named<'c>(peers: &'c [Peer], name: &str) -> Option<&'c Peer>
+/// The peer of this name.
+pub fn find_named<'c>(peers: &'c [Peer], name: &str) -> Option<&'c Peer>
     ensures { option_copied result ≡ peer_named peers.entry.now name.now }
 {
     for peer in peers {

@@ -183,7 +183,8 @@ good_read (Idlebgm sleep i) view is text fits = ticked_read view.started sleep.d
 good_read (Idlemany sleep hosts) view is text fits = slept_read sleep.duration is.0.short
 good_read (Simplestream dest material dawdle timeout) view is text fits = streamed_read material view.role text
 
-result_read : (test : TestSpec) (view : ToolView) (outcome : Outcome) → IsTest test → IsOfText test → TicksFit test view outcome → IsRead (result_data test view outcome)
+-- a reader made the result that a tool gives
+pub result_read : (test : TestSpec) (view : ToolView) (outcome : Outcome) → IsTest test → IsOfText test → TicksFit test view outcome → IsRead (result_data test view outcome)
 result_read test view Good is text fits = good_read test view is text fits
 result_read test view TimedOut is text fits = failed_read (codes "timed out") (IsUtf8-are_ascii _ refl)
 result_read test view NotTaken is text fits = failed_read (codes "not taken") (IsUtf8-are_ascii _ refl)

@@ -99,7 +99,8 @@ module _ (c : Config) (b : Book) (m : ℕ) where
     asked_brings (Some w) = plan_brings (own_answer c b m r w) (wanted_tools (find_task b.tasks r.key.task)) _ refl
 
 -- ---- an ending and a merging
-ticks_by : (test : TestSpec) (view : ToolView) (outcome : ToolOutcome) (m : ℕ) → m ≤ greatest_moment → outcome_at test view m ≡ Some outcome → TicksFit test view outcome
+-- a good outcome has its ticks within the greatest moment
+pub ticks_by : (test : TestSpec) (view : ToolView) (outcome : ToolOutcome) (m : ℕ) → m ≤ greatest_moment → outcome_at test view m ≡ Some outcome → TicksFit test view outcome
 ticks_by (Idle sleep) view outcome m now e = tt
 ticks_by (Idleex sleep) view outcome m now e = tt
 ticks_by (Idlemany sleep hosts) view outcome m now e = tt
@@ -113,7 +114,7 @@ ticks_by (Idlebgm sleep i) view Good m now e = go (nat_le (view.started + sleep.
     go true over e = let past : view.started + sleep.duration ≤ m = grind (arith, nat_tests, over) in omega (arith, past, now)
     go false over e = cc
 
-no_ticks : (test : TestSpec) (view : ToolView) → TicksFit test view Restarted
+pub no_ticks : (test : TestSpec) (view : ToolView) → TicksFit test view Restarted
 no_ticks (Idle sleep) view = tt
 no_ticks (Idleex sleep) view = tt
 no_ticks (Idlebgm sleep i) view = tt
@@ -121,7 +122,7 @@ no_ticks (Idlemany sleep hosts) view = tt
 no_ticks (Simplestream dest material dawdle timeout) view = tt
 
 -- the material of a test is UTF-8
-of_text : (test : TestSpec) → IsTest test → IsOfText test
+pub of_text : (test : TestSpec) → IsTest test → IsOfText test
 of_text (Idle sleep) is = tt
 of_text (Idleex sleep) is = tt
 of_text (Idlebgm sleep i) is = tt

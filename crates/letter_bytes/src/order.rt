@@ -1,5 +1,4 @@
 //! Orders as bytes.
-ghost use Rattle.std.specs.Option.{option_copied};
 ghost use Rattle.std.specs.Prelude.{◌≡◌, ◌≤◌, All, IfErr, IfOk, IfSome, List, option_map, true, ℕ};
 ghost use Rattle.ps_time.specs.Name.{is_name};
 ghost use Rattle.ps_time.specs.declared.moment.TheConstants.{MAX_MOMENT};
@@ -20,7 +19,7 @@ use crate::read::{MOST_BODY, read_request};
 use api_input::refusal::Refusal;
 use api_input::understand::read_input;
 use api_law::laws::law_request;
-use api_order::request::order_request;
+use api_order::request::{find_named, order_request};
 use host_model::config::{Config, Peer};
 use host_model::input::Input;
 use host_model::order::Order;
@@ -54,17 +53,6 @@ impl SentOrder {
         let SentOrder { asked: _, bytes } = self;
         bytes
     }
-}
-
-fn find_named<'c>(peers: &'c [Peer], name: &str) -> Option<&'c Peer>
-    ensures { option_copied result ≡ peer_named peers.entry.now name.now }
-{
-    for peer in peers {
-        if peer.name.as_str() == name {
-            return Some(peer);
-        }
-    }
-    None
 }
 
 // No order's body comes near the limit: its texts are the material of a test, of at most 8,192 bytes, an address of at most 255, and

@@ -162,39 +162,26 @@ module _ (h : History) (image : Image) where
   synced_so : (done failed : List DiskCall) → imaged (λ i. image_bytes i h) (noted_as true (Sync ∷ done) ++ noted_as false failed) image ≡ images_of (bytes_now h) done failed image
   synced_so done failed = imaged_same (λ i. image_bytes New h) (λ i. bytes_now h) (λ i. new_image h) (noted_as true done ++ noted_as false failed) image
 
-  behind_first : (ready_now : Bool) (all : ℕ) (calls : PairCalls) → length (sync_calls ready_now) ≤ all → (ready_now ≡ true → IsSettled h)
-      → imaged (λ i. image_bytes i h) (noted_as true (first_calls (take ((all + 1) - 1) (sync_calls ready_now ++ calls))) ++ noted_as false (first_calls (take 1 (drop ((all + 1) - 1) (sync_calls ready_now ++ calls))))) image
-      ≡ images_of (bytes_now h) (first_calls (take (all - length (sync_calls ready_now)) calls)) (first_calls (take 1 (drop (all - length (sync_calls ready_now)) calls))) image
-  behind_first true all calls some is =
-      let same : (all + 1) - 1 ≡ all - 0 = omega arith in
-      ap (λ (n : ℕ). imaged (λ i. image_bytes i h) (noted_as true (first_calls (take n calls)) ++ noted_as false (first_calls (take 1 (drop n calls)))) image) same
-      ∙ settled_so (first_calls (take (all - 0) calls)) (first_calls (take 1 (drop (all - 0) calls))) (is refl)
-  behind_first false zero calls some is = absurd (omega (arith, some))
-  behind_first false (suc zero) calls some is = absurd (omega (arith, some))
-  behind_first false (suc (suc n)) calls some is =
-      let one : (suc (suc n) + 1) - 1 ≡ suc (suc n) = omega arith in
-      let two : n ≡ suc (suc n) - 2 = omega arith in
-      let all = (false, Sync) ∷ (true, Sync) ∷ calls in
-      ap (λ (m : ℕ). imaged (λ i. image_bytes i h) (noted_as true (first_calls (take m all)) ++ noted_as false (first_calls (take 1 (drop m all)))) image) one
-      ∙ (synced_so (first_calls (take n calls)) (first_calls (take 1 (drop n calls)))
-      ∙ ap (λ (m : ℕ). images_of (bytes_now h) (first_calls (take m calls)) (first_calls (take 1 (drop m calls))) image) two)
+  -- of one of the two disks, whose calls these are
+  module _ (own : PairCalls → List DiskCall) (syncs : (calls : PairCalls) → own ((false, Sync) ∷ (true, Sync) ∷ calls) ≡ Sync ∷ own calls) where
+    abbrev stopped_in : PairCalls → ℕ → List ℕ
+    stopped_in calls n = imaged (λ i. image_bytes i h) (noted_as true (own (take n calls)) ++ noted_as false (own (take 1 (drop n calls)))) image
 
-  behind_second : (ready_now : Bool) (all : ℕ) (calls : PairCalls) → length (sync_calls ready_now) ≤ all → (ready_now ≡ true → IsSettled h)
-      → imaged (λ i. image_bytes i h) (noted_as true (second_calls (take ((all + 1) - 1) (sync_calls ready_now ++ calls))) ++ noted_as false (second_calls (take 1 (drop ((all + 1) - 1) (sync_calls ready_now ++ calls))))) image
-      ≡ images_of (bytes_now h) (second_calls (take (all - length (sync_calls ready_now)) calls)) (second_calls (take 1 (drop (all - length (sync_calls ready_now)) calls))) image
-  behind_second true all calls some is =
-      let same : (all + 1) - 1 ≡ all - 0 = omega arith in
-      ap (λ (n : ℕ). imaged (λ i. image_bytes i h) (noted_as true (second_calls (take n calls)) ++ noted_as false (second_calls (take 1 (drop n calls)))) image) same
-      ∙ settled_so (second_calls (take (all - 0) calls)) (second_calls (take 1 (drop (all - 0) calls))) (is refl)
-  behind_second false zero calls some is = absurd (omega (arith, some))
-  behind_second false (suc zero) calls some is = absurd (omega (arith, some))
-  behind_second false (suc (suc n)) calls some is =
-      let one : (suc (suc n) + 1) - 1 ≡ suc (suc n) = omega arith in
-      let two : n ≡ suc (suc n) - 2 = omega arith in
-      let all = (false, Sync) ∷ (true, Sync) ∷ calls in
-      ap (λ (m : ℕ). imaged (λ i. image_bytes i h) (noted_as true (second_calls (take m all)) ++ noted_as false (second_calls (take 1 (drop m all)))) image) one
-      ∙ (synced_so (second_calls (take n calls)) (second_calls (take 1 (drop n calls)))
-      ∙ ap (λ (m : ℕ). images_of (bytes_now h) (second_calls (take m calls)) (second_calls (take 1 (drop m calls))) image) two)
+    behind : (ready_now : Bool) (all : ℕ) (calls : PairCalls) → length (sync_calls ready_now) ≤ all → (ready_now ≡ true → IsSettled h)
+        → stopped_in (sync_calls ready_now ++ calls) ((all + 1) - 1)
+        ≡ images_of (bytes_now h) (own (take (all - length (sync_calls ready_now)) calls)) (own (take 1 (drop (all - length (sync_calls ready_now)) calls))) image
+    behind true all calls some is =
+        let same : (all + 1) - 1 ≡ all - 0 = omega arith in
+        ap (stopped_in calls) same ∙ settled_so (own (take (all - 0) calls)) (own (take 1 (drop (all - 0) calls))) (is refl)
+    behind false zero calls some is = absurd (omega (arith, some))
+    behind false (suc zero) calls some is = absurd (omega (arith, some))
+    behind false (suc (suc n)) calls some is =
+        let one : (suc (suc n) + 1) - 1 ≡ suc (suc n) = omega arith in
+        let two : n ≡ suc (suc n) - 2 = omega arith in
+        ap (stopped_in ((false, Sync) ∷ (true, Sync) ∷ calls)) one
+        ∙ (ap (λ (cs : List DiskCall). imaged (λ i. image_bytes i h) (noted_as true cs ++ noted_as false (own (take 1 (drop n calls)))) image) (syncs (take n calls))
+        ∙ (synced_so (own (take n calls)) (own (take 1 (drop n calls)))
+        ∙ ap (λ (m : ℕ). images_of (bytes_now h) (own (take m calls)) (own (take 1 (drop m calls))) image) two))
 
 -- ---- what the two stand for, from their bytes
 module _ (generation start end : ℕ) (list : List (List ℕ)) (payload c : List ℕ) (small : length payload < 2 ^ 32) (whole : IsWhole generation start end list c) where
@@ -470,7 +457,7 @@ module _ {M S C R T : Type 0} (state : M → S) (stands : List (List ℕ) → S 
       let h = (first_disk old.journal).history in
       images_after image h (first_disk new.journal).history _ _ stops.first_history
       ∙ (ap (λ (l : PairCalls). imaged (λ i. image_bytes i h) (noted_as true (first_calls (take ((all_made + 1) - 1) l)) ++ noted_as false (first_calls (take 1 (drop ((all_made + 1) - 1) l)))) image) is_kept
-      ∙ (behind_first h image (is_ready old.journal.pending) all_made kept broken.synced settled_one
+      ∙ (behind h image first_calls (λ calls. refl) (is_ready old.journal.pending) all_made kept broken.synced settled_one
       ∙ ap (λ (b : List ℕ). images_of b (first_calls (take made kept)) (first_calls (take 1 (drop made kept))) image) (sym (broken.read tt).0)))
 
   second_left : (image : Image) → image_bytes image (second_disk new.journal).history ≡ images_of (seen_on (second_disk place)) (second_calls (take made kept)) (second_calls (take 1 (drop made kept))) image
@@ -478,7 +465,7 @@ module _ {M S C R T : Type 0} (state : M → S) (stands : List (List ℕ) → S 
       let h = (second_disk old.journal).history in
       images_after image h (second_disk new.journal).history _ _ stops.second_history
       ∙ (ap (λ (l : PairCalls). imaged (λ i. image_bytes i h) (noted_as true (second_calls (take ((all_made + 1) - 1) l)) ++ noted_as false (second_calls (take 1 (drop ((all_made + 1) - 1) l)))) image) is_kept
-      ∙ (behind_second h image (is_ready old.journal.pending) all_made kept broken.synced settled_two
+      ∙ (behind h image second_calls (λ calls. refl) (is_ready old.journal.pending) all_made kept broken.synced settled_two
       ∙ ap (λ (b : List ℕ). images_of b (second_calls (take made kept)) (second_calls (take 1 (drop made kept))) image) (sym (broken.read tt).1)))
 
   module _ (reach : IsWithinReach faulted.number place.generation broken.unkept.image) where
