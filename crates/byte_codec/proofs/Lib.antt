@@ -1,4 +1,1 @@
-pub mod Loop
-mod NoText
 mod Pushed
-pub mod WholeLemmas

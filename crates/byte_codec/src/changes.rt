@@ -1,14 +1,13 @@
 //! Changes and records as bytes.
 ghost use Rattle.std.specs.Prelude.{◌++◌, ◌∷◌, ◌≡◌, IfOk, OnOk};
-ghost use Rattle.byte_codec.specs.Changes.{FitsChange, WritableChange, accepted, accepted_of, asked, asked_of, change_cases, last_cases, later_cases, parts_accepted, parts_asked};
-ghost use Rattle.byte_codec.specs.Gives.{Gives};
-ghost use Rattle.byte_codec.specs.Reading.{made_at};
+ghost use Rattle.value_bytes.specs.Changes.{FitsChange, WritableChange, accepted, accepted_of, asked, asked_of, change_cases, last_cases, later_cases, parts_accepted, parts_asked};
+ghost use Rattle.value_bytes.specs.Gives.{Gives};
+ghost use Rattle.value_bytes.specs.Reading.{made_at};
 ghost use Rattle.host_model.specs.declared.change.Change.{Change};
 
 use crate::coded::{
     Coded, write_three, write_two, write_variant, write_variant_2, write_variant_3, write_variant_4,
 };
-use crate::fault::CodeFault;
 use archive_retry::state::ArchiveState;
 use host_model::change::{Change, Changes};
 use host_model::task_row::TaskRow;
@@ -24,6 +23,7 @@ use run_states::answer::{FreeAnswer, Told};
 use run_states::proposal::{Proposal, Question};
 use run_states::why::Why;
 use std::alloc::Global;
+use value_bytes::fault::CodeFault;
 
 type AcceptedParts = (
     (RunKey, (TestSpec, Text)),
@@ -262,7 +262,7 @@ fn read_last_fields(alloc: Global, number: u8, bytes: &[u8]) -> Result<(Change, 
 }
 
 impl Coded for Change {
-    ghost use Rattle.byte_codec.specs.Changes.{change, change_is};
+    ghost use Rattle.value_bytes.specs.Changes.{change, change_is};
 
     ghost codec = { change };
 
@@ -317,7 +317,7 @@ impl Coded for Change {
 }
 
 impl Coded for Changes {
-    ghost use Rattle.byte_codec.specs.Changes.{changes, changes_is};
+    ghost use Rattle.value_bytes.specs.Changes.{changes, changes_is};
 
     ghost codec = { changes };
 

@@ -1,12 +1,12 @@
 //! Values that are written as bytes.
 ghost use Rattle.std.specs.Prelude.{◌++◌, ◌∷◌, ◌≡◌, IfOk, OnOk};
-ghost use Rattle.byte_codec.specs.Codec.{◌&◌, Codec};
-ghost use Rattle.byte_codec.specs.Gives.{Gives};
-ghost use Rattle.byte_codec.specs.Laws.{IsCodec};
+ghost use Rattle.value_bytes.specs.Codec.{◌&◌, Codec};
+ghost use Rattle.value_bytes.specs.Gives.{Gives};
+ghost use Rattle.value_bytes.specs.Laws.{IsCodec};
 
-use crate::fault::CodeFault;
 use ps_time::memory::Memory;
 use std::alloc::Global;
+use value_bytes::fault::CodeFault;
 
 /// A type whose values are written as bytes, and are read from them.
 pub trait Coded: Drop {
@@ -29,8 +29,8 @@ pub trait Coded: Drop {
 }
 
 impl<A: Coded, B: Coded> Coded for (A, B) {
-    ghost use Rattle.byte_codec.specs.Codec.{◌&◌};
-    ghost use Rattle.byte_codec.specs.PairLaws.{pair_is};
+    ghost use Rattle.value_bytes.specs.Codec.{◌&◌};
+    ghost use Rattle.value_bytes.specs.PairLaws.{pair_is};
 
     ghost codec = { A.codec & B.codec };
 
@@ -48,8 +48,8 @@ impl<A: Coded, B: Coded> Coded for (A, B) {
 }
 
 impl<T: Coded> Coded for Option<T> {
-    ghost use Rattle.byte_codec.specs.Codec.{option};
-    ghost use Rattle.byte_codec.specs.ListLaws.{option_is};
+    ghost use Rattle.value_bytes.specs.Codec.{option};
+    ghost use Rattle.value_bytes.specs.ListLaws.{option_is};
 
     ghost codec = { option T.codec };
 

@@ -1,7 +1,6 @@
 //! Keys of runs, askers, intervals and windows as bytes.
 
 use crate::coded::{Coded, write_four, write_two};
-use crate::fault::CodeFault;
 use ps_time::asker::Asker;
 use ps_time::interval::{Interval, Window};
 use ps_time::items::Items;
@@ -10,9 +9,10 @@ use ps_time::memory::Memory;
 use ps_time::text::Text;
 use ps_time::tiers::Tiers;
 use std::alloc::Global;
+use value_bytes::fault::CodeFault;
 
 impl Coded for RunKey {
-    ghost use Rattle.byte_codec.specs.Keys.{key, key_is};
+    ghost use Rattle.value_bytes.specs.Keys.{key, key_is};
 
     ghost codec = { key };
 
@@ -44,7 +44,7 @@ impl Coded for RunKey {
 }
 
 impl Coded for Asker {
-    ghost use Rattle.byte_codec.specs.Keys.{asker, asker_is};
+    ghost use Rattle.value_bytes.specs.Keys.{asker, asker_is};
 
     ghost codec = { asker };
 
@@ -61,7 +61,7 @@ impl Coded for Asker {
 }
 
 impl Coded for Interval {
-    ghost use Rattle.byte_codec.specs.Keys.{interval, interval_is};
+    ghost use Rattle.value_bytes.specs.Keys.{interval, interval_is};
 
     ghost codec = { interval };
 
@@ -82,7 +82,7 @@ impl Coded for Interval {
 }
 
 impl Coded for Window {
-    ghost use Rattle.byte_codec.specs.Keys.{window, window_is};
+    ghost use Rattle.value_bytes.specs.Keys.{window, window_is};
 
     ghost codec = { window };
 
@@ -103,7 +103,7 @@ impl Coded for Window {
 }
 
 impl Coded for Tiers {
-    ghost use Rattle.byte_codec.specs.Keys.{tiers, tiers_is};
+    ghost use Rattle.value_bytes.specs.Keys.{tiers, tiers_is};
 
     ghost codec = { tiers };
 

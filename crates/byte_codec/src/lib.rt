@@ -4,7 +4,6 @@
 
 pub mod changes;
 pub mod coded;
-pub mod fault;
 pub mod keys;
 pub mod lists;
 pub mod numbers;

@@ -1,15 +1,15 @@
 //! Lists as bytes.
 ghost use Rattle.std.specs.Prelude.{◌++◌, ◌≡◌, All, IfOk, OnOk, length};
 ghost use Rattle.std.specs.List.{flat_map};
-ghost use Rattle.byte_codec.specs.Codec.{list};
-ghost use Rattle.byte_codec.specs.Gives.{Gives};
-ghost use Rattle.byte_codec.specs.Reading.{times_at};
+ghost use Rattle.value_bytes.specs.Codec.{list};
+ghost use Rattle.value_bytes.specs.Gives.{Gives};
+ghost use Rattle.value_bytes.specs.Reading.{times_at};
 
 use crate::coded::Coded;
-use crate::fault::CodeFault;
 use ps_time::items::Items;
 use ps_time::memory::Memory;
 use std::alloc::Global;
+use value_bytes::fault::CodeFault;
 
 fn write_each<T: Coded>(alloc: Global, items: &[T], out: &mut Vec<u8>) -> Result<(), Memory>
     requires { All T.codec.Writable items.now }
@@ -55,8 +55,8 @@ fn read_times<T: Coded>(
 }
 
 impl<T: Coded> Coded for Items<T> {
-    ghost use Rattle.byte_codec.specs.Codec.{list};
-    ghost use Rattle.byte_codec.specs.ListLaws.{list_is};
+    ghost use Rattle.value_bytes.specs.Codec.{list};
+    ghost use Rattle.value_bytes.specs.ListLaws.{list_is};
 
     ghost codec = { list T.codec };
 

@@ -1,17 +1,14 @@
 //! Numbers and marks as bytes.
-ghost use Rattle.std.specs.Prelude.{◌≡◌};
-ghost use Rattle.std.specs.Int.{w16, w32, w64};
-ghost use Rattle.byte_codec.specs.Gives.{Gives};
-ghost use Rattle.byte_codec.specs.Reading.{number_at};
 
 use crate::coded::Coded;
-use crate::fault::CodeFault;
 use ps_time::memory::Memory;
 use std::alloc::Global;
+use value_bytes::fault::CodeFault;
+use value_bytes::numbers::{u16_at, u32_at, u64_at};
 
 impl Coded for u8 {
-    ghost use Rattle.byte_codec.specs.Codec.{number_8};
-    ghost use Rattle.byte_codec.specs.NumberLaws.{number_8_is};
+    ghost use Rattle.value_bytes.specs.Codec.{number_8};
+    ghost use Rattle.value_bytes.specs.NumberLaws.{number_8_is};
 
     ghost codec = { number_8 };
 
@@ -30,20 +27,9 @@ impl Coded for u8 {
     ghost laws = { number_8_is };
 }
 
-fn u16_at(bytes: &[u8]) -> Result<(u16, &[u8]), CodeFault>
-    ensures { Gives (λ x. (x.0, x.1.now)) result (number_at w16 bytes.now) }
-{
-    if bytes.len() < 2 {
-        return Err(CodeFault::NoValue);
-    }
-    let (front, rest) = bytes.split_at(2);
-    let number = u16::from_be_bytes([front[0], front[1]]);
-    Ok((number, rest))
-}
-
 impl Coded for u16 {
-    ghost use Rattle.byte_codec.specs.Codec.{number_16};
-    ghost use Rattle.byte_codec.specs.NumberLaws.{number_16_is};
+    ghost use Rattle.value_bytes.specs.Codec.{number_16};
+    ghost use Rattle.value_bytes.specs.NumberLaws.{number_16_is};
 
     ghost codec = { number_16 };
 
@@ -59,20 +45,9 @@ impl Coded for u16 {
     ghost laws = { number_16_is };
 }
 
-fn u32_at(bytes: &[u8]) -> Result<(u32, &[u8]), CodeFault>
-    ensures { Gives (λ x. (x.0, x.1.now)) result (number_at w32 bytes.now) }
-{
-    if bytes.len() < 4 {
-        return Err(CodeFault::NoValue);
-    }
-    let (front, rest) = bytes.split_at(4);
-    let number = u32::from_be_bytes([front[0], front[1], front[2], front[3]]);
-    Ok((number, rest))
-}
-
 impl Coded for u32 {
-    ghost use Rattle.byte_codec.specs.Codec.{number_32};
-    ghost use Rattle.byte_codec.specs.NumberLaws.{number_32_is};
+    ghost use Rattle.value_bytes.specs.Codec.{number_32};
+    ghost use Rattle.value_bytes.specs.NumberLaws.{number_32_is};
 
     ghost codec = { number_32 };
 
@@ -88,22 +63,9 @@ impl Coded for u32 {
     ghost laws = { number_32_is };
 }
 
-fn u64_at(bytes: &[u8]) -> Result<(u64, &[u8]), CodeFault>
-    ensures { Gives (λ x. (x.0, x.1.now)) result (number_at w64 bytes.now) }
-{
-    if bytes.len() < 8 {
-        return Err(CodeFault::NoValue);
-    }
-    let (front, rest) = bytes.split_at(8);
-    let number = u64::from_be_bytes([
-        front[0], front[1], front[2], front[3], front[4], front[5], front[6], front[7],
-    ]);
-    Ok((number, rest))
-}
-
 impl Coded for u64 {
-    ghost use Rattle.byte_codec.specs.Codec.{number_64};
-    ghost use Rattle.byte_codec.specs.NumberLaws.{number_64_is};
+    ghost use Rattle.value_bytes.specs.Codec.{number_64};
+    ghost use Rattle.value_bytes.specs.NumberLaws.{number_64_is};
 
     ghost codec = { number_64 };
 
@@ -121,8 +83,8 @@ impl Coded for u64 {
 
 /// A number with a sign is written as its bits.
 impl Coded for i16 {
-    ghost use Rattle.byte_codec.specs.Codec.{signed_16};
-    ghost use Rattle.byte_codec.specs.NumberLaws.{signed_16_is};
+    ghost use Rattle.value_bytes.specs.Codec.{signed_16};
+    ghost use Rattle.value_bytes.specs.NumberLaws.{signed_16_is};
 
     ghost codec = { signed_16 };
 
@@ -140,8 +102,8 @@ impl Coded for i16 {
 }
 
 impl Coded for bool {
-    ghost use Rattle.byte_codec.specs.Codec.{mark};
-    ghost use Rattle.byte_codec.specs.NumberLaws.{mark_is};
+    ghost use Rattle.value_bytes.specs.Codec.{mark};
+    ghost use Rattle.value_bytes.specs.NumberLaws.{mark_is};
 
     ghost codec = { mark };
 

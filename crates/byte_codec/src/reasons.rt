@@ -1,24 +1,25 @@
 //! Proposals, and why a run was denied or closed, as bytes.
 ghost use Rattle.std.specs.Prelude.{◌≡◌, IfOk};
-ghost use Rattle.byte_codec.specs.Gives.{Gives};
-ghost use Rattle.byte_codec.specs.Reasons.{FitsCause, FitsDenial, FitsWhy, cause_cases, denial_cases, why_cases};
+ghost use Rattle.value_bytes.specs.Gives.{Gives};
+ghost use Rattle.value_bytes.specs.Reasons.{FitsCause, FitsDenial, FitsWhy, cause_cases, denial_cases, why_cases};
 
 use crate::coded::{Coded, write_three, write_two, write_variant, write_variant_2};
-use crate::fault::CodeFault;
 use plugin_core::test_spec::TestSpec;
 use ps_time::asker::{Asker, Verdict};
 use ps_time::key::RunKey;
 use ps_time::memory::Memory;
 use ps_time::text::Text;
-use run_states::proposal::{BoxedProposal, Proposal};
+use run_states::proposal::Proposal;
 use run_states::state::State;
 use run_states::why::{Cause, Closing, Denial, What, Why};
 use std::alloc::Global;
+use value_bytes::fault::CodeFault;
+use value_bytes::parts::boxed;
 
 type ProposalParts = ((RunKey, (TestSpec, Text)), (u64, (i16, Asker)));
 
 impl Coded for Proposal {
-    ghost use Rattle.byte_codec.specs.Reasons.{proposal, proposal_is};
+    ghost use Rattle.value_bytes.specs.Reasons.{proposal, proposal_is};
 
     ghost codec = { proposal };
 
@@ -43,30 +44,6 @@ impl Coded for Proposal {
     }
 
     ghost laws = { proposal_is };
-}
-
-/// Both proposals, each in a place of its own.
-fn boxed(
-    alloc: Global,
-    kept: Proposal,
-    sent: Proposal,
-) -> Result<(BoxedProposal, BoxedProposal), Memory>
-    ensures { IfOk result (λ both. (both.0 ≡ kept) × (both.1 ≡ sent)) }
-{
-    let kept = match BoxedProposal::new(alloc, kept) {
-        Ok(kept) => kept,
-        Err(Memory) => {
-            drop(sent);
-            return Err(Memory);
-        }
-    };
-    match BoxedProposal::new(alloc, sent) {
-        Ok(sent) => Ok((kept, sent)),
-        Err(Memory) => {
-            drop(kept);
-            Err(Memory)
-        }
-    }
 }
 
 fn read_differs(alloc: Global, bytes: &[u8]) -> Result<(Denial, &[u8]), CodeFault>
@@ -114,7 +91,7 @@ fn read_denial(alloc: Global, number: u8, bytes: &[u8]) -> Result<(Denial, &[u8]
 }
 
 impl Coded for Denial {
-    ghost use Rattle.byte_codec.specs.Reasons.{denial, denial_is};
+    ghost use Rattle.value_bytes.specs.Reasons.{denial, denial_is};
 
     ghost codec = { denial };
 
@@ -159,7 +136,7 @@ fn read_cause(alloc: Global, number: u8, bytes: &[u8]) -> Result<(Cause, &[u8]),
 }
 
 impl Coded for Cause {
-    ghost use Rattle.byte_codec.specs.Reasons.{cause, cause_is};
+    ghost use Rattle.value_bytes.specs.Reasons.{cause, cause_is};
 
     ghost codec = { cause };
 
@@ -201,7 +178,7 @@ fn read_why(alloc: Global, number: u8, bytes: &[u8]) -> Result<(Why, &[u8]), Cod
 }
 
 impl Coded for Why {
-    ghost use Rattle.byte_codec.specs.Reasons.{why, why_is};
+    ghost use Rattle.value_bytes.specs.Reasons.{why, why_is};
 
     ghost codec = { why };
 
@@ -223,7 +200,7 @@ impl Coded for Why {
 }
 
 impl Coded for Closing {
-    ghost use Rattle.byte_codec.specs.Reasons.{closing, closing_is};
+    ghost use Rattle.value_bytes.specs.Reasons.{closing, closing_is};
 
     ghost codec = { closing };
 

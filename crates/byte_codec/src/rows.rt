@@ -1,9 +1,8 @@
 //! Rows of runs as bytes.
 ghost use Rattle.std.specs.Prelude.{◌++◌, ◌≡◌, OnOk};
-ghost use Rattle.byte_codec.specs.Rows.{ends, ends_of_row, lead, lead_of_row, row_of, steps, steps_of_row, work, work_of_row};
+ghost use Rattle.value_bytes.specs.Rows.{ends, ends_of_row, lead, lead_of_row, steps, steps_of_row, work, work_of_row};
 
 use crate::coded::{Coded, write_four, write_three, write_two};
-use crate::fault::CodeFault;
 use archive_retry::state::ArchiveState;
 use plugin_core::test_spec::TestSpec;
 use ps_time::asker::Asker;
@@ -17,9 +16,11 @@ use run_states::answer::{FreeAnswer, Other};
 use run_states::row::{Ending, RunRow};
 use run_states::why::Closing;
 use std::alloc::Global;
+use value_bytes::fault::CodeFault;
+use value_bytes::parts::{RowParts, row_of};
 
 impl Coded for FreeAnswer {
-    ghost use Rattle.byte_codec.specs.Rows.{answer, answer_is};
+    ghost use Rattle.value_bytes.specs.Rows.{answer, answer_is};
 
     ghost codec = { answer };
 
@@ -37,7 +38,7 @@ impl Coded for FreeAnswer {
 }
 
 impl Coded for Other {
-    ghost use Rattle.byte_codec.specs.Rows.{other, other_is};
+    ghost use Rattle.value_bytes.specs.Rows.{other, other_is};
 
     ghost codec = { other };
 
@@ -74,7 +75,7 @@ impl Coded for Other {
 }
 
 impl Coded for Ending {
-    ghost use Rattle.byte_codec.specs.Rows.{ending, ending_is};
+    ghost use Rattle.value_bytes.specs.Rows.{ending, ending_is};
 
     ghost codec = { ending };
 
@@ -90,8 +91,6 @@ impl Coded for Ending {
 
     ghost laws = { ending_is };
 }
-
-type Work = (RunKey, (TestSpec, (Option<Text>, (Option<Interval>, i16))));
 
 fn write_work(alloc: Global, row: &RunRow, out: &mut Vec<u8>) -> Result<(), Memory>
     requires { work.Writable (work_of_row row.now) }
@@ -109,11 +108,6 @@ fn write_work(alloc: Global, row: &RunRow, out: &mut Vec<u8>) -> Result<(), Memo
     )
 }
 
-type Steps = (
-    Items<Text>,
-    (Asker, (Option<u64>, (Option<u64>, Option<u64>))),
-);
-
 fn write_steps(alloc: Global, row: &RunRow, out: &mut Vec<u8>) -> Result<(), Memory>
     requires { steps.Writable (steps_of_row row.now) }
     ensures code { OnOk result (out.new.items ≡ out.old.items ++ steps.code (steps_of_row row.now)) }
@@ -129,14 +123,6 @@ fn write_steps(alloc: Global, row: &RunRow, out: &mut Vec<u8>) -> Result<(), Mem
         out,
     )
 }
-
-type Ends = (
-    Option<Ending>,
-    (
-        Option<u64>,
-        (Option<Closing>, (Option<Window>, Option<u64>)),
-    ),
-);
 
 fn write_ends(alloc: Global, row: &RunRow, out: &mut Vec<u8>) -> Result<(), Memory>
     requires { ends.Writable (ends_of_row row.now) }
@@ -154,10 +140,6 @@ fn write_ends(alloc: Global, row: &RunRow, out: &mut Vec<u8>) -> Result<(), Memo
     )
 }
 
-type Lead = (Items<Other>, (Option<Text>, Items<ArchiveState>));
-
-type RowParts = (Work, (Steps, (Ends, Lead)));
-
 fn write_lead(alloc: Global, row: &RunRow, out: &mut Vec<u8>) -> Result<(), Memory>
     requires { lead.Writable (lead_of_row row.now) }
     ensures code { OnOk result (out.new.items ≡ out.old.items ++ lead.code (lead_of_row row.now)) }
@@ -167,7 +149,7 @@ fn write_lead(alloc: Global, row: &RunRow, out: &mut Vec<u8>) -> Result<(), Memo
 }
 
 impl Coded for RunRow {
-    ghost use Rattle.byte_codec.specs.Rows.{row, row_is};
+    ghost use Rattle.value_bytes.specs.Rows.{row, row_is};
 
     ghost codec = { row };
 
@@ -184,34 +166,4 @@ impl Coded for RunRow {
     }
 
     ghost laws = { row_is };
-}
-
-fn row_of(parts: RowParts) -> RunRow
-    ensures { result ≡ row_of parts }
-{
-    let (work, (steps, (ends, lead))) = parts;
-    let (key, (test, (tool, (interval, priority)))) = work;
-    let (participants, (asker, (accepted, (confirmed, started)))) = steps;
-    let (ended, (material, (closed, (question, asked)))) = ends;
-    let (others, (merged, archives)) = lead;
-    RunRow {
-        key,
-        test,
-        tool,
-        interval,
-        priority,
-        participants,
-        asker,
-        accepted,
-        confirmed,
-        started,
-        ended,
-        material,
-        closed,
-        question,
-        asked,
-        others,
-        merged,
-        archives,
-    }
 }

@@ -1,10 +1,9 @@
 //! Verdicts, names of states, acknowledgements and states of archives as bytes.
-ghost use Rattle.std.specs.Prelude.{◌∷◌, ◌≡◌, [], IfOk};
-ghost use Rattle.byte_codec.specs.Gives.{Gives};
-ghost use Rattle.byte_codec.specs.States.{FitsState, FitsTold, FitsVerdict, FitsWhat, state_cases, state_code, told_cases, told_code, verdict_cases, what_cases, what_code};
+ghost use Rattle.std.specs.Prelude.{IfOk};
+ghost use Rattle.value_bytes.specs.Gives.{Gives};
+ghost use Rattle.value_bytes.specs.States.{FitsVerdict, verdict_cases};
 
 use crate::coded::{Coded, write_three, write_variant};
-use crate::fault::CodeFault;
 use archive_retry::state::ArchiveState;
 use ps_time::asker::Verdict;
 use ps_time::memory::Memory;
@@ -12,6 +11,10 @@ use run_states::answer::Told;
 use run_states::state::State;
 use run_states::why::What;
 use std::alloc::Global;
+use value_bytes::fault::CodeFault;
+use value_bytes::names::{
+    read_state, read_told, read_what, state_number, told_number, what_number,
+};
 
 fn read_verdict(alloc: Global, number: u8, bytes: &[u8]) -> Result<(Verdict, &[u8]), CodeFault>
     ensures value { Gives (λ x. (x.0, x.1.now)) result (verdict_cases number bytes.now) }
@@ -36,7 +39,7 @@ fn read_verdict(alloc: Global, number: u8, bytes: &[u8]) -> Result<(Verdict, &[u
 }
 
 impl Coded for Verdict {
-    ghost use Rattle.byte_codec.specs.States.{verdict, verdict_is};
+    ghost use Rattle.value_bytes.specs.States.{verdict, verdict_is};
 
     ghost codec = { verdict };
 
@@ -57,31 +60,8 @@ impl Coded for Verdict {
     ghost laws = { verdict_is };
 }
 
-fn read_what(number: u8, bytes: &[u8]) -> Result<(What, &[u8]), CodeFault>
-    ensures value { Gives (λ x. (x.0, x.1.now)) result (what_cases number bytes.now) }
-    ensures fits { IfOk result (λ x. FitsWhat x.0) }
-{
-    match number {
-        0 => Ok((What::Runs, bytes)),
-        1 => Ok((What::Results, bytes)),
-        2 => Ok((What::Numbers, bytes)),
-        _ => Err(CodeFault::NoValue),
-    }
-}
-
-fn what_number(what: What) -> u8
-    ensures code { what_code what ≡ result ∷ [] }
-    ensures fits { FitsWhat what }
-{
-    match what {
-        What::Runs => 0,
-        What::Results => 1,
-        What::Numbers => 2,
-    }
-}
-
 impl Coded for What {
-    ghost use Rattle.byte_codec.specs.States.{what, what_is};
+    ghost use Rattle.value_bytes.specs.States.{what, what_is};
 
     ghost codec = { what };
 
@@ -97,47 +77,8 @@ impl Coded for What {
     ghost laws = { what_is };
 }
 
-fn read_state(number: u8, bytes: &[u8]) -> Result<(State, &[u8]), CodeFault>
-    ensures value { Gives (λ x. (x.0, x.1.now)) result (state_cases number bytes.now) }
-    ensures fits { IfOk result (λ x. FitsState x.0) }
-{
-    match number {
-        0 => Ok((State::Missed, bytes)),
-        1 => Ok((State::Preempted, bytes)),
-        2 => Ok((State::Nonstart, bytes)),
-        3 => Ok((State::Canceled, bytes)),
-        4 => Ok((State::Finished, bytes)),
-        5 => Ok((State::Failed, bytes)),
-        6 => Ok((State::Running, bytes)),
-        7 => Ok((State::Cleanup, bytes)),
-        8 => Ok((State::Overdue, bytes)),
-        9 => Ok((State::OnDeck, bytes)),
-        10 => Ok((State::Pending, bytes)),
-        _ => Err(CodeFault::NoValue),
-    }
-}
-
-fn state_number(state: State) -> u8
-    ensures code { state_code state ≡ result ∷ [] }
-    ensures fits { FitsState state }
-{
-    match state {
-        State::Missed => 0,
-        State::Preempted => 1,
-        State::Nonstart => 2,
-        State::Canceled => 3,
-        State::Finished => 4,
-        State::Failed => 5,
-        State::Running => 6,
-        State::Cleanup => 7,
-        State::Overdue => 8,
-        State::OnDeck => 9,
-        State::Pending => 10,
-    }
-}
-
 impl Coded for State {
-    ghost use Rattle.byte_codec.specs.States.{state, state_is};
+    ghost use Rattle.value_bytes.specs.States.{state, state_is};
 
     ghost codec = { state };
 
@@ -153,31 +94,8 @@ impl Coded for State {
     ghost laws = { state_is };
 }
 
-fn read_told(number: u8, bytes: &[u8]) -> Result<(Told, &[u8]), CodeFault>
-    ensures value { Gives (λ x. (x.0, x.1.now)) result (told_cases number bytes.now) }
-    ensures fits { IfOk result (λ x. FitsTold x.0) }
-{
-    match number {
-        1 => Ok((Told::Confirm, bytes)),
-        2 => Ok((Told::Cancel, bytes)),
-        3 => Ok((Told::Material, bytes)),
-        _ => Err(CodeFault::NoValue),
-    }
-}
-
-fn told_number(told: Told) -> u8
-    ensures code { told_code told ≡ result ∷ [] }
-    ensures fits { FitsTold told }
-{
-    match told {
-        Told::Confirm => 1,
-        Told::Cancel => 2,
-        Told::Material => 3,
-    }
-}
-
 impl Coded for Told {
-    ghost use Rattle.byte_codec.specs.States.{told, told_is};
+    ghost use Rattle.value_bytes.specs.States.{told, told_is};
 
     ghost codec = { told };
 
@@ -194,7 +112,7 @@ impl Coded for Told {
 }
 
 impl Coded for ArchiveState {
-    ghost use Rattle.byte_codec.specs.States.{archive_state, archive_state_is};
+    ghost use Rattle.value_bytes.specs.States.{archive_state, archive_state_is};
 
     ghost codec = { archive_state };
 

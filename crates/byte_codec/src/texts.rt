@@ -1,40 +1,13 @@
 //! Texts as bytes.
-ghost use Rattle.std.specs.Prelude.{◌++◌, ◌≡◌, IfOk, IfSome, OnOk, is_some, length, true};
-ghost use Rattle.std.specs.Str.{is_utf8};
-ghost use Rattle.byte_codec.specs.Codec.{IsText, text as text_codec};
-ghost use Rattle.byte_codec.specs.Gives.{Gives};
-ghost use Rattle.byte_codec.specs.Reading.{bytes_at, partly_at, utf8_of};
+ghost use Rattle.std.specs.Prelude.{◌++◌, ◌≡◌, OnOk};
+ghost use Rattle.value_bytes.specs.Codec.{IsText, text as text_codec};
 
 use crate::coded::Coded;
-use crate::fault::CodeFault;
 use ps_time::memory::Memory;
 use ps_time::text::Text;
 use std::alloc::Global;
-
-fn as_text(bytes: &[u8]) -> Option<&str>
-    ensures utf8 { is_some result ≡ is_utf8 bytes.now }
-    ensures text { IfSome result (λ text. text.now ≡ bytes.now) }
-{
-    match std::str::from_utf8(bytes) {
-        Ok(text) => Some(text),
-        Err(_) => None,
-    }
-}
-
-fn text_of(alloc: Global, len: usize, bytes: &[u8]) -> Result<(Text, &[u8]), CodeFault>
-    ensures value { Gives (λ x. (x.0, x.1.now)) result (partly_at utf8_of (bytes_at len) bytes.now) }
-    ensures length { IfOk result (λ x. length x.0 ≡ len) }
-    ensures utf8 { IfOk result (λ x. is_utf8 x.0 ≡ true) }
-{
-    if bytes.len() < len {
-        return Err(CodeFault::NoValue);
-    }
-    let (front, rest) = bytes.split_at(len);
-    match as_text(front) {
-        None => Err(CodeFault::NoValue),
-        Some(text) => Ok((Text::new(alloc, text)?, rest)),
-    }
-}
+use value_bytes::fault::CodeFault;
+use value_bytes::texts::text_of;
 
 /// Adds the bytes of a text. One of 4 GiB or more has none, and is want of memory.
 pub fn write_str(alloc: Global, text: &str, out: &mut Vec<u8>) -> Result<(), Memory>
@@ -50,8 +23,8 @@ pub fn write_str(alloc: Global, text: &str, out: &mut Vec<u8>) -> Result<(), Mem
 }
 
 impl Coded for Text {
-    ghost use Rattle.byte_codec.specs.Codec.{text};
-    ghost use Rattle.byte_codec.specs.TextLaws.{text_is};
+    ghost use Rattle.value_bytes.specs.Codec.{text};
+    ghost use Rattle.value_bytes.specs.TextLaws.{text_is};
 
     ghost codec = { text };
 

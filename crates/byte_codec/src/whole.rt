@@ -1,11 +1,11 @@
 //! Bytes that are those of one value, followed by nothing.
 ghost use Rattle.std.specs.Prelude.{◌++◌, ◌≡◌, ℕ, List, IfOk, IfSome, Option, Some};
-ghost use Rattle.byte_codec.specs.Reading.{whole_of};
+ghost use Rattle.value_bytes.specs.Reading.{whole_of};
 
 use crate::coded::Coded;
-use crate::fault::CodeFault;
 use ps_time::memory::Memory;
 use std::alloc::Global;
+use value_bytes::fault::CodeFault;
 
 fn read_all<T: Coded>(alloc: Global, bytes: &[u8]) -> Result<Option<T>, Memory>
     ensures exact { IfOk result (λ o. o ≡ whole_of (T.codec.read bytes.now)) }

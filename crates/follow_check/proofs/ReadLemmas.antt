@@ -11,8 +11,8 @@ use Rattle.host_model.specs.declared.change.Change.{Change}
 use Rattle.host_model.specs.declared.change.Change.TheVariants.{Accepted, Asked, Closed, Posted}
 use Rattle.host_model.specs.declared.change.Changes.{Changes}
 use Rattle.row_check.specs.HasTests.{CauseTests, DenialTests, WhyTests}
-use Rattle.byte_codec.specs.Changes.{FitsChange, changes}
-use Rattle.byte_codec.specs.Reasons.{FitsCause, FitsDenial, FitsWhy}
+use Rattle.value_bytes.specs.Changes.{FitsChange, changes}
+use Rattle.value_bytes.specs.Reasons.{FitsCause, FitsDenial, FitsWhy}
 use Rattle.host_codec.specs.FirstFormat.{FitsFirst, first_changes}
 use Rattle.follow_check.specs.ReadChange.{IsReadChange}
 

@@ -2,7 +2,7 @@
 ghost use Rattle.std.specs.Prelude.{◌≡◌, ◌≤◌, ◌<◌, ◌+◌, ◌↔◌, All, IfOk, IsTrue, OnOk, length};
 ghost use Rattle.host_model.specs.Apply.{apply, apply_all, recorded};
 ghost use Rattle.host_model.specs.MayFollow.{CanApplyAll, MayFollow};
-ghost use Rattle.byte_codec.specs.Changes.{changes};
+ghost use Rattle.value_bytes.specs.Changes.{changes};
 ghost use Rattle.host_codec.specs.FirstFormat.{first_changes};
 ghost use Rattle.host_model.specs.declared.change.Changes.{Changes as Record};
 ghost use Rattle.follow_check.specs.Follows.{Follows};

@@ -2,7 +2,7 @@
 use Rattle.std.proofs.Common.{◌≡◌, ◌++◌, ◌∷◌, ◌∙◌, [], All, List, ap, append_assoc, subst, sym, ℕ}
 use Rattle.std.proofs.lemmas.List.Elements.{All-cons, All-nil, All-rest}
 use Rattle.std.specs.List.{flat_map}
-use Rattle.byte_codec.specs.Codec.{Codec}
+use Rattle.value_bytes.specs.Codec.{Codec}
 
 module _ {A : Type 0} (c : Codec A) (all : List A) (before : List ℕ) where
   -- what was written, and the bytes of those that are left; if these have bytes, all have

@@ -8,20 +8,20 @@ use Rattle.run_states.specs.declared.row.RunRow.{RunRow}
 use Rattle.host_model.specs.Book.{Book}
 use Rattle.host_model.specs.declared.change.Change.{Change}
 use Rattle.host_model.specs.declared.change.Change.TheVariants.{Accepted, LimitsSet, Planned, Purged}
-use Rattle.byte_codec.specs.Changes.{FitsChange, change_cases, change_code, change_is, changes_of, parts_of_changes}
-use Rattle.byte_codec.specs.Codec.{text}
-use Rattle.byte_codec.specs.Gives.{Gives}
-use Rattle.byte_codec.specs.Keys.{asker_is, key_is}
-use Rattle.byte_codec.specs.Laws.{AreBytes, Begins, IsCodec, ReadAgain, ReadsCodes}
-use Rattle.byte_codec.specs.ListLaws.{list_is}
-use Rattle.byte_codec.specs.NumberLaws.{number_64_is, rest_are, signed_16_is}
-use Rattle.byte_codec.specs.PairLaws.{behind_some, built_is, case_reads, made_again, no_case_reads, pair_is, some_is}
-use Rattle.byte_codec.specs.Reading.{made_at, variant_at, whole_of}
-use Rattle.byte_codec.specs.Rows.{row, row_is}
-use Rattle.byte_codec.specs.Tasks.{task_row, task_row_is}
-use Rattle.byte_codec.specs.Tests.{test_is}
-use Rattle.byte_codec.specs.TextLaws.{text_is}
-use Rattle.byte_codec.specs.declared.fault.CodeFault.{CodeFault}
+use Rattle.value_bytes.specs.Changes.{FitsChange, change_cases, change_code, change_is, changes_of, parts_of_changes}
+use Rattle.value_bytes.specs.Codec.{text}
+use Rattle.value_bytes.specs.Gives.{Gives}
+use Rattle.value_bytes.specs.Keys.{asker_is, key_is}
+use Rattle.value_bytes.specs.Laws.{AreBytes, Begins, IsCodec, ReadAgain, ReadsCodes}
+use Rattle.value_bytes.specs.ListLaws.{list_is}
+use Rattle.value_bytes.specs.NumberLaws.{number_64_is, rest_are, signed_16_is}
+use Rattle.value_bytes.specs.PairLaws.{behind_some, built_is, case_reads, made_again, no_case_reads, pair_is, some_is}
+use Rattle.value_bytes.specs.Reading.{made_at, variant_at, whole_of}
+use Rattle.value_bytes.specs.Rows.{row, row_is}
+use Rattle.value_bytes.specs.Tasks.{task_row, task_row_is}
+use Rattle.value_bytes.specs.Tests.{test_is}
+use Rattle.value_bytes.specs.TextLaws.{text_is}
+use Rattle.value_bytes.specs.declared.fault.CodeFault.{CodeFault}
 use Rattle.host_codec.specs.FirstFormat.{FitsFirst, FitsFirstBook, IsFirst, IsFirstSnapshot, first_accepted, first_accepted_of, first_book, first_book_of, first_cases, first_change, first_changes, first_code, first_parts, first_parts_accepted, first_parts_codec, first_pairs, first_planned, first_planned_of, first_snapshot}
 
 first_accepted_is : IsCodec first_accepted

@@ -26,14 +26,14 @@ use Rattle.host_model.specs.RecordLength.{answer_bytes, asker_bytes, cause_bytes
 use Rattle.host_model.specs.declared.change.Change.{Change}
 use Rattle.host_model.specs.declared.change.Change.TheVariants.{AcceptHeard, Accepted, Asked, Closed, Confirmed, Ended, FreeHeard, LimitsSet, MaterialHeard, Merged, Planned, Posted, Purged, ResultHeard, Started, TaskClosed, Told as told_there, Tried}
 use Rattle.host_model.specs.declared.change.Changes.{Changes}
-use Rattle.byte_codec.specs.Changes.{change, changes, parts_accepted, parts_asked, parts_of_changes}
-use Rattle.byte_codec.specs.Codec.{◌&◌, Codec, list, mark, number_32, number_64, number_8, option, signed_16, text}
-use Rattle.byte_codec.specs.Keys.{asker, key, parts_of_asker, parts_of_tiers, tiers, window}
-use Rattle.byte_codec.specs.Reasons.{cause, denial, parts_of_proposal, proposal, why}
-use Rattle.byte_codec.specs.Rows.{answer, parts_of_answer}
-use Rattle.byte_codec.specs.States.{archive_state, parts_of_archive_state, state, told, verdict, what}
-use Rattle.byte_codec.specs.Tasks.{parts_of_task_row, task_row}
-use Rattle.byte_codec.specs.Tests.{test, test_text}
+use Rattle.value_bytes.specs.Changes.{change, changes, parts_accepted, parts_asked, parts_of_changes}
+use Rattle.value_bytes.specs.Codec.{◌&◌, Codec, list, mark, number_32, number_64, number_8, option, signed_16, text}
+use Rattle.value_bytes.specs.Keys.{asker, key, parts_of_asker, parts_of_tiers, tiers, window}
+use Rattle.value_bytes.specs.Reasons.{cause, denial, parts_of_proposal, proposal, why}
+use Rattle.value_bytes.specs.Rows.{answer, parts_of_answer}
+use Rattle.value_bytes.specs.States.{archive_state, parts_of_archive_state, state, told, verdict, what}
+use Rattle.value_bytes.specs.Tasks.{parts_of_task_row, task_row}
+use Rattle.value_bytes.specs.Tests.{test, test_text}
 
 -- the bytes of each value are so many
 record IsLong {A : Type 0} (c : Codec A) (size : A → ℕ) : Type 0 where

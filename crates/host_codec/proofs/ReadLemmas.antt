@@ -9,8 +9,8 @@ use Rattle.run_states.specs.declared.why.Denial.{Denial}
 use Rattle.run_states.specs.declared.why.Denial.TheVariants.{Differs}
 use Rattle.run_states.specs.declared.why.Why.{Why}
 use Rattle.run_states.specs.declared.why.Why.TheVariants.{Nonstart}
-use Rattle.byte_codec.specs.Reasons.{FitsCause, FitsDenial, FitsWhy, closing}
-use Rattle.byte_codec.specs.Rows.{row}
+use Rattle.value_bytes.specs.Reasons.{FitsCause, FitsDenial, FitsWhy, closing}
+use Rattle.value_bytes.specs.Rows.{row}
 use Rattle.row_check.specs.HasTests.{CauseTests, DenialTests, HasTests, WhyTests}
 
 denial_tests : (d : Denial) → FitsDenial d → DenialTests d

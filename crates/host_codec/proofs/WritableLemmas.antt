@@ -27,13 +27,13 @@ use Rattle.host_model.specs.LawfulRow.{IsHostRow}
 use Rattle.host_model.specs.declared.change.Change.{Change}
 use Rattle.host_model.specs.declared.change.Change.TheVariants.{AcceptHeard, Accepted, Asked, Closed, Confirmed, Ended, FreeHeard, LimitsSet, MaterialHeard, Merged, Planned, Posted, Purged, ResultHeard, Started, TaskClosed, Told as told_there, Tried}
 use Rattle.host_model.specs.declared.change.Changes.{Changes}
-use Rattle.byte_codec.specs.Changes.{change, changes}
-use Rattle.byte_codec.specs.Codec.{Codec, list, number_64, option, text}
-use Rattle.byte_codec.specs.Keys.{asker, key, tiers}
-use Rattle.byte_codec.specs.Reasons.{cause, closing, denial, proposal, why}
-use Rattle.byte_codec.specs.Rows.{answer, ends, ends_of_row, lead, lead_of_row, other, row, steps, steps_of_row, work, work_of_row}
-use Rattle.byte_codec.specs.States.{archive_state, state, told, verdict, what}
-use Rattle.byte_codec.specs.Tasks.{task_row}
+use Rattle.value_bytes.specs.Changes.{change, changes}
+use Rattle.value_bytes.specs.Codec.{Codec, list, number_64, option, text}
+use Rattle.value_bytes.specs.Keys.{asker, key, tiers}
+use Rattle.value_bytes.specs.Reasons.{cause, closing, denial, proposal, why}
+use Rattle.value_bytes.specs.Rows.{answer, ends, ends_of_row, lead, lead_of_row, other, row, steps, steps_of_row, work, work_of_row}
+use Rattle.value_bytes.specs.States.{archive_state, state, told, verdict, what}
+use Rattle.value_bytes.specs.Tasks.{task_row}
 use Rattle.host_codec.specs.Books.{book, pair}
 use Rattle.host_codec.specs.Bounds.{KeepsBounds}
 

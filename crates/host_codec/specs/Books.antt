@@ -7,14 +7,14 @@ use Rattle.limit_apply.specs.Limits.{Config as Limits}
 use Rattle.run_states.specs.declared.row.RunRow.{RunRow}
 use Rattle.host_model.specs.Book.{Book}
 use Rattle.host_model.specs.declared.task_row.TaskRow.{TaskRow}
-use Rattle.byte_codec.specs.Codec.{◌&◌, Codec, built, list, number_32, number_64, partly}
-use Rattle.byte_codec.specs.Keys.{key, key_is}
-use Rattle.byte_codec.specs.Laws.{IsCodec}
-use Rattle.byte_codec.specs.ListLaws.{list_is}
-use Rattle.byte_codec.specs.NumberLaws.{number_32_is, number_64_is}
-use Rattle.byte_codec.specs.PairLaws.{built_is, pair_is, partly_is}
-use Rattle.byte_codec.specs.Rows.{row, row_is}
-use Rattle.byte_codec.specs.Tasks.{limits, limits_is, task_row, task_row_is}
+use Rattle.value_bytes.specs.Codec.{◌&◌, Codec, built, list, number_32, number_64, partly}
+use Rattle.value_bytes.specs.Keys.{key, key_is}
+use Rattle.value_bytes.specs.Laws.{IsCodec}
+use Rattle.value_bytes.specs.ListLaws.{list_is}
+use Rattle.value_bytes.specs.NumberLaws.{number_32_is, number_64_is}
+use Rattle.value_bytes.specs.PairLaws.{built_is, pair_is, partly_is}
+use Rattle.value_bytes.specs.Rows.{row, row_is}
+use Rattle.value_bytes.specs.Tasks.{limits, limits_is, task_row, task_row_is}
 use Rattle.host_codec.specs.declared.book.BookParts.{BookParts as Lent}
 
 -- ---- the mark of the second format: the greatest number of 64 bits, and 2

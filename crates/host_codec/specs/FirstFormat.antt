@@ -10,13 +10,13 @@ use Rattle.host_model.specs.declared.change.Change.{Change}
 use Rattle.host_model.specs.declared.change.Change.TheVariants.{Accepted, LimitsSet, Planned, Purged}
 use Rattle.host_model.specs.declared.change.Changes.{Changes}
 use Rattle.host_model.specs.declared.task_row.TaskRow.{TaskRow}
-use Rattle.byte_codec.specs.Changes.{FitsChange, change_cases, change_code, changes_of, parts_of_changes}
-use Rattle.byte_codec.specs.Codec.{◌&◌, Codec, built, list, number_64, signed_16, text, variant}
-use Rattle.byte_codec.specs.Keys.{asker, key}
-use Rattle.byte_codec.specs.Reading.{case_at, made_at, whole_of}
-use Rattle.byte_codec.specs.Rows.{row}
-use Rattle.byte_codec.specs.Tasks.{task_row}
-use Rattle.byte_codec.specs.Tests.{test}
+use Rattle.value_bytes.specs.Changes.{FitsChange, change_cases, change_code, changes_of, parts_of_changes}
+use Rattle.value_bytes.specs.Codec.{◌&◌, Codec, built, list, number_64, signed_16, text, variant}
+use Rattle.value_bytes.specs.Keys.{asker, key}
+use Rattle.value_bytes.specs.Reading.{case_at, made_at, whole_of}
+use Rattle.value_bytes.specs.Rows.{row}
+use Rattle.value_bytes.specs.Tasks.{task_row}
+use Rattle.value_bytes.specs.Tests.{test}
 
 -- ---- changes: those of the second format, but an acceptance and a plan name no epoch, limits aren't set, and no row goes
 abbrev pub FirstAcceptedParts : Type 0

@@ -1,21 +1,21 @@
 //! Books as bytes: snapshots of the second format.
 ghost use Rattle.std.specs.Prelude.{◌++◌, ◌≡◌, All, IfOk, IfSome, OnOk, Some, ℕ};
 ghost use Rattle.std.specs.List.{flat_map};
-ghost use Rattle.byte_codec.specs.Codec.{list};
-ghost use Rattle.byte_codec.specs.Gives.{Gives};
-ghost use Rattle.byte_codec.specs.Reading.{whole_of};
+ghost use Rattle.value_bytes.specs.Codec.{list};
+ghost use Rattle.value_bytes.specs.Gives.{Gives};
+ghost use Rattle.value_bytes.specs.Reading.{whole_of};
 ghost use Rattle.host_model.specs.Book.{Book, empty_book};
 ghost use Rattle.host_model.specs.Lawful.{Lawful};
 ghost use Rattle.host_model.specs.declared.task_row.TaskRow.{TaskRow as Task};
 ghost use Rattle.run_states.specs.declared.row.RunRow.{RunRow as Row};
 ghost use Rattle.task_spec.specs.Bounds.{IsTask};
 ghost use Rattle.row_check.specs.HasTests.{HasTests};
-ghost use Rattle.byte_codec.specs.Rows.{row};
-ghost use Rattle.byte_codec.specs.Tasks.{task_row};
+ghost use Rattle.value_bytes.specs.Rows.{row};
+ghost use Rattle.value_bytes.specs.Tasks.{task_row};
 ghost use Rattle.host_codec.specs.Books.{back, book, epochs, front, lent, pair, second};
 
 use byte_codec::coded::{Coded, write_three, write_two};
-use byte_codec::fault::CodeFault;
+use value_bytes::fault::CodeFault;
 use byte_codec::lists::write_list;
 use byte_codec::whole::read_whole;
 use host_model::task_row::TaskRow;

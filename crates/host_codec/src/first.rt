@@ -3,16 +3,16 @@ ghost use Rattle.std.specs.Prelude.{◌==◌, ◌≡◌, ◌≤◌, All, IfOk, I
 ghost use Rattle.run_states.specs.declared.row.RunRow.{RunRow};
 ghost use Rattle.host_model.specs.Book.{Book};
 ghost use Rattle.host_model.specs.declared.change.Changes.{Changes};
-ghost use Rattle.byte_codec.specs.Changes.{change_cases};
-ghost use Rattle.byte_codec.specs.Gives.{Gives};
-ghost use Rattle.byte_codec.specs.Laws.{IsCodec};
-ghost use Rattle.byte_codec.specs.Reading.{made_at, times_at, whole_of};
+ghost use Rattle.value_bytes.specs.Changes.{change_cases};
+ghost use Rattle.value_bytes.specs.Gives.{Gives};
+ghost use Rattle.value_bytes.specs.Laws.{IsCodec};
+ghost use Rattle.value_bytes.specs.Reading.{made_at, times_at, whole_of};
 ghost use Rattle.host_codec.specs.FirstFormat.{FitsFirst, IsFirstSnapshot, first_accepted, first_accepted_of, first_book, first_cases, first_change, first_changes, first_pairs, first_planned, first_planned_of, first_snapshot};
 
 use crate::book::KeptBook;
 use byte_codec::changes::read_fields;
 use byte_codec::coded::Coded;
-use byte_codec::fault::CodeFault;
+use value_bytes::fault::CodeFault;
 use host_model::change::{Change, Changes};
 use host_model::task_row::TaskRow;
 use plugin_core::test_spec::TestSpec;

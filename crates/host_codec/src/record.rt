@@ -1,7 +1,7 @@
 //! Records of changes as bytes.
 ghost use Rattle.std.specs.Prelude.{◌++◌, ◌≡◌, All, IfOk, IfSome, List, OnOk, Some, length, ℕ};
-ghost use Rattle.byte_codec.specs.Changes.{change, changes};
-ghost use Rattle.byte_codec.specs.Reading.{whole_of};
+ghost use Rattle.value_bytes.specs.Changes.{change, changes};
+ghost use Rattle.value_bytes.specs.Reading.{whole_of};
 ghost use Rattle.host_model.specs.Book.{Book};
 ghost use Rattle.host_model.specs.MayFollow.{MayFollow};
 ghost use Rattle.host_model.specs.RecordLength.{change_bytes, record_bytes};

@@ -1,6 +1,6 @@
 -- A host that is kept: its configuration and its book, what it is asked, and its steps.
 use Rattle.std.specs.Prelude.{◌<◌, ◌≡◌, ◌≤◌, ◌-◌, All, List, None, Option, Some, [], false, length, true, ℕ}
-use Rattle.byte_codec.specs.Changes.{changes}
+use Rattle.value_bytes.specs.Changes.{changes}
 use Rattle.host_book.specs.Ready.{IsReady, all_brought, changes_of}
 use Rattle.host_model.specs.Apply.{recorded}
 use Rattle.host_model.specs.Book.{Book}

@@ -1,6 +1,6 @@
 //! A host with its configuration and its book.
 ghost use Rattle.std.specs.Prelude.{◌-◌, ◌<◌, ◌≡◌, ◌≤◌, All, IfOk, IfSome, length};
-ghost use Rattle.byte_codec.specs.Changes.{changes};
+ghost use Rattle.value_bytes.specs.Changes.{changes};
 ghost use Rattle.host_book.specs.Ready.{IsReady, all_brought, changes_of};
 ghost use Rattle.host_keep.specs.Standing.{Makes};
 ghost use Rattle.row_ledger.specs.Ledger.{most_counted};

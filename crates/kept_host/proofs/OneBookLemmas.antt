@@ -1,12 +1,12 @@
 -- A list stands for one book alone.
 use Rattle.std.proofs.Common.{◌++◌, ◌<◌, ◌^◌, ◌∙◌, ◌∷◌, ◌≡◌, Bool, List, None, Some, [], ap, append_assoc, arith, false, inl, inr, subst, sym, true, ℕ}
-use Rattle.byte_codec.proofs.WholeLemmas.{one_code}
-use Rattle.byte_codec.specs.Changes.{changes, changes_is}
-use Rattle.byte_codec.specs.Codec.{◌&◌, Codec, list, number_32, number_64}
-use Rattle.byte_codec.specs.Laws.{IsCodec}
-use Rattle.byte_codec.specs.NumberLaws.{number_64_is}
-use Rattle.byte_codec.specs.Rows.{row}
-use Rattle.byte_codec.specs.Tasks.{task_row}
+use Rattle.value_bytes.proofs.WholeLemmas.{one_code}
+use Rattle.value_bytes.specs.Changes.{changes, changes_is}
+use Rattle.value_bytes.specs.Codec.{◌&◌, Codec, list, number_32, number_64}
+use Rattle.value_bytes.specs.Laws.{IsCodec}
+use Rattle.value_bytes.specs.NumberLaws.{number_64_is}
+use Rattle.value_bytes.specs.Rows.{row}
+use Rattle.value_bytes.specs.Tasks.{task_row}
 use Rattle.host_codec.specs.Books.{back, back_of, book, book_is, front, front_of}
 use Rattle.host_codec.specs.FirstFormat.{first_book, first_changes}
 use Rattle.host_model.specs.Apply.{recorded}

@@ -1,6 +1,6 @@
 -- For which book a snapshot and the records behind it stand. Both are of one format: true is the second, false the first.
 use Rattle.std.specs.Prelude.{◌∷◌, ◌≡◌, ◌⊎◌, Bool, List, [], false, true, ℕ}
-use Rattle.byte_codec.specs.Changes.{changes}
+use Rattle.value_bytes.specs.Changes.{changes}
 use Rattle.host_codec.specs.Books.{book}
 use Rattle.host_codec.specs.FirstFormat.{IsFirstSnapshot, first_changes}
 use Rattle.host_model.specs.Apply.{recorded}

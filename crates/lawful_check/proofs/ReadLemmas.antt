@@ -6,9 +6,9 @@ use Rattle.host_model.specs.Book.{Book}
 use Rattle.host_model.specs.declared.task_row.TaskRow.{TaskRow}
 use Rattle.row_check.specs.HasTests.{HasTests}
 use Rattle.book_check.specs.Known.{IsReadTask}
-use Rattle.byte_codec.specs.Codec.{list}
-use Rattle.byte_codec.specs.Rows.{row}
-use Rattle.byte_codec.specs.Tasks.{task_row}
+use Rattle.value_bytes.specs.Codec.{list}
+use Rattle.value_bytes.specs.Rows.{row}
+use Rattle.value_bytes.specs.Tasks.{task_row}
 use Rattle.host_codec.specs.Books.{book}
 use Rattle.host_codec.specs.FirstFormat.{IsFirstSnapshot}
 use Rattle.lawful_check.specs.ReadBook.{IsReadBook}

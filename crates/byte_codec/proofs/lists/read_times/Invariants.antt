@@ -1,5 +1,5 @@
-use Rattle.byte_codec.specs.Reading.{times_at}
-use Rattle.byte_codec.proofs.Loop.{IsReading}
+use Rattle.value_bytes.specs.Reading.{times_at}
+use Rattle.value_bytes.proofs.Loop.{IsReading}
 use Rattle.byte_codec.proofs.lists.read_times.Given as goal
 
 abbrev pub invariant-loop : goal.invariant-loop

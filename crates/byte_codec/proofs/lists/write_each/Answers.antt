@@ -1,7 +1,7 @@
 use Rattle.std.proofs.Common.{◌∙◌, ◌++◌, All, ap, flat_map, subst}
 use Rattle.std.proofs.lemmas.List.{take_all}
 use Rattle.std.proofs.lemmas.List.Elements.{All-more}
-use Rattle.byte_codec.proofs.Loop.{written_more}
+use Rattle.value_bytes.proofs.Loop.{written_more}
 use Rattle.byte_codec.proofs.lists.write_each.Goals as goal
 
 pub loop-item-preserved : goal.loop-item-preserved

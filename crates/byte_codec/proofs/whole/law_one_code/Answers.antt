@@ -1,4 +1,4 @@
-use Rattle.byte_codec.proofs.WholeLemmas.{one_code}
+use Rattle.value_bytes.proofs.WholeLemmas.{one_code}
 use Rattle.byte_codec.proofs.whole.law_one_code.Goals as goal
 
 pub returns : goal.returns

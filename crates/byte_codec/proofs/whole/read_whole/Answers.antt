@@ -1,5 +1,5 @@
 use Rattle.std.proofs.Common.{arith}
-use Rattle.byte_codec.proofs.WholeLemmas.{is_found, is_only}
+use Rattle.value_bytes.proofs.WholeLemmas.{is_found, is_only}
 use Rattle.byte_codec.proofs.whole.read_whole.Goals as goal
 
 pub returns-clause-found : goal.returns-clause-found

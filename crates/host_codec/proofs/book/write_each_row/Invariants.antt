@@ -1,4 +1,4 @@
-use Rattle.byte_codec.specs.Rows.{row}
+use Rattle.value_bytes.specs.Rows.{row}
 use Rattle.host_codec.proofs.EachLemmas.{AreWritten}
 use Rattle.host_codec.proofs.book.write_each_row.Given as goal
 

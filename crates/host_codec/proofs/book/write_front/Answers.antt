@@ -1,6 +1,6 @@
 use Rattle.std.proofs.Common.{◌++◌, ◌∙◌, List, ap, append_assoc, ℕ}
 use Rattle.std.proofs.lemmas.Result.{on_ok_weaker}
-use Rattle.byte_codec.specs.Codec.{number_64}
+use Rattle.value_bytes.specs.Codec.{number_64}
 use Rattle.host_codec.specs.Books.{epochs}
 use Rattle.host_codec.proofs.book.write_front.Goals as goal
 

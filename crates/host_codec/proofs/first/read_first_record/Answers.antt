@@ -1,5 +1,5 @@
 use Rattle.std.proofs.Common.{arith}
-use Rattle.byte_codec.proofs.WholeLemmas.{is_found, is_only}
+use Rattle.value_bytes.proofs.WholeLemmas.{is_found, is_only}
 use Rattle.host_codec.specs.FirstFormat.{first_changes}
 use Rattle.host_codec.proofs.FirstLemmas.{first_changes_is}
 use Rattle.host_codec.proofs.first.read_first_record.Goals as goal

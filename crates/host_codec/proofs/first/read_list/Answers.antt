@@ -1,8 +1,8 @@
 use Rattle.std.proofs.Common.{◌∷◌, [], arith, length-append}
 use Rattle.std.proofs.lemmas.List.Elements.{All-push}
 use Rattle.std.proofs.lemmas.Result.{err_from_is_err_and}
-use Rattle.byte_codec.specs.Reading.{times_at}
-use Rattle.byte_codec.proofs.Loop.{ends, goes_on, is_done}
+use Rattle.value_bytes.specs.Reading.{times_at}
+use Rattle.value_bytes.proofs.Loop.{ends, goes_on, is_done}
 use Rattle.host_codec.specs.FirstFormat.{FitsFirst, first_change}
 use Rattle.host_codec.proofs.first.read_list.Goals as goal
 

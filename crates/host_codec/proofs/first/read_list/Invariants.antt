@@ -1,5 +1,5 @@
-use Rattle.byte_codec.specs.Reading.{times_at}
-use Rattle.byte_codec.proofs.Loop.{IsReading}
+use Rattle.value_bytes.specs.Reading.{times_at}
+use Rattle.value_bytes.proofs.Loop.{IsReading}
 use Rattle.host_codec.specs.FirstFormat.{FitsFirst, first_change}
 use Rattle.host_codec.proofs.first.read_list.Given as goal
 

@@ -1,5 +1,5 @@
 use Rattle.std.proofs.Common.{subst, sym}
-use Rattle.byte_codec.specs.Changes.{changes}
+use Rattle.value_bytes.specs.Changes.{changes}
 use Rattle.host_model.specs.Conditions.{MayStep}
 use Rattle.host_model.specs.Lawful.{Lawful}
 use Rattle.host_model.specs.Step.{step_changes}

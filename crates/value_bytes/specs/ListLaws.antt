@@ -5,11 +5,11 @@ use Rattle.std.specs.List.{flat_map}
 use Rattle.std.proofs.Common.{◌∙◌, sym, ap, subst, append_assoc}
 use Rattle.std.proofs.lemmas.List.Concat.{flat_map-cons}
 use Rattle.std.proofs.lemmas.List.Elements.{All-head, All-tail}
-use Rattle.byte_codec.specs.Codec.{Codec, list, option, option_code}
-use Rattle.byte_codec.specs.Laws.{AreBytes, Begins, IsCodec, ReadAgain, ReadsCodes}
-use Rattle.byte_codec.specs.NumberLaws.{number_again, number_reads, rest_are, wide_32}
-use Rattle.byte_codec.specs.PairLaws.{begins_then, behind_some, some_is}
-use Rattle.byte_codec.specs.Reading.{behind, list_at, number_at, option_at, times_at}
+use Rattle.value_bytes.specs.Codec.{Codec, list, option, option_code}
+use Rattle.value_bytes.specs.Laws.{AreBytes, Begins, IsCodec, ReadAgain, ReadsCodes}
+use Rattle.value_bytes.specs.NumberLaws.{number_again, number_reads, rest_are, wide_32}
+use Rattle.value_bytes.specs.PairLaws.{begins_then, behind_some, some_is}
+use Rattle.value_bytes.specs.Reading.{behind, list_at, number_at, option_at, times_at}
 
 module _ {A : Type 0} (c : Codec A) (is : IsCodec c) where
   -- ---- options

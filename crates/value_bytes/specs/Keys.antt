@@ -6,12 +6,12 @@ use Rattle.ps_time.specs.Span.{Range, Span}
 use Rattle.ps_time.specs.declared.asker.Asker.{Asker}
 use Rattle.ps_time.specs.declared.key.RunKey.{RunKey}
 use Rattle.ps_time.specs.declared.tiers.Tiers.{Tiers}
-use Rattle.byte_codec.specs.Codec.{◌&◌, Codec, built, list, number_16, number_32, number_64, partly, text}
-use Rattle.byte_codec.specs.Laws.{IsCodec}
-use Rattle.byte_codec.specs.ListLaws.{list_is}
-use Rattle.byte_codec.specs.NumberLaws.{number_16_is, number_32_is, number_64_is}
-use Rattle.byte_codec.specs.PairLaws.{built_is, pair_is, partly_is, some_is}
-use Rattle.byte_codec.specs.TextLaws.{text_is}
+use Rattle.value_bytes.specs.Codec.{◌&◌, Codec, built, list, number_16, number_32, number_64, partly, text}
+use Rattle.value_bytes.specs.Laws.{IsCodec}
+use Rattle.value_bytes.specs.ListLaws.{list_is}
+use Rattle.value_bytes.specs.NumberLaws.{number_16_is, number_32_is, number_64_is}
+use Rattle.value_bytes.specs.PairLaws.{built_is, pair_is, partly_is, some_is}
+use Rattle.value_bytes.specs.TextLaws.{text_is}
 
 -- ---- a key: lead, task, number, attempt
 abbrev pub KeyParts : Type 0

@@ -1,6 +1,6 @@
 //! Why no value was read.
 ghost use Rattle.std.specs.Prelude.{◌≡◌};
-ghost use Rattle.byte_codec.specs.declared.fault.CodeFault.TheVariants.{Memory as out_of_memory};
+ghost use Rattle.value_bytes.specs.declared.fault.CodeFault.TheVariants.{Memory as out_of_memory};
 
 use ps_time::memory::Memory;
 use std::alloc::{AllocError, AllocFailed};

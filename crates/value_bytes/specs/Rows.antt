@@ -11,16 +11,16 @@ use Rattle.run_states.specs.declared.answer.Other.{Other}
 use Rattle.run_states.specs.declared.row.Ending.{Ending}
 use Rattle.run_states.specs.declared.row.RunRow.{RunRow}
 use Rattle.run_states.specs.declared.why.Closing.{Closing}
-use Rattle.byte_codec.specs.Keys.{asker, asker_is, interval, interval_is, key, key_is, tiers, tiers_is, window, window_is}
-use Rattle.byte_codec.specs.Reasons.{closing, closing_is}
-use Rattle.byte_codec.specs.States.{archive_state, archive_state_is}
-use Rattle.byte_codec.specs.Tests.{test, test_is}
-use Rattle.byte_codec.specs.Codec.{◌&◌, Codec, built, list, mark, number_64, option, signed_16, text}
-use Rattle.byte_codec.specs.Laws.{IsCodec}
-use Rattle.byte_codec.specs.ListLaws.{list_is, option_is}
-use Rattle.byte_codec.specs.NumberLaws.{mark_is, number_64_is, signed_16_is}
-use Rattle.byte_codec.specs.PairLaws.{built_is, pair_is}
-use Rattle.byte_codec.specs.TextLaws.{text_is}
+use Rattle.value_bytes.specs.Keys.{asker, asker_is, interval, interval_is, key, key_is, tiers, tiers_is, window, window_is}
+use Rattle.value_bytes.specs.Reasons.{closing, closing_is}
+use Rattle.value_bytes.specs.States.{archive_state, archive_state_is}
+use Rattle.value_bytes.specs.Tests.{test, test_is}
+use Rattle.value_bytes.specs.Codec.{◌&◌, Codec, built, list, mark, number_64, option, signed_16, text}
+use Rattle.value_bytes.specs.Laws.{IsCodec}
+use Rattle.value_bytes.specs.ListLaws.{list_is, option_is}
+use Rattle.value_bytes.specs.NumberLaws.{mark_is, number_64_is, signed_16_is}
+use Rattle.value_bytes.specs.PairLaws.{built_is, pair_is}
+use Rattle.value_bytes.specs.TextLaws.{text_is}
 
 -- ---- a free answer: tools, tiers
 abbrev pub FreeAnswerParts : Type 0

@@ -2,9 +2,9 @@
 use Rattle.std.specs.Prelude.{◌++◌, ◌==◌, ◌∷◌, ◌≡◌, Bool, List, None, Option, Some, [], cond, false, refl, suc, true, ℕ}
 use Rattle.std.proofs.Common.{◌∙◌, sym, ap, subst, append_assoc}
 use Rattle.std.proofs.lemmas.Bool.{eqb-true}
-use Rattle.byte_codec.specs.Codec.{◌&◌, Codec, built, nothing, partly, variant}
-use Rattle.byte_codec.specs.Laws.{AreBytes, Begins, IsCodec, ReadAgain, ReadsCodes}
-use Rattle.byte_codec.specs.Reading.{before, behind, case_at, made_at, no_case_at, pair_at, variant_at}
+use Rattle.value_bytes.specs.Codec.{◌&◌, Codec, built, nothing, partly, variant}
+use Rattle.value_bytes.specs.Laws.{AreBytes, Begins, IsCodec, ReadAgain, ReadsCodes}
+use Rattle.value_bytes.specs.Reading.{before, behind, case_at, made_at, no_case_at, pair_at, variant_at}
 
 -- what was found first
 pub behind_some : {A B : Type 0} (o : Option (A × List ℕ)) (next : A → List ℕ → Option B) (y : B) → behind o next ≡ Some y → (x : A × List ℕ) × (o ≡ Some x) × (next x.0 x.1 ≡ Some y)

@@ -1,6 +1,6 @@
 -- Laws of values as bytes: what is read is written so, and what is written so is read again, whatever follows it.
 use Rattle.std.specs.Prelude.{◌++◌, ◌<◌, ◌≡◌, List, Option, Some, get_or, ℕ}
-use Rattle.byte_codec.specs.Codec.{Codec}
+use Rattle.value_bytes.specs.Codec.{Codec}
 
 abbrev pub AreBytes : List ℕ → Type 0
 AreBytes bytes = (i : ℕ) → get_or bytes i 0 < 256

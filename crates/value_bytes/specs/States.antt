@@ -9,12 +9,12 @@ use Rattle.run_states.specs.declared.state.State.{State}
 use Rattle.run_states.specs.declared.state.State.TheVariants.{Canceled, Cleanup, Failed, Finished, Missed, Nonstart, OnDeck, Overdue, Pending, Preempted, Running}
 use Rattle.run_states.specs.declared.why.What.{What}
 use Rattle.run_states.specs.declared.why.What.TheVariants.{Numbers, Results, Runs}
-use Rattle.byte_codec.specs.Codec.{◌&◌, Codec, built, mark, nothing, number_32, number_64, option, signed_16, variant}
-use Rattle.byte_codec.specs.Laws.{IsCodec, ReadAgain}
-use Rattle.byte_codec.specs.ListLaws.{option_is}
-use Rattle.byte_codec.specs.NumberLaws.{mark_is, number_32_is, number_64_is, signed_16_is}
-use Rattle.byte_codec.specs.PairLaws.{built_is, case_reads, made_again, no_case_reads, nothing_is, pair_is, variant_is}
-use Rattle.byte_codec.specs.Reading.{case_at, made_at, no_case_at, variant_at}
+use Rattle.value_bytes.specs.Codec.{◌&◌, Codec, built, mark, nothing, number_32, number_64, option, signed_16, variant}
+use Rattle.value_bytes.specs.Laws.{IsCodec, ReadAgain}
+use Rattle.value_bytes.specs.ListLaws.{option_is}
+use Rattle.value_bytes.specs.NumberLaws.{mark_is, number_32_is, number_64_is, signed_16_is}
+use Rattle.value_bytes.specs.PairLaws.{built_is, case_reads, made_again, no_case_reads, nothing_is, pair_is, variant_is}
+use Rattle.value_bytes.specs.Reading.{case_at, made_at, no_case_at, variant_at}
 
 -- ---- a verdict of limits
 abbrev pub WritableVerdict : Verdict → Type 0

@@ -1,7 +1,7 @@
 use Rattle.std.proofs.Common.{sym}
 use Rattle.std.proofs.lemmas.Str.{is_utf8-from_IsUtf8}
-use Rattle.byte_codec.proofs.NoText.{not_text}
-use Rattle.byte_codec.proofs.texts.as_text.Goals as goal
+use Rattle.value_bytes.proofs.NoText.{not_text}
+use Rattle.value_bytes.proofs.texts.as_text.Goals as goal
 
 pub returns-in-Ok-clause-utf8 : goal.returns-in-Ok-clause-utf8
 returns-in-Ok-clause-utf8 c = sym (is_utf8-from_IsUtf8 _ c.in-Ok.ensures.cases.1)

@@ -11,15 +11,15 @@ use Rattle.run_states.specs.declared.why.Denial.{Denial}
 use Rattle.run_states.specs.declared.why.Denial.TheVariants.{Closed, Conflict, Differs, Full, Limits, NoTool, NotParticipant, Past}
 use Rattle.run_states.specs.declared.why.Why.{Why}
 use Rattle.run_states.specs.declared.why.Why.TheVariants.{Canceled, Missed, Nonstart, Preempted}
-use Rattle.byte_codec.specs.Keys.{asker, asker_is, key, key_is}
-use Rattle.byte_codec.specs.States.{state, state_is, verdict, verdict_is, what, what_is}
-use Rattle.byte_codec.specs.Tests.{test, test_is}
-use Rattle.byte_codec.specs.Codec.{◌&◌, Codec, built, nothing, number_64, signed_16, text, variant}
-use Rattle.byte_codec.specs.Laws.{IsCodec, ReadAgain}
-use Rattle.byte_codec.specs.NumberLaws.{number_64_is, signed_16_is}
-use Rattle.byte_codec.specs.PairLaws.{built_is, case_reads, made_again, no_case_reads, nothing_is, pair_is, variant_is}
-use Rattle.byte_codec.specs.Reading.{case_at, made_at, no_case_at, variant_at}
-use Rattle.byte_codec.specs.TextLaws.{text_is}
+use Rattle.value_bytes.specs.Keys.{asker, asker_is, key, key_is}
+use Rattle.value_bytes.specs.States.{state, state_is, verdict, verdict_is, what, what_is}
+use Rattle.value_bytes.specs.Tests.{test, test_is}
+use Rattle.value_bytes.specs.Codec.{◌&◌, Codec, built, nothing, number_64, signed_16, text, variant}
+use Rattle.value_bytes.specs.Laws.{IsCodec, ReadAgain}
+use Rattle.value_bytes.specs.NumberLaws.{number_64_is, signed_16_is}
+use Rattle.value_bytes.specs.PairLaws.{built_is, case_reads, made_again, no_case_reads, nothing_is, pair_is, variant_is}
+use Rattle.value_bytes.specs.Reading.{case_at, made_at, no_case_at, variant_at}
+use Rattle.value_bytes.specs.TextLaws.{text_is}
 
 -- ---- a proposal: key, test, tool, start, priority, who asks
 abbrev pub ProposalParts : Type 0

@@ -9,19 +9,19 @@ use Rattle.run_states.specs.declared.proposal.Question.{Question}
 use Rattle.host_model.specs.declared.change.Change.{Change}
 use Rattle.host_model.specs.declared.change.Change.TheVariants.{AcceptHeard, Accepted, Asked, Closed, Confirmed, Ended, FreeHeard, LimitsSet, MaterialHeard, Merged, Planned, Posted, Purged, ResultHeard, Started, TaskClosed, Told as told_there, Tried}
 use Rattle.host_model.specs.declared.change.Changes.{Changes}
-use Rattle.byte_codec.specs.Keys.{asker, asker_is, key, key_is, window, window_is}
-use Rattle.byte_codec.specs.Reasons.{why, why_is}
-use Rattle.byte_codec.specs.Rows.{answer, answer_is}
-use Rattle.byte_codec.specs.States.{archive_state, archive_state_is, told, told_is}
-use Rattle.byte_codec.specs.Tasks.{limits, limits_is, task_row, task_row_is}
-use Rattle.byte_codec.specs.Tests.{test, test_is}
-use Rattle.byte_codec.specs.Codec.{◌&◌, Codec, built, list, mark, number_32, number_64, number_8, option, signed_16, text, variant}
-use Rattle.byte_codec.specs.Laws.{IsCodec, ReadAgain}
-use Rattle.byte_codec.specs.ListLaws.{list_is, option_is}
-use Rattle.byte_codec.specs.NumberLaws.{mark_is, number_32_is, number_64_is, number_8_is, signed_16_is}
-use Rattle.byte_codec.specs.PairLaws.{built_is, case_reads, made_again, no_case_reads, pair_is, variant_is}
-use Rattle.byte_codec.specs.Reading.{case_at, made_at, no_case_at, variant_at}
-use Rattle.byte_codec.specs.TextLaws.{text_is}
+use Rattle.value_bytes.specs.Keys.{asker, asker_is, key, key_is, window, window_is}
+use Rattle.value_bytes.specs.Reasons.{why, why_is}
+use Rattle.value_bytes.specs.Rows.{answer, answer_is}
+use Rattle.value_bytes.specs.States.{archive_state, archive_state_is, told, told_is}
+use Rattle.value_bytes.specs.Tasks.{limits, limits_is, task_row, task_row_is}
+use Rattle.value_bytes.specs.Tests.{test, test_is}
+use Rattle.value_bytes.specs.Codec.{◌&◌, Codec, built, list, mark, number_32, number_64, number_8, option, signed_16, text, variant}
+use Rattle.value_bytes.specs.Laws.{IsCodec, ReadAgain}
+use Rattle.value_bytes.specs.ListLaws.{list_is, option_is}
+use Rattle.value_bytes.specs.NumberLaws.{mark_is, number_32_is, number_64_is, number_8_is, signed_16_is}
+use Rattle.value_bytes.specs.PairLaws.{built_is, case_reads, made_again, no_case_reads, pair_is, variant_is}
+use Rattle.value_bytes.specs.Reading.{case_at, made_at, no_case_at, variant_at}
+use Rattle.value_bytes.specs.TextLaws.{text_is}
 
 -- ---- what an acceptance has: key, test, tool, start, priority, participants, who asks, epoch
 abbrev pub AcceptedParts : Type 0

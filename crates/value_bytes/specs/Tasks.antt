@@ -17,14 +17,14 @@ use Rattle.task_spec.specs.WriteTask.{task_data}
 use Rattle.task_spec.specs.declared.task.Task.{Task}
 use Rattle.task_spec.proofs.TaskLemmas.{task_back}
 use Rattle.host_model.specs.declared.task_row.TaskRow.{TaskRow}
-use Rattle.byte_codec.specs.Codec.{◌&◌, Codec, IsText, number_32, number_64, option, partly, text}
-use Rattle.byte_codec.specs.Keys.{asker, asker_is}
-use Rattle.byte_codec.specs.Laws.{IsCodec}
-use Rattle.byte_codec.specs.ListLaws.{option_is}
-use Rattle.byte_codec.specs.NumberLaws.{number_32_is, number_64_is}
-use Rattle.byte_codec.specs.PairLaws.{pair_is, partly_is, some_is}
-use Rattle.byte_codec.specs.Tests.{ok_of, same_text}
-use Rattle.byte_codec.specs.TextLaws.{text_is}
+use Rattle.value_bytes.specs.Codec.{◌&◌, Codec, IsText, number_32, number_64, option, partly, text}
+use Rattle.value_bytes.specs.Keys.{asker, asker_is}
+use Rattle.value_bytes.specs.Laws.{IsCodec}
+use Rattle.value_bytes.specs.ListLaws.{option_is}
+use Rattle.value_bytes.specs.NumberLaws.{number_32_is, number_64_is}
+use Rattle.value_bytes.specs.PairLaws.{pair_is, partly_is, some_is}
+use Rattle.value_bytes.specs.Tests.{ok_of, same_text}
+use Rattle.value_bytes.specs.TextLaws.{text_is}
 
 -- ---- a task's row: serial, task, who asked, when, when it was canceled
 -- the text of a task

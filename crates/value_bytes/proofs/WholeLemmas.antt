@@ -2,10 +2,10 @@
 use Rattle.std.proofs.Common.{◌≡◌, ℕ, List, [], ◌∷◌, ◌++◌, Option, Some, None, Result, Ok, Err, sym, ap, ◌∙◌}
 use Rattle.std.specs.Prelude.{IfOk, IfSome}
 use Rattle.std.proofs.lemmas.List.{append-nil}
-use Rattle.byte_codec.specs.Codec.{Codec}
-use Rattle.byte_codec.specs.Laws.{AreBytes, IsCodec}
-use Rattle.byte_codec.specs.PairLaws.{some_is}
-use Rattle.byte_codec.specs.Reading.{whole_of}
+use Rattle.value_bytes.specs.Codec.{Codec}
+use Rattle.value_bytes.specs.Laws.{AreBytes, IsCodec}
+use Rattle.value_bytes.specs.PairLaws.{some_is}
+use Rattle.value_bytes.specs.Reading.{whole_of}
 
 whole_some : {A : Type 0} (o : Option (A × List ℕ)) (x : A) → whole_of o ≡ Some x → o ≡ Some (x, [])
 whole_some None x e = absurd cc

@@ -4,7 +4,7 @@ use Rattle.std.specs.Prelude.{◌++◌, ◌<◌, ◌^◌, ◌∷◌, ◌≡◌, 
 use Rattle.std.specs.Int.{Width, cast_signed, cast_unsigned, to_be_bytes, w16, w32, w64}
 use Rattle.std.specs.List.{flat_map}
 use Rattle.std.specs.Str.{is_utf8}
-use Rattle.byte_codec.specs.Reading.{bool_at, byte_at, list_at, made_at, number_at, nothing_at, option_at, pair_at, partly_at, text_at, variant_at}
+use Rattle.value_bytes.specs.Reading.{bool_at, byte_at, list_at, made_at, number_at, nothing_at, option_at, pair_at, partly_at, text_at, variant_at}
 
 -- values as bytes
 pub record Codec (A : Type 0) : Type 1 where

@@ -5,11 +5,11 @@ use Rattle.std.specs.Str.{is_utf8}
 use Rattle.std.proofs.Common.{◌∙◌, sym, ap, subst, arith, append_assoc, ltb, length-append, length-take}
 use Rattle.std.proofs.lemmas.Bool.{ltb-false, le-ltb}
 use Rattle.std.proofs.lemmas.List.{take_at, drop_at, take-append-drop}
-use Rattle.byte_codec.specs.Codec.{text}
-use Rattle.byte_codec.specs.Laws.{AreBytes, IsCodec, ReadAgain, ReadsCodes}
-use Rattle.byte_codec.specs.NumberLaws.{drop_are, long, number_again, number_reads, wide_32}
-use Rattle.byte_codec.specs.PairLaws.{before_some, behind_some, some_is}
-use Rattle.byte_codec.specs.Reading.{before, bytes_at, number_at, partly_at, text_at, utf8_of}
+use Rattle.value_bytes.specs.Codec.{text}
+use Rattle.value_bytes.specs.Laws.{AreBytes, IsCodec, ReadAgain, ReadsCodes}
+use Rattle.value_bytes.specs.NumberLaws.{drop_are, long, number_again, number_reads, wide_32}
+use Rattle.value_bytes.specs.PairLaws.{before_some, behind_some, some_is}
+use Rattle.value_bytes.specs.Reading.{before, bytes_at, number_at, partly_at, text_at, utf8_of}
 
 utf8_is : (bs t : List ℕ) → utf8_of bs ≡ Some t → bs ≡ t
 utf8_is bs t e = by (is_utf8 bs) e

@@ -10,10 +10,10 @@ use Rattle.plugin_core.specs.ReadTest.{test_of}
 use Rattle.plugin_core.specs.WriteTest.{test_data}
 use Rattle.plugin_core.specs.declared.test_spec.TestSpec.{TestSpec}
 use Rattle.plugin_core.proofs.WrittenLemmas.{test_back}
-use Rattle.byte_codec.specs.Codec.{Codec, IsText, partly, text}
-use Rattle.byte_codec.specs.Laws.{IsCodec}
-use Rattle.byte_codec.specs.PairLaws.{partly_is, some_is}
-use Rattle.byte_codec.specs.TextLaws.{text_is}
+use Rattle.value_bytes.specs.Codec.{Codec, IsText, partly, text}
+use Rattle.value_bytes.specs.Laws.{IsCodec}
+use Rattle.value_bytes.specs.PairLaws.{partly_is, some_is}
+use Rattle.value_bytes.specs.TextLaws.{text_is}
 
 -- what was read, where it was
 abbrev pub ok_of : {A E : Type 0} → Result A E → Option A

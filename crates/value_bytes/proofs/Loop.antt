@@ -1,10 +1,10 @@
 -- Reading and writing values one after the other, as a loop does.
 use Rattle.std.proofs.Common.{◌≡◌, ℕ, suc, ◌-◌, ◌+◌, ◌≤◌, ◌<◌, List, [], ◌∷◌, ◌++◌, All, length, get_or, take, flat_map, Option, Some, None, refl, sym, ap, ◌∙◌, append_assoc, arith}
 use Rattle.std.proofs.lemmas.List.{append-nil, flat_map_more, take_more}
-use Rattle.byte_codec.specs.Gives.{Fails}
-use Rattle.byte_codec.specs.Reading.{behind, times_at}
-use Rattle.byte_codec.specs.declared.fault.CodeFault.{CodeFault}
-use Rattle.byte_codec.specs.declared.fault.CodeFault.TheVariants.{Memory, NoValue}
+use Rattle.value_bytes.specs.Gives.{Fails}
+use Rattle.value_bytes.specs.Reading.{behind, times_at}
+use Rattle.value_bytes.specs.declared.fault.CodeFault.{CodeFault}
+use Rattle.value_bytes.specs.declared.fault.CodeFault.TheVariants.{Memory, NoValue}
 
 -- what was read before, and what is still read
 abbrev pub with_front : {A : Type 0} → List A → Option (List A × List ℕ) → Option (List A × List ℕ)

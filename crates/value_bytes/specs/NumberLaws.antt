@@ -7,10 +7,10 @@ use Rattle.std.proofs.lemmas.Bool.{cases_lt, ltb-false, le-ltb}
 use Rattle.std.proofs.lemmas.Int.{of_z-to_z, to_z-of_z}
 use Rattle.std.proofs.lemmas.List.{take_at, drop_at, take-append-drop, get_or-drop, get_or-take, get_or_past}
 use Rattle.std.proofs.lemmas.Nat.{be_bytes_2, be_bytes_4, be_bytes_8, from_be_bytes-to_be_bytes_2, from_be_bytes-to_be_bytes_4, from_be_bytes-to_be_bytes_8}
-use Rattle.byte_codec.specs.Codec.{mark, mark_code, number, number_16, number_32, number_64, number_8, signed_16}
-use Rattle.byte_codec.specs.Laws.{AreBytes, Begins, IsCodec, ReadAgain, ReadsCodes}
-use Rattle.byte_codec.specs.PairLaws.{behind_some, some_is}
-use Rattle.byte_codec.specs.Reading.{bool_at, byte_at, number_at}
+use Rattle.value_bytes.specs.Codec.{mark, mark_code, number, number_16, number_32, number_64, number_8, signed_16}
+use Rattle.value_bytes.specs.Laws.{AreBytes, Begins, IsCodec, ReadAgain, ReadsCodes}
+use Rattle.value_bytes.specs.PairLaws.{behind_some, some_is}
+use Rattle.value_bytes.specs.Reading.{bool_at, byte_at, number_at}
 
 pub drop_are : (n : ℕ) (bytes : List ℕ) → AreBytes bytes → AreBytes (drop n bytes)
 drop_are n bytes are i = rw get_or-drop (are (n + i))

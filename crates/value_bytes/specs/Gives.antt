@@ -1,7 +1,7 @@
 -- What a reader answers.
 use Rattle.std.specs.Prelude.{◌≡◌, Err, None, Ok, Option, Result, Some}
-use Rattle.byte_codec.specs.declared.fault.CodeFault.{CodeFault}
-use Rattle.byte_codec.specs.declared.fault.CodeFault.TheVariants.{Memory, NoValue}
+use Rattle.value_bytes.specs.declared.fault.CodeFault.{CodeFault}
+use Rattle.value_bytes.specs.declared.fault.CodeFault.TheVariants.{Memory, NoValue}
 
 -- with this fault
 abbrev pub Fails : {Y : Type 0} → CodeFault → Option Y → Type 0

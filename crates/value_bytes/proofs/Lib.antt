@@ -1,0 +1,3 @@
+pub mod Loop
+mod NoText
+pub mod WholeLemmas
