@@ -15,7 +15,6 @@ ghost use Rattle.value_bytes.specs.Tasks.{task_row};
 ghost use Rattle.host_codec.specs.Books.{back, book, epochs, front, lent, pair, second};
 
 use byte_codec::coded::{Coded, write_three, write_two};
-use value_bytes::fault::CodeFault;
 use byte_codec::lists::write_list;
 use byte_codec::whole::read_whole;
 use host_model::task_row::TaskRow;
@@ -29,6 +28,7 @@ use run_states::row::RunRow;
 use std::alloc::Global;
 use std::marker::Model;
 use tiered_list::lent::Lent;
+use value_bytes::fault::CodeFault;
 
 /// What a host keeps, seen by contracts as its book.
 #[derive(Drop)]

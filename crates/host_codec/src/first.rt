@@ -12,7 +12,6 @@ ghost use Rattle.host_codec.specs.FirstFormat.{FitsFirst, IsFirstSnapshot, first
 use crate::book::KeptBook;
 use byte_codec::changes::read_fields;
 use byte_codec::coded::Coded;
-use value_bytes::fault::CodeFault;
 use host_model::change::{Change, Changes};
 use host_model::task_row::TaskRow;
 use plugin_core::test_spec::TestSpec;
@@ -24,6 +23,7 @@ use ps_time::text::Text;
 use run_states::proposal::Proposal;
 use run_states::row::RunRow;
 use std::alloc::Global;
+use value_bytes::fault::CodeFault;
 
 type AcceptedParts = (
     (RunKey, (TestSpec, Text)),

@@ -23,7 +23,7 @@ use Rattle.host_model.proofs.SettledBook.{book_settled}
 use Rattle.row_ledger.specs.Ledger.{most_counted}
 use Rattle.row_ledger.proofs.RowLemmas.{above_other, bytes_cons, bytes_settled}
 use Rattle.host_draft.specs.Draft.{IsDraft, Seen, admits, book_now, with_draft}
-use Rattle.host_draft.specs.Overlay.{over}
+use Rattle.draft_parts.specs.Overlay.{over}
 
 -- a draft without changes
 pub opened_sound : (number m : ℕ) (b : Book) (touched : List RunRow) (epoch count bytes left : ℕ) → ((k : RunKey) → find_row (settled_rows m b.rows) k ≡ over touched [] b.rows k) → b.moment ≤ m → m ≤ MAX_MOMENT → Lawful number b → epoch ≡ length b.epochs → count ≡ length b.rows → bytes ≡ result_bytes b.rows → bytes + left ≤ most_counted

@@ -11,8 +11,8 @@ use Rattle.row_ledger.specs.Deadlines.{is_among, IsDue}
 use Rattle.row_ledger.proofs.RowLemmas.{found_is}
 use Rattle.host_model.proofs.RowLemmas.{found_of_all}
 use Rattle.host_model.proofs.Standing.{find_row-map}
-use Rattle.host_draft.specs.Overlay.{lapsed_copy, lapsed_over, named, over}
-use Rattle.host_draft.proofs.OverLemmas.{found_lapsed, settled_key}
+use Rattle.draft_parts.specs.Overlay.{lapsed_copy, lapsed_over, named, over}
+use Rattle.draft_parts.proofs.OverLemmas.{found_lapsed, settled_key}
 
 no_copy : {A : Type 0} (b : Bool) (o : Option A) → first (cond b None None) o ≡ o
 no_copy true o = refl

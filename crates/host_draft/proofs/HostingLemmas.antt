@@ -1,13 +1,13 @@
 -- What a host reads of a draft is what its book says: the tasks, and the runs from key to key.
 use Rattle.std.specs.Prelude.{◌==◌, All, IfSome, find}
-use Rattle.std.specs.List.{AllByRecursion, slice_get}
+use Rattle.std.specs.List.{AllByRecursion}
 use Rattle.std.proofs.Common.{◌≡◌, ◌∙◌, ◌&&◌, ℕ, Bool, true, false, cond, not, List, [], ◌∷◌, filter, Option, Some, None, option_map, refl, sym, ap, ap₂}
 use Rattle.std.proofs.lemmas.List.Elements.{All-weaker, recursion_from_All}
 use Rattle.ps_time.specs.declared.key.RunKey.{RunKey}
 use Rattle.ps_time.proofs.KeyLemmas.{key_cmp_total}
 use Rattle.ps_time.proofs.SortedLemmas.{ascending-filter}
 use Rattle.task_spec.specs.Bounds.{IsArchive}
-use Rattle.run_states.specs.Rows.{IsAscendingRows, is_above, rows_above}
+use Rattle.run_states.specs.Rows.{IsAscendingRows}
 use Rattle.run_states.specs.TaskRows.{is_of_task, rows_of_task}
 use Rattle.run_states.specs.declared.row.RunRow.{RunRow}
 use Rattle.host_timeline.specs.Booking.{is_after, lesser_of}
@@ -17,8 +17,8 @@ use Rattle.host_model.specs.declared.task_row.TaskRow.{TaskRow}
 use Rattle.host_inputs.specs.Kept.{HasPolicies, HasPolicy}
 use Rattle.host_inputs.specs.Runs.{next_run}
 use Rattle.host_draft.specs.Draft.{IsDraft}
-use Rattle.host_draft.specs.Overlay.{hides}
-use Rattle.host_draft.proofs.PickLemmas.{earlier_key, find_alike, find_over, find_passing, key_passing}
+use Rattle.draft_parts.specs.Overlay.{hides}
+use Rattle.draft_parts.proofs.PickLemmas.{earlier_key, find_alike, find_over, find_passing, key_passing}
 
 -- ---- tasks
 found_by : (tasks : List TaskRow) (serial : ℕ) → AllByRecursion HasPolicies tasks → IfSome (find_task tasks serial) HasPolicies
@@ -36,19 +36,6 @@ policies_found tasks serial all = found_by tasks serial (recursion_from_All HasP
 -- so are those of a lawful book
 pub policies_of : (number : ℕ) (b : Book) → Lawful number b → All HasPolicies b.tasks
 policies_of number b lawful = All-weaker (IsLawfulTask b.moment) HasPolicies (λ t is. All-weaker IsArchive HasPolicy (λ a is. is.policy) t.task.archives is.task.rest.archives) b.tasks lawful.tasks
-
--- ---- rows above a key
--- the first of them that passes is the first above the key that passes
-pub find_above : (after : Option RunKey) (g : RunRow → Bool) (rows : List RunRow) → find g (rows_above after rows) ≡ find (λ r. is_after after r.key && g r) rows
-find_above None g rows = refl
-find_above (Some low) g rows = find_passing (is_above low) g rows
-
--- the first of them is the first above the key
-pub first_above : (after : Option RunKey) (rows : List RunRow) → slice_get (rows_above after rows) 0 ≡ find (λ r. is_after after r.key) rows
-first_above None [] = refl
-first_above None (r ∷ rs) = refl
-first_above (Some low) [] = refl
-first_above (Some low) (r ∷ rs) = elim (is_above low r) as (λ b. slice_get (cond b (r ∷ filter (is_above low) rs) (filter (is_above low) rs)) 0 ≡ cond b (Some r) (find (is_above low) rs)) [ true ↦ refl | false ↦ first_above (Some low) rs ]
 
 -- ---- from key to key
 -- the first key that passes is that of the first row

@@ -40,7 +40,7 @@ use Rattle.host_book.proofs.AcceptLemmas.{asked_new, asked_rows, planned_apart, 
 use Rattle.host_book.proofs.BookLemmas.{purged_rows}
 use Rattle.host_book.proofs.BringLemmas.{changed_host, end_brings, merge_brings, merged_before, none_of, unchanged}
 use Rattle.host_draft.specs.Making.{HasTests, IsReadOn}
-use Rattle.host_draft.proofs.OverLemmas.{find_row-put}
+use Rattle.draft_parts.proofs.OverLemmas.{find_row-put}
 
 module _ (number m : ℕ) (now : Book) (at : now.moment ≡ m) (lawful : Lawful number now) where
   sound : IsSound number now (bookings_of now.rows)

@@ -1,13 +1,9 @@
-pub mod CountLemmas
 pub mod DraftLemmas
 pub mod DueLemmas
-pub mod FilterLemmas
-pub mod FreeLemmas
 pub mod HostingLemmas
 pub mod KindLemmas
 pub mod MakeLemmas
-pub mod OverLemmas
-pub mod PickLemmas
 pub mod PlanLemmas
 pub mod ReadLemmas
 pub mod WayLemmas
+pub use Rattle.draft_parts.proofs.OverLemmas

@@ -21,10 +21,10 @@ use Rattle.host_model.specs.declared.change.Change.{Change}
 use Rattle.host_model.proofs.Keyed.{key_same}
 use Rattle.host_draft.specs.Draft.{IsDraft, Seen, admits, book_now}
 use Rattle.host_draft.specs.Making.{IsAdmitted, made_in}
-use Rattle.host_draft.specs.Overlay.{below, over}
-use Rattle.host_draft.proofs.CountLemmas.{brought}
+use Rattle.draft_parts.specs.Overlay.{below, over}
+use Rattle.draft_parts.proofs.CountLemmas.{brought}
 use Rattle.host_draft.proofs.DraftLemmas.{bytes_kept, fewer_rows, made_shown, now_last, shown}
-use Rattle.host_draft.proofs.OverLemmas.{below_own, find_row-put, found_gone, found_marked, found_touched, new_at}
+use Rattle.draft_parts.proofs.OverLemmas.{below_own, find_row-put, found_gone, found_marked, found_touched, new_at}
 
 -- ---- tests of places and bytes
 both : (a b : Bool) → (a && b) ≡ true → (a ≡ true) × (b ≡ true)

@@ -26,13 +26,13 @@ use Rattle.host_model.specs.declared.change.Change.TheVariants.{Planned}
 use Rattle.host_model.proofs.Standing.{find_row-map}
 use Rattle.host_draft.specs.Draft.{IsDraft, Seen, book_now}
 use Rattle.host_draft.specs.Making.{IsAdmitted}
-use Rattle.host_draft.specs.Overlay.{below, named, over}
-use Rattle.host_draft.specs.Way.{planned_way, touched_each, IsPlannedWay}
-use Rattle.host_draft.specs.declared.giving_way.Incoming.{Incoming}
+use Rattle.draft_parts.specs.Overlay.{below, named, over}
+use Rattle.draft_parts.specs.Way.{planned_way, touched_each, IsPlannedWay}
+use Rattle.draft_parts.specs.declared.giving_way.Incoming.{Incoming}
 use Rattle.host_draft.proofs.DraftLemmas.{bytes_kept, shown}
 use Rattle.host_draft.proofs.KindLemmas.{plan_apart, plan_bytes, plan_rows}
 use Rattle.host_draft.proofs.MakeLemmas.{can, kept, spoken}
-use Rattle.host_draft.proofs.OverLemmas.{below_own, found_marked}
+use Rattle.draft_parts.proofs.OverLemmas.{below_own, found_marked}
 use Rattle.host_draft.proofs.WayLemmas.{bytes_way, closed_way, found_way, left_apart, way_left, way_own, way_same}
 
 -- a row that is there isn't put

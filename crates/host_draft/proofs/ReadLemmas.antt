@@ -19,11 +19,11 @@ use Rattle.host_model.specs.Lawful.{Lawful}
 use Rattle.host_model.proofs.RowLemmas.{found_of_all}
 use Rattle.host_book.proofs.MomentLemmas.{book_moments}
 use Rattle.host_draft.specs.Draft.{IsDraft}
-use Rattle.host_draft.specs.Overlay.{Takes, booked, hides, later, meets, meets_below, near_gathered, reach_of}
-use Rattle.host_draft.specs.declared.overlay.Sought.{Sought}
-use Rattle.host_draft.proofs.FilterLemmas.{filter_twice}
-use Rattle.host_draft.proofs.FreeLemmas.{takes_near, tiers_near}
-use Rattle.host_draft.proofs.PickLemmas.{earlier, find_over, greater_order, is_greater, is_less, last_over, less_order, sought_over}
+use Rattle.draft_parts.specs.Overlay.{Takes, booked, hides, later, meets, meets_below, near_gathered, reach_of}
+use Rattle.draft_parts.specs.declared.overlay.Sought.{Sought}
+use Rattle.draft_parts.proofs.FilterLemmas.{filter_twice}
+use Rattle.draft_parts.proofs.FreeLemmas.{takes_near, tiers_near}
+use Rattle.draft_parts.proofs.PickLemmas.{earlier, find_over, greater_order, is_greater, is_less, last_over, less_order, sought_over}
 
 -- the later row is the one that comes first among descending keys
 later_is : (a b : Option RunRow) → earlier is_greater greater_order a b ≡ later a b

@@ -26,11 +26,11 @@ use Rattle.host_model.specs.Apply.{put_new}
 use Rattle.host_model.specs.Book.{keys_of_rows}
 use Rattle.host_model.proofs.Standing.{find_row-map}
 use Rattle.host_book.proofs.IndexLemmas.{closed_preempted}
-use Rattle.host_draft.specs.Overlay.{below, named, over}
-use Rattle.host_draft.specs.Way.{touched_each}
+use Rattle.draft_parts.specs.Overlay.{below, named, over}
+use Rattle.draft_parts.specs.Way.{touched_each}
 use Rattle.host_draft.proofs.MakeLemmas.{found_there}
-use Rattle.host_draft.proofs.OverLemmas.{below_own, found_touched, named_passing, new_at}
-use Rattle.host_draft.proofs.PickLemmas.{against, kept_keys}
+use Rattle.draft_parts.proofs.OverLemmas.{below_own, found_touched, named_passing, new_at}
+use Rattle.draft_parts.proofs.PickLemmas.{against, kept_keys}
 
 -- ---- copies of rows ----
 module _ (gone : List RunKey) (book : List RunRow) where

@@ -12,7 +12,7 @@ use Rattle.host_model.specs.Book.{Book, last_limits}
 use Rattle.host_model.specs.Draft.{Draft, fresh}
 use Rattle.host_model.specs.Lawful.{Lawful}
 use Rattle.host_model.specs.declared.change.Change.{Change}
-use Rattle.host_draft.specs.Overlay.{over}
+use Rattle.draft_parts.specs.Overlay.{over}
 
 -- a draft of the host with this number, and the limits in force
 pub record Seen : Type 0 where

@@ -1,5 +1,2 @@
 pub mod Draft
-pub mod Log
 pub mod Making
-pub mod Overlay
-pub mod Way

@@ -5,10 +5,10 @@ ghost use Rattle.ps_time.specs.declared.key.RunKey.{RunKey};
 ghost use Rattle.run_states.specs.Life.{settled_rows};
 ghost use Rattle.run_states.specs.Rows.{find_row};
 ghost use Rattle.host_draft.specs.Draft.{is_full, opened};
-ghost use Rattle.host_draft.specs.Overlay.{over};
+ghost use Rattle.draft_parts.specs.Overlay.{over};
 
-use crate::log::Log;
-use crate::overlay::lapsed;
+use draft_parts::log::Log;
+use draft_parts::overlay::lapsed;
 use host_book::book::HostBook;
 use host_model::change::Change;
 use host_model::task_row::TaskRow;

@@ -6,8 +6,8 @@ ghost use Rattle.host_model.specs.Book.{find_task};
 ghost use Rattle.host_inputs.specs.Kept.{HasPolicies};
 
 use crate::draft::Draft;
-use crate::overlay::lesser_of;
-use crate::walk::{first_after, first_bare_after};
+use draft_parts::overlay::lesser_of;
+use draft_parts::walk::{first_after, first_bare_after};
 use host_inputs::hosting::Hosting;
 use host_model::task_row::TaskRow;
 use host_pages::showing::Showing;

@@ -1,10 +1,12 @@
 //! What decisions read of a draft.
 ghost use Rattle.std.specs.Prelude.{◌≡◌, find, option_map};
-ghost use Rattle.host_draft.specs.Overlay.{meets};
+ghost use Rattle.draft_parts.specs.Overlay.{meets};
 
 use crate::draft::Draft;
-use crate::gather::{bookings_over, reach, timeline_of};
-use crate::overlay::{Sought, find_over, first_below, first_sought, later, lesser_of, newest_bare};
+use draft_parts::gather::{bookings_over, reach, timeline_of};
+use draft_parts::overlay::{
+    Sought, find_over, first_below, first_sought, later, lesser_of, newest_bare,
+};
 use lead_core::leading::Leading;
 use limit_apply::limits::Limits;
 use part_core::reading::Reading;

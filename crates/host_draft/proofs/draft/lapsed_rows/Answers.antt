@@ -4,7 +4,7 @@ use Rattle.run_states.specs.declared.row.RunRow.{RunRow}
 use Rattle.row_ledger.specs.Deadlines.{due_keys, latest}
 use Rattle.row_ledger.proofs.FiledLemmas.{all_due}
 use Rattle.host_draft.proofs.DueLemmas.{opened_ok}
-use Rattle.host_draft.specs.Overlay.{lapsed_over}
+use Rattle.draft_parts.specs.Overlay.{lapsed_over}
 use Rattle.host_draft.proofs.draft.lapsed_rows.Goals as goal
 
 pub returns : goal.returns

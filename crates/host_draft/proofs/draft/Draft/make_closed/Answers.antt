@@ -6,7 +6,7 @@ use Rattle.run_states.specs.Life.{close_row}
 use Rattle.run_states.specs.declared.row.RunRow.{RunRow}
 use Rattle.run_states.specs.declared.why.Why.{Why}
 use Rattle.host_draft.proofs.MakeLemmas.{shown_made, steady_kept, touched_kept}
-use Rattle.host_draft.specs.Overlay.{below}
+use Rattle.draft_parts.specs.Overlay.{below}
 use Rattle.host_draft.proofs.draft.Draft.make_closed.Goals as goal
 
 -- one more copy changes nothing

@@ -11,7 +11,7 @@ use Rattle.row_ledger.proofs.RowLemmas.{step_brings}
 use Rattle.host_draft.specs.Draft.{book_now}
 use Rattle.host_draft.proofs.KindLemmas.{end_result}
 use Rattle.host_draft.proofs.MakeLemmas.{after, brought_within, can, copy_within, grown_kept, shown_made, touched_kept}
-use Rattle.host_draft.specs.Overlay.{below}
+use Rattle.draft_parts.specs.Overlay.{below}
 use Rattle.host_draft.proofs.draft.Draft.make_ended.Goals as goal
 
 -- one more copy changes nothing

@@ -6,9 +6,9 @@ use Rattle.host_model.specs.declared.change.Change.TheVariants.{Planned}
 use Rattle.host_model.proofs.Placed.{find_row-key}
 use Rattle.host_draft.specs.Draft.{Seen, book_now}
 use Rattle.host_draft.specs.Making.{IsAdmitted, made_in}
-use Rattle.host_draft.specs.Overlay.{over}
-use Rattle.host_draft.specs.Way.{IsPlannedWay}
-use Rattle.host_draft.specs.declared.giving_way.Incoming.{Incoming}
+use Rattle.draft_parts.specs.Overlay.{over}
+use Rattle.draft_parts.specs.Way.{IsPlannedWay}
+use Rattle.draft_parts.specs.declared.giving_way.Incoming.{Incoming}
 use Rattle.host_draft.proofs.KindLemmas.{plan_length, plan_start}
 use Rattle.host_draft.proofs.MakeLemmas.{can, spoken}
 use Rattle.host_draft.proofs.PlanLemmas.{way_is}

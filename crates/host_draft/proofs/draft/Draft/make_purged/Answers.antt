@@ -3,7 +3,7 @@ use Rattle.host_model.specs.declared.change.Change.TheVariants.{Purged}
 use Rattle.std.proofs.Common.{min}
 use Rattle.row_ledger.specs.Ledger.{bytes_at, most_counted}
 use Rattle.host_draft.specs.Draft.{book_now}
-use Rattle.host_draft.specs.Overlay.{over}
+use Rattle.draft_parts.specs.Overlay.{over}
 use Rattle.host_draft.proofs.KindLemmas.{purge_rows}
 use Rattle.host_draft.proofs.MakeLemmas.{can, purge_within, purged_kept, shown_made}
 use Rattle.host_draft.proofs.draft.Draft.make_purged.Goals as goal

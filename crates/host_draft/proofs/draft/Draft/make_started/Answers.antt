@@ -4,7 +4,7 @@ use Rattle.host_model.specs.declared.change.Change.TheVariants.{Started}
 use Rattle.run_states.specs.Rows.{change_row}
 use Rattle.run_states.specs.Life.{start_row}
 use Rattle.host_draft.proofs.MakeLemmas.{shown_made, steady_kept}
-use Rattle.host_draft.specs.Overlay.{below}
+use Rattle.draft_parts.specs.Overlay.{below}
 use Rattle.host_draft.proofs.draft.Draft.make_started.Goals as goal
 
 -- the copy of the row starts

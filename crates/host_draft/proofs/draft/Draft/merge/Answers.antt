@@ -15,7 +15,7 @@ use Rattle.row_ledger.proofs.RowLemmas.{fact_brings}
 use Rattle.host_draft.specs.Draft.{Seen, book_now}
 use Rattle.host_draft.proofs.KindLemmas.{merge_text}
 use Rattle.host_draft.proofs.MakeLemmas.{after, brought_within, can, copy_within, grown_kept, shown_made, touched_kept}
-use Rattle.host_draft.specs.Overlay.{below}
+use Rattle.draft_parts.specs.Overlay.{below}
 use Rattle.host_draft.proofs.draft.Draft.merge.Goals as goal
 
 -- the task has few archives

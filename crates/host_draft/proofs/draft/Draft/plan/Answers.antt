@@ -6,10 +6,10 @@ use Rattle.run_states.specs.Effect.{noted_row}
 use Rattle.run_states.specs.declared.fact.Fact.TheVariants.{Planned as PlannedFact}
 use Rattle.host_timeline.specs.Booking.{conflicting, keys_of}
 use Rattle.row_ledger.specs.Closing.{closed_keys}
-use Rattle.host_draft.specs.Way.{touched_each}
+use Rattle.draft_parts.specs.Way.{touched_each}
 use Rattle.host_draft.proofs.MakeLemmas.{shown_made}
 use Rattle.host_draft.proofs.PlanLemmas.{plan_kept}
-use Rattle.host_draft.specs.Overlay.{below}
+use Rattle.draft_parts.specs.Overlay.{below}
 use Rattle.host_draft.proofs.draft.Draft.plan.Goals as goal
 
 -- the copies of the rows in conflict are closed, and that of the run is accepted

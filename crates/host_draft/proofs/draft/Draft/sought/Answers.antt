@@ -3,7 +3,7 @@ use Rattle.std.proofs.Common.{◌∙◌, ap, ap₂, option_map}
 use Rattle.run_states.specs.declared.row.RunRow.{RunRow}
 use Rattle.host_timeline.specs.Booking.{conflicting_after, keys_of, lesser_of}
 use Rattle.host_draft.specs.Draft.{Seen, book_now}
-use Rattle.host_draft.specs.Overlay.{meets, meets_below}
+use Rattle.draft_parts.specs.Overlay.{meets, meets_below}
 use Rattle.host_draft.proofs.ReadLemmas.{read_sought}
 use Rattle.host_draft.proofs.draft.Draft.sought.Goals as goal
 

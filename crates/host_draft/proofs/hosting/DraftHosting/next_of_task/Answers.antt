@@ -6,7 +6,7 @@ use Rattle.run_states.specs.declared.row.RunRow.{RunRow}
 use Rattle.host_timeline.specs.Booking.{is_after, lesser_of}
 use Rattle.host_inputs.specs.Runs.{next_run}
 use Rattle.host_draft.specs.Draft.{Seen, book_now}
-use Rattle.host_draft.specs.Overlay.{hides}
+use Rattle.draft_parts.specs.Overlay.{hides}
 use Rattle.host_draft.proofs.HostingLemmas.{read_next_of, task_up}
 use Rattle.host_draft.proofs.hosting.DraftHosting.next_of_task.Goals as goal
 

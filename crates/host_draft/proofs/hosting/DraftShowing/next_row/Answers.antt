@@ -4,7 +4,7 @@ use Rattle.run_states.specs.declared.row.RunRow.{RunRow}
 use Rattle.host_timeline.specs.Booking.{is_after, lesser_of}
 use Rattle.host_model.specs.Book.{keys_of_rows}
 use Rattle.host_draft.specs.Draft.{Seen, book_now}
-use Rattle.host_draft.specs.Overlay.{hides}
+use Rattle.draft_parts.specs.Overlay.{hides}
 use Rattle.host_draft.proofs.HostingLemmas.{read_next_row}
 use Rattle.host_draft.proofs.hosting.DraftShowing.next_row.Goals as goal
 

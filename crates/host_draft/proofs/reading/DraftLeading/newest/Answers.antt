@@ -3,7 +3,7 @@ use Rattle.std.proofs.Common.{◌∙◌, None, ap, ap₂, filter, not}
 use Rattle.run_states.specs.TaskRows.{newest_row, rows_of_task}
 use Rattle.run_states.specs.declared.row.RunRow.{RunRow}
 use Rattle.host_draft.specs.Draft.{Seen, book_now}
-use Rattle.host_draft.specs.Overlay.{hides, later}
+use Rattle.draft_parts.specs.Overlay.{hides, later}
 use Rattle.host_draft.proofs.ReadLemmas.{read_newest}
 use Rattle.host_draft.proofs.reading.DraftLeading.newest.Goals as goal
 

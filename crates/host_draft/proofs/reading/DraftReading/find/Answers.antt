@@ -2,7 +2,7 @@ use Rattle.std.specs.Prelude.{IfSome}
 use Rattle.std.proofs.Common.{◌∙◌, ap₂, subst, sym}
 use Rattle.run_states.specs.Life.{HasMoments}
 use Rattle.host_draft.specs.Draft.{book_now}
-use Rattle.host_draft.specs.Overlay.{over}
+use Rattle.draft_parts.specs.Overlay.{over}
 use Rattle.host_draft.proofs.ReadLemmas.{moments_now}
 use Rattle.host_draft.proofs.reading.DraftReading.find.Goals as goal
 

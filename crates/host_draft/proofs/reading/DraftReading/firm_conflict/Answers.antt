@@ -1,6 +1,6 @@
 use Rattle.std.proofs.Common.{◌∙◌, sym}
 use Rattle.std.proofs.Math.Facts.{to_z-of_z}
-use Rattle.host_draft.proofs.PickLemmas.{firm_sought}
+use Rattle.draft_parts.proofs.PickLemmas.{firm_sought}
 use Rattle.host_draft.proofs.reading.DraftReading.firm_conflict.Goals as goal
 
 -- the first that stands firm

@@ -3,7 +3,7 @@ use Rattle.std.proofs.Common.{◌≡◌, ◌∙◌, ap, subst}
 use Rattle.host_model.specs.FreeStarts.{free_tiers}
 use Rattle.std.proofs.Math.Facts.{to_z-of_z}
 use Rattle.host_draft.specs.Draft.{Seen, book_now}
-use Rattle.host_draft.specs.Overlay.{near_gathered}
+use Rattle.draft_parts.specs.Overlay.{near_gathered}
 use Rattle.host_draft.proofs.ReadLemmas.{read_takes, read_tiers}
 use Rattle.host_draft.proofs.reading.DraftReading.free.Goals as goal
 

@@ -1,5 +1,5 @@
 use Rattle.std.proofs.Common.{◌∙◌, sym}
-use Rattle.host_draft.proofs.PickLemmas.{next_sought}
+use Rattle.draft_parts.proofs.PickLemmas.{next_sought}
 use Rattle.host_draft.proofs.reading.DraftReading.next_conflict.Goals as goal
 
 -- the first above the key

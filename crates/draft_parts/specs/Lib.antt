@@ -1,0 +1,4 @@
+pub mod Log
+pub mod Overlay
+pub mod ReadOn
+pub mod Way

@@ -1,8 +1,0 @@
-use Rattle.std.specs.Prelude.{find}
-use Rattle.std.proofs.Common.{◌≡◌}
-use Rattle.host_draft.specs.Overlay.{meets}
-use Rattle.host_draft.proofs.overlay.first_sought.Given as goal
-
--- what is left decides
-abbrev pub invariant-loop-row : goal.invariant-loop-row
-invariant-loop-row l = find (meets l.moment l.sought) l.fn.rows ≡ find (meets l.moment l.sought) l.row-iterator

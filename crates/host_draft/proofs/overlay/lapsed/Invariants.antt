@@ -1,8 +1,0 @@
-use Rattle.std.proofs.Common.{◌≡◌, [], drop}
-use Rattle.row_ledger.specs.Deadlines.{due_keys}
-use Rattle.host_draft.specs.Overlay.{lapsed_over}
-use Rattle.host_draft.proofs.overlay.lapsed.Given as goal
-
--- what is left decides
-abbrev pub invariant-loop-place : goal.invariant-loop-place
-invariant-loop-place l = lapsed_over l.moment l.book.list (due_keys l.moment l.deadlines.list) [] ≡ lapsed_over l.moment l.book.list (due_keys l.moment (drop l.place l.deadlines.list)) l.made.list

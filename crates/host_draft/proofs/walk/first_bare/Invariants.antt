@@ -1,8 +1,0 @@
-use Rattle.std.specs.Prelude.{find}
-use Rattle.std.proofs.Common.{◌≡◌, not}
-use Rattle.host_draft.specs.Overlay.{hides}
-use Rattle.host_draft.proofs.walk.first_bare.Given as goal
-
--- what is left decides
-abbrev pub invariant-loop-row : goal.invariant-loop-row
-invariant-loop-row l = find (λ r. not (hides l.touched.list l.gone r.key)) l.fn.rows ≡ find (λ r. not (hides l.touched.list l.gone r.key)) l.row-iterator
