@@ -1,4 +1,3 @@
 pub mod MoveLemmas
 mod RehearsalLemmas
-mod SeatLemmas
 mod TurnLemmas

@@ -1,4 +1,4 @@
 pub mod Carried
-pub mod Kept
 pub mod Moved
 pub mod Ready
+pub use Rattle.rehearsal_seats.specs.Kept

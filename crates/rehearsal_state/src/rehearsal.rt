@@ -14,7 +14,6 @@ ghost use Rattle.rehearsal_state.specs.Moved.{with_crash, with_letters, with_ste
 ghost use Rattle.rehearsal_state.specs.Ready.{IsReady};
 
 use crate::message::Message;
-use crate::seat::Seat;
 use host_model::input::Input;
 use host_model::reply::Reply;
 use ps_http::reader::FieldSpans;
@@ -23,6 +22,7 @@ use ps_time::memory::Memory;
 use ps_time::moment::Moment;
 use ps_time::text::Text;
 use psched_script::script::Stop;
+use rehearsal_seats::seat::Seat;
 use std::alloc::Global;
 use std::marker::Model;
 

@@ -2,10 +2,10 @@
 ghost use Rattle.std.specs.Prelude.{◌≡◌, ◌+◌, ◌++◌, ◌≤◌, OnOk, codes, drop, length};
 ghost use Rattle.rehearsal_model.specs.Rehearsal.{letter_told, letters_told};
 
-use crate::hosts::name_of;
 use crate::message::Message;
 use ps_time::memory::Memory;
 use psched_script::script::ScriptHost;
+use rehearsal_seats::hosts::name_of;
 use report_text::message::{add_sent, end_line, kind_name};
 use report_text::report::ReportText;
 

@@ -14,7 +14,6 @@ ghost use Rattle.rehearsal_state.specs.Ready.{IsReady};
 
 use crate::message::Message;
 use crate::rehearsal::Rehearsal;
-use crate::seat::Seat;
 use api_law::laws::law_orders;
 use host_model::config::Config;
 use host_model::input::Input;
@@ -26,6 +25,7 @@ use ps_time::items::Items;
 use ps_time::key::RunKey;
 use ps_time::memory::Memory;
 use ps_time::moment::Moment;
+use rehearsal_seats::seat::Seat;
 use std::alloc::Global;
 
 fn same_key(a: RunKey, b: RunKey) -> bool

@@ -1,6 +1,6 @@
 use Rattle.std.proofs.Common.{◌≡◌, ◌+◌, drop}
 use Rattle.rehearsal_model.specs.Moves.{place_numbered}
-use Rattle.rehearsal_state.proofs.hosts.place_of.Given as goal
+use Rattle.rehearsal_seats.proofs.hosts.place_of.Given as goal
 
 -- it is the first such place behind those before
 abbrev pub invariant-loop-place : goal.invariant-loop-place

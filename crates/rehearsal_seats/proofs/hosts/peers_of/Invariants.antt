@@ -1,6 +1,6 @@
 use Rattle.std.proofs.Common.{◌≡◌, ◌++◌, drop, map}
 use Rattle.rehearsal_model.specs.Hosts.{others_of, peer_of}
-use Rattle.rehearsal_state.proofs.hosts.peers_of.Given as goal
+use Rattle.rehearsal_seats.proofs.hosts.peers_of.Given as goal
 
 -- those of the hosts that are left are still to come
 abbrev pub invariant-loop-host : goal.invariant-loop-host

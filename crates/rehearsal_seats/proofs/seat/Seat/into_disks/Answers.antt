@@ -6,7 +6,7 @@ use Rattle.machine_keep.specs.Kept.{StandsFor}
 use Rattle.ps_disks.specs.History.{bytes_now}
 use Rattle.ps_disks.specs.MemoryDisk.{DiskState}
 use Rattle.psched_world.specs.World.{Stage}
-use Rattle.rehearsal_state.proofs.seat.Seat.into_disks.Goals as goal
+use Rattle.rehearsal_seats.proofs.seat.Seat.into_disks.Goals as goal
 
 -- the disks are those of a kept host that met no fault
 pub returns : goal.returns

@@ -5,8 +5,8 @@ use Rattle.host_model.specs.Book.{empty_book}
 use Rattle.machine_keep.specs.Kept.{StandsEither}
 use Rattle.ps_disks.specs.History.{bytes_now}
 use Rattle.ps_disks.specs.declared.rack.TheConstants.{FRESH_FIRST, FRESH_SECOND}
-use Rattle.rehearsal_state.proofs.SeatLemmas.{fresh_stands}
-use Rattle.rehearsal_state.proofs.seat.new_disks.Goals as goal
+use Rattle.rehearsal_seats.proofs.SeatLemmas.{fresh_stands}
+use Rattle.rehearsal_seats.proofs.seat.new_disks.Goals as goal
 
 pub returns : goal.returns
 returns c = λ config.

@@ -10,8 +10,8 @@ use Rattle.ps_disks.specs.History.{bytes_now}
 use Rattle.psched_world.specs.World.{Stage}
 use Rattle.rehearsal_model.specs.After.{cut_stage}
 use Rattle.rehearsal_model.specs.Seen.{acted}
-use Rattle.rehearsal_state.proofs.SeatLemmas.{cut_whole}
-use Rattle.rehearsal_state.proofs.seat.Seat.crash.Goals as goal
+use Rattle.rehearsal_seats.proofs.SeatLemmas.{cut_whole}
+use Rattle.rehearsal_seats.proofs.seat.Seat.crash.Goals as goal
 
 -- the disks stand for the book that the step left
 pub returns : goal.returns

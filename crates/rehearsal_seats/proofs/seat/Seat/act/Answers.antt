@@ -2,8 +2,8 @@ use Rattle.std.proofs.Common.{◌∙◌, ap, sym}
 use Rattle.host_model.specs.Step.{step_reply}
 use Rattle.psched_world.specs.World.{Stage}
 use Rattle.rehearsal_model.specs.Seen.{acted}
-use Rattle.rehearsal_state.proofs.SeatLemmas.{reply_kept, stage_kept}
-use Rattle.rehearsal_state.proofs.seat.Seat.act.Goals as goal
+use Rattle.rehearsal_seats.proofs.SeatLemmas.{reply_kept, stage_kept}
+use Rattle.rehearsal_seats.proofs.seat.Seat.act.Goals as goal
 
 -- no step was unsure
 pub returns-clause-reply : goal.returns-clause-reply

@@ -1,6 +1,6 @@
 use Rattle.std.proofs.Common.{◌≡◌, drop}
 use Rattle.rehearsal_model.specs.Hosts.{host_numbered}
-use Rattle.rehearsal_state.proofs.hosts.name_of.Given as goal
+use Rattle.rehearsal_seats.proofs.hosts.name_of.Given as goal
 
 -- what is left decides
 abbrev pub invariant-loop-host : goal.invariant-loop-host

@@ -12,7 +12,7 @@ ghost use Rattle.machine_keep.specs.Kept.{StandsEither, StandsFor};
 ghost use Rattle.rehearsal_model.specs.After.{crashed_stage, cut_stage};
 ghost use Rattle.rehearsal_model.specs.Rehearsal.{retooled};
 ghost use Rattle.rehearsal_model.specs.Seen.{acted};
-ghost use Rattle.rehearsal_state.specs.Kept.{IsKeptOn};
+ghost use Rattle.rehearsal_seats.specs.Kept.{IsKeptOn};
 
 use host_keep::book::HostBook;
 use host_keep::call::HostCall;

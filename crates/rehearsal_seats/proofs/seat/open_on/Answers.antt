@@ -2,8 +2,8 @@ use Rattle.std.proofs.Common.{◌∙◌, ap}
 use Rattle.host_model.specs.Book.{Book}
 use Rattle.host_model.specs.Step.{step_book}
 use Rattle.host_model.specs.declared.input.Input.TheVariants.{Open}
-use Rattle.rehearsal_state.proofs.SeatLemmas.{same_book}
-use Rattle.rehearsal_state.proofs.seat.open_on.Goals as goal
+use Rattle.rehearsal_seats.proofs.SeatLemmas.{same_book}
+use Rattle.rehearsal_seats.proofs.seat.open_on.Goals as goal
 
 -- the disks stand for one book alone, and the host is opened on it
 pub returns-in-Ok : goal.returns-in-Ok

@@ -1,4 +1,4 @@
-use Rattle.rehearsal_state.proofs.seat.Seat.open.Goals as goal
+use Rattle.rehearsal_seats.proofs.seat.Seat.open.Goals as goal
 use Rattle.host_model.specs.Book.{empty_book}
 
 -- new disks stand for the empty book

@@ -6,8 +6,8 @@ use Rattle.machine_keep.specs.Kept.{StandsFor}
 use Rattle.ps_disks.specs.History.{bytes_now}
 use Rattle.psched_world.specs.World.{Stage}
 use Rattle.rehearsal_model.specs.After.{cut_stage}
-use Rattle.rehearsal_state.proofs.SeatLemmas.{cut_kept}
-use Rattle.rehearsal_state.proofs.seat.Seat.crash_disks.Goals as goal
+use Rattle.rehearsal_seats.proofs.SeatLemmas.{cut_kept}
+use Rattle.rehearsal_seats.proofs.seat.Seat.crash_disks.Goals as goal
 
 pub returns : goal.returns
 returns c =

@@ -1,7 +1,7 @@
 use Rattle.std.proofs.Common.{◌≡◌, ◌++◌, drop, map}
 use Rattle.plugin_tool.specs.Tool.{tool_text}
 use Rattle.rehearsal_model.specs.Hosts.{every_tool}
-use Rattle.rehearsal_state.proofs.hosts.every_tool.Given as goal
+use Rattle.rehearsal_seats.proofs.hosts.every_tool.Given as goal
 
 -- those of the tools that are left are still to come
 abbrev pub invariant-loop-tool : goal.invariant-loop-tool
