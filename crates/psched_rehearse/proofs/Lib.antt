@@ -1,5 +1,3 @@
-mod ArchiveLemmas
-mod ArriveLemmas
 mod LineLemmas
 pub mod PlayLemmas
 mod StopLemmas

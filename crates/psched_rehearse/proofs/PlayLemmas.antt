@@ -20,7 +20,7 @@ use Rattle.rehearsal_model.specs.Hosts.{first_config}
 use Rattle.rehearsal_model.proofs.HostLemmas.{right_first}
 use Rattle.rehearsal_model.proofs.LineLemmas.{line_reaches, line_seen}
 use Rattle.rehearsal_model.proofs.ReachLemmas.{brings_input, comes_known, config_is, receiver_within, replied_so, script_peers}
-use Rattle.psched_rehearse.specs.Playing.{IsPlaying}
+use Rattle.rehearsal_moves.specs.Playing.{IsPlaying}
 
 -- a number for which a test holds is among those of which P holds
 among : (P : ℕ → Type 0) (ns : List ℕ) (n : ℕ) → AllByRecursion P ns → list_any (λ f. f == n) ns ≡ true → P n

@@ -1,7 +1,6 @@
 -- Steps that are to stop: which they are, what is told of them, and what they leave.
 use Rattle.std.specs.Prelude.{IfSome, codes, if◌then◌else◌}
-use Rattle.std.proofs.Common.{◌≡◌, ◌≤◌, ◌<◌, ◌-◌, ◌∙◌, ◌++◌, ℕ, Bool, true, false, Err, List, [], Ok, Option, Result, Some, None, ap, length, option_map, refl, subst, sym}
-use Rattle.std.specs.Result.{OnOk}
+use Rattle.std.proofs.Common.{◌≡◌, ◌≤◌, ◌<◌, ◌-◌, ◌∙◌, ℕ, Bool, true, false, List, [], Option, Some, None, ap, length, option_map, refl, subst, sym}
 use Rattle.ps_doors.specs.declared.archiver.Tried.TheVariants.{Succeeded}
 use Rattle.ps_time.specs.Numbers.{greatest_moment}
 use Rattle.host_model.specs.Conditions.{IsInput}
@@ -11,17 +10,16 @@ use Rattle.psched_script.specs.declared.script.ScriptHost.{ScriptHost}
 use Rattle.psched_script.specs.declared.script.Stop.{Stop}
 use Rattle.psched_world.specs.Events.{Cause, brings}
 use Rattle.psched_world.specs.World.{Letter}
-use Rattle.report_text.specs.Line.{line_text}
 use Rattle.rehearsal_model.specs.Moves.{Crash, Move, Outcomes, crash_by, crash_in, crash_of, landed_with, receiver, unless_crash}
 use Rattle.rehearsal_model.specs.Reaching.{MayMove}
 use Rattle.rehearsal_model.specs.Rehearsal.{told_unless}
 use Rattle.rehearsal_model.specs.Seen.{Seen, config_at, message, stop_at, stop_in}
-use Rattle.rehearsal_state.specs.Moved.{with_crash, with_move}
-use Rattle.rehearsal_state.specs.Ready.{IsReady}
-use Rattle.rehearsal_state.proofs.MoveLemmas.{crashed}
-use Rattle.psched_rehearse.specs.Playing.{IsPlaying}
-use Rattle.psched_rehearse.specs.Stopping.{CanStop, step_of, stopped_in, stopped_step}
-use Rattle.psched_rehearse.specs.declared.stopping.StoppedStep.{StoppedStep}
+use Rattle.rehearsal_moves.specs.Moved.{with_crash, with_move}
+use Rattle.rehearsal_moves.specs.Ready.{IsReady}
+use Rattle.rehearsal_moves.proofs.MoveLemmas.{crashed}
+use Rattle.rehearsal_moves.specs.Playing.{IsPlaying}
+use Rattle.psched_rehearse.specs.Stopping.{CanStop, step_of, stopped_step}
+use Rattle.rehearsal_moves.specs.declared.stopped.StoppedStep.{StoppedStep}
 
 -- some outcomes, where a fact holds whatever comes of attempts
 abbrev pub all_well : Outcomes
@@ -123,16 +121,3 @@ moved_plainly hosts b move (Some c) is = absurd cc
 pub of_step : (P : StoppedStep → Type 0) (o : Option StoppedStep) (step : StoppedStep) → o ≡ Some step → IfSome o P → P step
 of_step P None step is all = absurd cc
 of_step P (Some s) step is all = let same : s ≡ step = some_is s step is in subst P same all
-
--- what is known where a call ended well
-pub reported : {T E : Type 0} (r : Result T E) (new old : List ℕ) (line : ℕ) (said told : List ℕ) → said ≡ told → OnOk r (new ≡ old ++ line_text line said) → OnOk r (new ≡ old ++ line_text line told)
-reported (Ok x) new old line said told same known = known ∙ ap (λ s. old ++ line_text line s) same
-reported (Err e) new old line said told same known = tt
-
-pub seen_as : {T E : Type 0} (r : Result T E) (new a b : Seen) → a ≡ b → OnOk r (new ≡ a) → OnOk r (new ≡ b)
-seen_as (Ok x) new a b same known = known ∙ same
-seen_as (Err e) new a b same known = tt
-
-pub on_ok : {T E P : Type 0} (r : Result T E) → P → OnOk r P
-on_ok (Ok x) p = p
-on_ok (Err e) p = tt

@@ -1,5 +1,4 @@
-pub mod Archiving
-pub mod Playing
 pub mod Stopping
-pub use Rattle.rehearsal_state.specs.Moved
-pub use Rattle.rehearsal_state.specs.Ready
+pub use Rattle.rehearsal_moves.specs.Moved
+pub use Rattle.rehearsal_moves.specs.Playing
+pub use Rattle.rehearsal_moves.specs.Ready

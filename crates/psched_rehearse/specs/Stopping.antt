@@ -6,8 +6,8 @@ use Rattle.psched_script.specs.declared.script.ScriptHost.{ScriptHost}
 use Rattle.rehearsal_model.specs.Moves.{Crash, Move, crash_of}
 use Rattle.rehearsal_model.specs.Reaching.{MayMove}
 use Rattle.rehearsal_model.specs.Seen.{Seen, config_at, stop_at}
-use Rattle.rehearsal_state.specs.Ready.{IsReady}
-use Rattle.psched_rehearse.specs.declared.stopping.StoppedStep.{StoppedStep}
+use Rattle.rehearsal_moves.specs.Ready.{IsReady}
+use Rattle.rehearsal_moves.specs.declared.stopped.StoppedStep.{StoppedStep}
 
 -- what is known of it, whatever it comes from
 abbrev pub step_of : Crash → StoppedStep

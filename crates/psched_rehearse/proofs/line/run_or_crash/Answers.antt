@@ -3,8 +3,9 @@ use Rattle.std.proofs.Common.{List, ◌∙◌, sym, ℕ}
 use Rattle.rehearsal_model.specs.Moves.{Move, crash_of, landed_with, move_of, unless_crash}
 use Rattle.rehearsal_model.specs.Rehearsal.{plainly_told, told_unless}
 use Rattle.rehearsal_model.specs.Seen.{Seen}
-use Rattle.rehearsal_state.specs.Moved.{with_crash, with_move}
-use Rattle.psched_rehearse.proofs.StopLemmas.{all_well, moved_crashed, moved_plainly, of_step, on_ok, reported, seen_as, told_crashed, told_plainly}
+use Rattle.rehearsal_moves.specs.Moved.{with_crash, with_move}
+use Rattle.rehearsal_moves.proofs.ResultLemmas.{on_ok, reported, seen_as}
+use Rattle.psched_rehearse.proofs.StopLemmas.{all_well, moved_crashed, moved_plainly, of_step, told_crashed, told_plainly}
 use Rattle.psched_rehearse.specs.Stopping.{CanStop}
 use Rattle.psched_rehearse.proofs.line.run_or_crash.Goals as goal
 

@@ -9,7 +9,7 @@ use Rattle.psched_world.specs.World.{Letter}
 use Rattle.report_text.specs.Line.{changes_text}
 use Rattle.rehearsal_model.specs.Moves.{sent_at}
 use Rattle.rehearsal_model.specs.Seen.{Seen}
-use Rattle.psched_rehearse.proofs.LineLemmas.{told_as}
+use Rattle.rehearsal_moves.proofs.TellLemmas.{told_as}
 use Rattle.psched_rehearse.proofs.line.take_turn.Goals as goal
 
 on_ok : {T E P : Type 0} (r : Result T E) → P → OnOk r P

@@ -3,7 +3,7 @@ use Rattle.std.proofs.lemmas.List.{append-nil}
 use Rattle.std.specs.Vec.Iter.{into_iter_items}
 use Rattle.ps_disks.specs.MemoryDisk.{DiskState}
 use Rattle.psched_world.specs.World.{Stage}
-use Rattle.rehearsal_state.specs.Kept.{AreKeptOn}
+use Rattle.rehearsal_moves.specs.Kept.{AreKeptOn}
 use Rattle.psched_rehearse.proofs.rehearse.disks_of.Goals as goal
 
 -- one more

@@ -8,7 +8,7 @@ use Rattle.rehearsal_model.specs.After.{seen_after}
 use Rattle.rehearsal_model.specs.Moves.{Outcomes, move_of}
 use Rattle.rehearsal_model.specs.Reaching.{MayMove}
 use Rattle.rehearsal_model.specs.Rehearsal.{first_show, told}
-use Rattle.psched_rehearse.specs.Playing.{IsPlaying}
+use Rattle.rehearsal_moves.specs.Playing.{IsPlaying}
 use Rattle.psched_rehearse.proofs.PlayLemmas.{HasCome, one_more, playing}
 use Rattle.psched_rehearse.proofs.rehearse.run_lines.Goals as goal
 

@@ -4,7 +4,7 @@ use Rattle.host_model.specs.Conditions.{IsInput}
 use Rattle.rehearsal_model.specs.Seen.{Seen, config_at}
 use Rattle.rehearsal_state.specs.Moved.{with_crash}
 use Rattle.rehearsal_state.specs.Ready.{IsReady}
-use Rattle.psched_rehearse.proofs.stopping.StoppedStep.crash.Goals as goal
+use Rattle.rehearsal_moves.proofs.stopped.StoppedStep.crash.Goals as goal
 
 -- a message that lands changes no host
 pub crash-requires-clause-ready : goal.crash-requires-clause-ready

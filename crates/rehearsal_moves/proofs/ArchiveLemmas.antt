@@ -14,7 +14,7 @@ use Rattle.rehearsal_model.specs.Rehearsal.{attempt_told, told_unless}
 use Rattle.rehearsal_model.specs.Seen.{Seen, config_at, reply_at, stop_at}
 use Rattle.rehearsal_state.specs.Moved.{with_crash, with_move, with_step}
 use Rattle.rehearsal_state.proofs.MoveLemmas.{crashed, tried}
-use Rattle.psched_rehearse.specs.Archiving.{tried_by}
+use Rattle.rehearsal_moves.specs.Archiving.{tried_by}
 
 -- ---- its move
 pub trying_some : (comes : Outcomes) (place clock : ℕ) (o : Option Due) (i : Input) → Some i ≡ tried_by comes o → Move.Tries place clock i ≡ trying comes place clock o

@@ -4,9 +4,9 @@ use Rattle.std.proofs.Common.{◌++◌, ◌∙◌, ◌∷◌, [], Some, ap}
 use Rattle.std.proofs.lemmas.Result.{on_ok_weaker}
 use Rattle.psched_world.specs.World.{Letter}
 use Rattle.rehearsal_model.specs.Seen.{Seen}
-use Rattle.psched_rehearse.proofs.ArriveLemmas.{same_letter}
-use Rattle.psched_rehearse.proofs.LineLemmas.{told_as}
-use Rattle.psched_rehearse.proofs.arrive.send_reply.Goals as goal
+use Rattle.rehearsal_moves.proofs.ArriveLemmas.{same_letter}
+use Rattle.rehearsal_moves.proofs.TellLemmas.{told_as}
+use Rattle.rehearsal_moves.proofs.arrive.send_reply.Goals as goal
 
 -- the status of the reply, and the reply
 pub returns-clause-report : goal.returns-clause-report

@@ -14,7 +14,7 @@ use Rattle.rehearsal_model.specs.Reaching.{IsKnown}
 use Rattle.rehearsal_model.specs.Seen.{Seen, config_at, landed, message, reply_at}
 use Rattle.rehearsal_state.specs.Moved.{with_step}
 use Rattle.rehearsal_state.specs.Ready.{IsReady}
-use Rattle.psched_rehearse.specs.Playing.{IsPlaying}
+use Rattle.rehearsal_moves.specs.Playing.{IsPlaying}
 
 some_is : {A : Type 0} (a b : A) → Some a ≡ Some b → a ≡ b
 some_is a b e = cc

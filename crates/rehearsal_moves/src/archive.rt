@@ -14,9 +14,9 @@ ghost use Rattle.rehearsal_model.specs.Rehearsal.{told, told_unless};
 ghost use Rattle.rehearsal_model.specs.Seen.{config_at, reply_at};
 ghost use Rattle.rehearsal_state.specs.Moved.{with_move, with_step};
 ghost use Rattle.rehearsal_state.specs.Ready.{IsReady};
-ghost use Rattle.psched_rehearse.specs.Archiving.{told_of, tried_by};
+ghost use Rattle.rehearsal_moves.specs.Archiving.{told_of, tried_by};
 
-use crate::stopping::{StoppedStep, crash};
+use crate::stopped::{StoppedStep, crash};
 use archivers::by_name::Archivers;
 use host_model::input::Input;
 use host_model::lead::Due;

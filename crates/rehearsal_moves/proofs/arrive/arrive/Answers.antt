@@ -1,12 +1,12 @@
 use Rattle.std.proofs.Common.{◌≡◌, ◌∙◌, ap}
 use Rattle.psched_world.specs.Events.{brings}
 use Rattle.rehearsal_model.specs.Moves.{place_numbered, receiver}
-use Rattle.psched_rehearse.proofs.ArriveLemmas.{within_now}
-use Rattle.psched_rehearse.proofs.arrive.receive.Goals as goal
+use Rattle.rehearsal_moves.proofs.ArriveLemmas.{within_now}
+use Rattle.rehearsal_moves.proofs.arrive.arrive.Goals as goal
 
 -- the host that replied is there still
-pub send_back-requires-clause-place : goal.send_back-requires-clause-place
-send_back-requires-clause-place c =
+pub send_reply-requires-clause-place : goal.send_reply-requires-clause-place
+send_reply-requires-clause-place c =
     let hosts = c.args.hosts.now in
     let l = c.message-message.result.now in
     let place_is : c.place_of-place.result ≡ receiver hosts l = c.place_of-place.ensures ∙ ap (place_numbered hosts) c.goes_to.ensures in

@@ -13,7 +13,7 @@ ghost use Rattle.rehearsal_model.specs.Moves.{Move.Arrives, Move.Lost, Move.Rest
 ghost use Rattle.rehearsal_model.specs.Rehearsal.{arrival_told, letters_told};
 ghost use Rattle.rehearsal_model.specs.Seen.{has_arrived, is_flying, is_sent, landed, message};
 ghost use Rattle.rehearsal_state.specs.Moved.{with_letters, with_move, with_step};
-ghost use Rattle.psched_rehearse.specs.Playing.{IsPlaying};
+ghost use Rattle.rehearsal_moves.specs.Playing.{IsPlaying};
 
 use crate::ask::ask;
 use api_law::widths::reply_widths;

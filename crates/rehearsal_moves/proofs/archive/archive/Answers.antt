@@ -9,10 +9,10 @@ use Rattle.rehearsal_model.specs.Rehearsal.{attempt_told, told_unless}
 use Rattle.rehearsal_model.specs.Seen.{Seen, config_at, reply_at}
 use Rattle.rehearsal_state.specs.Moved.{with_move}
 use Rattle.rehearsal_state.proofs.MoveLemmas.{rested}
-use Rattle.psched_rehearse.specs.Archiving.{tried_by}
-use Rattle.psched_rehearse.proofs.ArchiveLemmas.{of_some, told_none, told_some, trying_none, trying_some}
-use Rattle.psched_rehearse.proofs.StopLemmas.{on_ok, reported, seen_as}
-use Rattle.psched_rehearse.proofs.archive.archive.Goals as goal
+use Rattle.rehearsal_moves.specs.Archiving.{tried_by}
+use Rattle.rehearsal_moves.proofs.ArchiveLemmas.{of_some, told_none, told_some, trying_none, trying_some}
+use Rattle.rehearsal_moves.proofs.ResultLemmas.{on_ok, reported, seen_as}
+use Rattle.rehearsal_moves.proofs.archive.archive.Goals as goal
 
 -- an attempt was made
 pub returns-in-Some-clause-report : goal.returns-in-Some-clause-report

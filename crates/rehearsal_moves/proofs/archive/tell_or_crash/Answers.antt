@@ -5,9 +5,9 @@ use Rattle.rehearsal_model.specs.Moves.{Move, crash_of, stopped}
 use Rattle.rehearsal_model.specs.Rehearsal.{told_unless}
 use Rattle.rehearsal_model.specs.Seen.{Seen, reply_at}
 use Rattle.rehearsal_state.specs.Moved.{with_crash, with_move, with_step}
-use Rattle.psched_rehearse.proofs.ArchiveLemmas.{moved_stopped, moved_unstopped, told_stopped, told_unstopped}
-use Rattle.psched_rehearse.proofs.StopLemmas.{reported, seen_as}
-use Rattle.psched_rehearse.proofs.archive.tell_or_crash.Goals as goal
+use Rattle.rehearsal_moves.proofs.ArchiveLemmas.{moved_stopped, moved_unstopped, told_stopped, told_unstopped}
+use Rattle.rehearsal_moves.proofs.ResultLemmas.{reported, seen_as}
+use Rattle.rehearsal_moves.proofs.archive.tell_or_crash.Goals as goal
 
 -- the step stops
 pub returns-in-Some-clause-report : goal.returns-in-Some-clause-report

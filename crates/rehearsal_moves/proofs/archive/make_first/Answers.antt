@@ -6,8 +6,8 @@ use Rattle.host_model.specs.declared.lead.Due.{Due}
 use Rattle.psched_world.specs.World.{Stage}
 use Rattle.rehearsal_model.specs.Moves.{attempt}
 use Rattle.rehearsal_model.specs.Seen.{Seen, book_at}
-use Rattle.psched_rehearse.specs.Archiving.{tried_by}
-use Rattle.psched_rehearse.proofs.archive.make_first.Goals as goal
+use Rattle.rehearsal_moves.specs.Archiving.{tried_by}
+use Rattle.rehearsal_moves.proofs.archive.make_first.Goals as goal
 
 -- the attempt that is due
 pub returns-in_ok-input-in-Some-clause-told : goal.returns-in_ok-input-in-Some-clause-told

@@ -3,8 +3,8 @@ use Rattle.host_model.specs.Conditions.{IsInput}
 use Rattle.rehearsal_model.specs.Moves.{place_numbered, receiver}
 use Rattle.rehearsal_model.specs.Seen.{Seen, config_at, landed}
 use Rattle.rehearsal_state.specs.Ready.{IsReady}
-use Rattle.psched_rehearse.proofs.ArriveLemmas.{as_told, asks_there, known_there, ready, replies_so, within}
-use Rattle.psched_rehearse.proofs.arrive.bring.Goals as goal
+use Rattle.rehearsal_moves.proofs.ArriveLemmas.{as_told, asks_there, known_there, ready, replies_so, within}
+use Rattle.rehearsal_moves.proofs.arrive.bring.Goals as goal
 
 -- the host to which the message goes
 pub brings-requires-clause-place : goal.brings-requires-clause-place

@@ -1,0 +1,5 @@
+mod ArchiveLemmas
+mod ArriveLemmas
+pub mod ResultLemmas
+pub mod TellLemmas
+pub use Rattle.rehearsal_state.proofs.MoveLemmas
