@@ -1,5 +1,5 @@
 -- The course of a call of a kept machine, from the clauses of the journal's calls.
-use Rattle.std.proofs.Common.{◌≡◌, inl, inr, ℕ, ◌+◌, ◌-◌, ◌≤◌, Bool, true, false, not, if◌then◌else◌, List, [], ◌∷◌, ◌++◌, length, ap, refl, sym, subst, arith, ◌∙◌}
+use Rattle.std.proofs.Common.{◌≡◌, inl, inr, ℕ, ◌+◌, ◌-◌, ◌^◌, ◌<◌, ◌≤◌, Bool, true, false, not, if◌then◌else◌, List, [], ◌∷◌, ◌++◌, length, ap, refl, sym, subst, arith, ◌∙◌}
 use Rattle.std.specs.Prelude.{IfOk, Option, Some, None, Result, Ok, Err}
 use Rattle.ps_ports.specs.Causes.{raised}
 use Rattle.ps_disks.specs.declared.disk.DiskCall.{DiskCall}
@@ -11,7 +11,7 @@ use Rattle.host_journal.specs.declared.pending.Pending.TheVariants.{Nothing, Uno
 use Rattle.host_journal.specs.declared.reading.Counted.{Counted}
 use Rattle.host_journal.specs.declared.reading.DiskPlace.{DiskPlace}
 use Rattle.machine_keep.specs.Calls.{MakesPair, PairCalls, TellsIn, TellsPair, TellsSome, TellsSomeIn, all_on, image_calls, kept_calls, record_calls, sync_calls}
-use Rattle.machine_keep.specs.Course.{IsFound, IsRead, IsRewritten, IsShortened, IsTurned, Moves, Opened, Shortens, Unwritten, is_many_with}
+use Rattle.machine_keep.specs.Course.{IsFound, IsRead, IsRewritten, IsShortened, IsSnapshotOf, IsTurned, Moves, Opened, Shortens, Unwritten, is_many_with}
 use Rattle.machine_keep.specs.Kept.{Kept, is_many}
 use Rattle.machine_keep.proofs.CallLemmas.{some_early, some_later, some_on, some_other, tells_both, tells_counting, tells_none, tells_other}
 
@@ -188,6 +188,9 @@ module _ {D : Type 0} (old mid turned : State D) (same : SameButRoom old mid) (p
   pub many_same : is_many (turned.end - turned.start) (turned.start - 21) ≡ is_many_with old payload
   many_same = rw (end_same, start_same) refl
 
+  pub snapshot_same : {S : Type 0} (stands : List (List ℕ) → S → Type 0) (s : S) (image : List ℕ) → IsSnapshotOf stands s turned.generation image → IsSnapshotOf stands s old.generation image
+  snapshot_same stands s image is = (is.0, is.1, subst (λ (n : ℕ). n + 1 < 2 ^ 64) (kept.generation ∙ ap (λ (m : State D). m.generation) same) is.2)
+
   pub kept_moves : {S : Type 0} (stands : List (List ℕ) → S → Type 0) (s : S) (off off_now : ℕ) (new : State D) (image : Option (List ℕ)) → IsShortened stands s off off_now turned image new → Moves old (Some payload) image new
   kept_moves stands s off off_now new None short = record {
     second = ap (λ (m : State D). m.second) short.1 ∙ (kept.second ∙ ap (λ (m : State D). m.second) same);
@@ -205,7 +208,7 @@ module _ {D : Type 0} (old mid turned : State D) (same : SameButRoom old mid) (p
 
   pub kept_short : {S : Type 0} (stands : List (List ℕ) → S → Type 0) (s : S) (off off_now : ℕ) (new : State D) (image : Option (List ℕ)) → IsShortened stands s off off_now turned image new → Shortens stands s off off_now old (Some payload) image
   kept_short stands s off off_now new None short = short.0 ∙ ap (λ (b : Bool). if b then raised off else off) many_same
-  kept_short stands s off off_now new (Some image) short = (sym many_same ∙ short.0, short.1, short.2)
+  kept_short stands s off off_now new (Some image) short = (sym many_same ∙ short.0, snapshot_same stands s image short.1, short.2)
 
 -- the records were found to be many
 pub turned_many : {M D T : Type 0} (k now : Kept M D T) (found : Bool) → k ≡ now → found ≡ is_many (now.journal.end - now.journal.start) (now.journal.start - 21) → found ≡ true → is_many (k.journal.end - k.journal.start) (k.journal.start - 21) ≡ true

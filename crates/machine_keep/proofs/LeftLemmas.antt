@@ -69,7 +69,7 @@ dropped_are_parts : (bytes : List ℕ) (log : List LoggedCall) → ArePartsOf by
 dropped_are_parts bytes [] = refl
 dropped_are_parts bytes (l ∷ log) = (bytes, nothing_may_be l.done l.call bytes, dropped_are_parts bytes log)
 
-is_image : (image : Image) (h : History) → IsImage h (image_bytes image h)
+pub is_image : (image : Image) (h : History) → IsImage h (image_bytes image h)
 is_image Old h = dropped_are_parts (standing h).fixed (standing h).since
 is_image New h = replayed_are_parts (standing h).fixed (standing h).since
 is_image Torn h = half_replayed_are_parts (standing h).fixed (standing h).since

@@ -5,7 +5,7 @@ mod CourseLemmas
 mod CrashLemmas
 mod FaultedLemmas
 mod KeepLemmas
-mod LeftLemmas
+pub mod LeftLemmas
 pub mod OpeningLemmas
 pub mod RefusalLemmas
 pub mod StoppedLemmas

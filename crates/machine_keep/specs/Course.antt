@@ -1,5 +1,5 @@
 -- The course of a call of a kept machine: what it finds, makes and leaves, and what its disks tell.
-use Rattle.std.specs.Prelude.{◌≡◌, ℕ, ◌+◌, ◌-◌, ◌≤◌, Bool, true, false, not, if◌then◌else◌, List, [], ◌∷◌, ◌++◌, length, Option, None, Some, IfSome, option_map}
+use Rattle.std.specs.Prelude.{◌≡◌, ℕ, ◌+◌, ◌-◌, ◌^◌, ◌<◌, ◌≤◌, Bool, true, false, not, if◌then◌else◌, List, [], ◌∷◌, ◌++◌, length, Option, None, Some, IfSome, option_map}
 use Rattle.ps_ports.specs.Causes.{raised}
 use Rattle.ps_disks.specs.declared.disk.DiskCall.{DiskCall}
 use Rattle.host_journal.specs.Format.{stands as is_standing}
@@ -21,11 +21,15 @@ pub record IsFound {D : Type 0} (premise : Type 0) (seen : D → List ℕ) (old 
 abbrev pub is_many_with : {D : Type 0} → State D → List ℕ → Bool
 is_many_with s payload = is_many (s.end + 5 + length payload - s.start) (s.start - 21)
 
+-- a snapshot of this state, which has fewer than 2^32 bytes, beside a disk of a generation that isn't the last
+abbrev pub IsSnapshotOf : {S : Type 0} → (List (List ℕ) → S → Type 0) → S → ℕ → List ℕ → Type 0
+IsSnapshotOf stands s generation image = stands (image ∷ []) s × (length image < 2 ^ 32) × (generation + 1 < 2 ^ 64)
+
 -- Where a record makes the records many, a snapshot of the state is made, or it is put off, and counted. Else none is.
 abbrev pub Shortens : {D S : Type 0} → (List (List ℕ) → S → Type 0) → S → ℕ → ℕ → State D → Option (List ℕ) → Option (List ℕ) → Type 0
 Shortens stands s off off_now place None image = (image ≡ None) × (off_now ≡ off)
 Shortens stands s off off_now place (Some payload) None = off_now ≡ (if is_many_with place payload then raised off else off)
-Shortens stands s off off_now place (Some payload) (Some image) = (is_many_with place payload ≡ true) × stands (image ∷ []) s × (off_now ≡ off)
+Shortens stands s off off_now place (Some payload) (Some image) = (is_many_with place payload ≡ true) × IsSnapshotOf stands s place.generation image × (off_now ≡ off)
 
 -- behind a record the same disk counts
 pub record IsBehind {D : Type 0} (payload : List ℕ) (place now : State D) : Type 0 where
@@ -51,13 +55,13 @@ Moves place (Some payload) (Some image) now = IsTurned image place now
 -- the same of a journal that has the record already
 abbrev pub IsShortened : {D S : Type 0} → (List (List ℕ) → S → Type 0) → S → ℕ → ℕ → State D → Option (List ℕ) → State D → Type 0
 IsShortened stands s off off_now old None now = (off_now ≡ (if is_many (old.end - old.start) (old.start - 21) then raised off else off)) × SameButRoom old now
-IsShortened stands s off off_now old (Some image) now = (is_many (old.end - old.start) (old.start - 21) ≡ true) × stands (image ∷ []) s × (off_now ≡ off) × IsTurned image old now
+IsShortened stands s off off_now old (Some image) now = (is_many (old.end - old.start) (old.start - 21) ≡ true) × IsSnapshotOf stands s old.generation image × (off_now ≡ off) × IsTurned image old now
 
 -- a snapshot of this state is due with the record, where one was begun
 abbrev pub IsDue : {D S : Type 0} → (List (List ℕ) → S → Type 0) → S → State D → Option (List ℕ) → Option (List ℕ) → Type 0
 IsDue stands s place payload None = Unit {0}
 IsDue stands s place None (Some image) = ⊥
-IsDue stands s place (Some payload) (Some image) = (is_many_with place payload ≡ true) × stands (image ∷ []) s
+IsDue stands s place (Some payload) (Some image) = (is_many_with place payload ≡ true) × IsSnapshotOf stands s place.generation image
 
 -- The state and the step that is unsure after a fault: in a record the step isn't taken in, in a snapshot it was.
 abbrev pub Leaves : {S T : Type 0} → (S → T → S) → S → Option T → Option (List ℕ) → S → Option T → Type 0

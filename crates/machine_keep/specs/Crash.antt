@@ -5,7 +5,7 @@ use Rattle.host_journal.specs.Crash.{opens_gate, opens_head}
 use Rattle.host_journal.specs.State.{State, has_record, snapshot_of, stored, which}
 use Rattle.host_journal.specs.declared.reading.Counted.{Counted}
 use Rattle.host_journal.specs.declared.reading.DiskPlace.{DiskPlace}
-use Rattle.machine_keep.specs.Course.{IsFound, is_many_with}
+use Rattle.machine_keep.specs.Course.{IsFound, IsSnapshotOf, is_many_with}
 use Rattle.machine_keep.specs.Kept.{StandsFor, after_step}
 
 -- A step that stops at this of its calls, counted from 1, is kept in this image: in its third or fourth where that keeps what no sync
@@ -26,7 +26,7 @@ IsPutOff stands s generation = (generation + 1 ≡ 2 ^ 64) ⊎ ((image : List �
 -- one of the state where the records are many, and it isn't put off; else none
 abbrev pub IsSnapshotFor : {S : Type 0} → (List (List ℕ) → S → Type 0) → S → ℕ → Bool → Option (List ℕ) → Type 0
 IsSnapshotFor stands s generation many None = (many ≡ false) ⊎ IsPutOff stands s generation
-IsSnapshotFor stands s generation many (Some image) = (many ≡ true) × stands (image ∷ []) s × (length image < 2 ^ 32) × (generation + 1 < 2 ^ 64)
+IsSnapshotFor stands s generation many (Some image) = (many ≡ true) × IsSnapshotOf stands s generation image
 
 -- behind the record of a step that led to this state
 abbrev pub IsSnapshotBehind : {D S : Type 0} → (List (List ℕ) → S → Type 0) → S → State D → Option (List ℕ) → Option (List ℕ) → Type 0

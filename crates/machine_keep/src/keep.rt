@@ -7,7 +7,7 @@ ghost use Rattle.host_journal.specs.Moments.{Adds, LeftIn, Shows};
 ghost use Rattle.host_journal.specs.Pair.{pair_of};
 ghost use Rattle.host_journal.specs.State.{append_calls, is_ready, stored, has_record, which, with_record, EachImage, EachSince, IsAt, IsSound, KeepsPlace, SameButRoom, WentOn, first_disk, second_disk};
 ghost use Rattle.machine_keep.specs.Calls.{TellsIn, TellsSomeIn, all_on, image_calls, record_calls, sync_calls};
-ghost use Rattle.machine_keep.specs.Course.{Answered, Breaks, IsFound, IsShortened, Keeps, Unfound, Unkept, Wanting};
+ghost use Rattle.machine_keep.specs.Course.{Answered, Breaks, IsFound, IsShortened, IsSnapshotOf, Keeps, Unfound, Unkept, Wanting};
 ghost use Rattle.machine_keep.specs.Faulted.{Broken, Unsettled};
 ghost use Rattle.machine_keep.specs.Kept.{HasFew, IsMade, IsStepMade, Snapped, StandsAround, StandsBut, StandsFor, after_step, caught, is_many};
 ghost use Rattle.machine_keep.specs.declared.fault.StepFault.TheVariants.{Disk as disk_fault, Memory as no_memory};
@@ -184,6 +184,7 @@ impl<M: Machine, D: Disk> Keep<M, D> {
         ensures broken { result ≡ Err disk_fault → Unsettled D.premise D.seen D.told D.disk_faults D.went M.state self.old self.new
             ⊎ Broken D.premise D.seen D.may_leave D.told D.disk_faults D.went M.state M.stands_for M.record_of M.answers M.follows M.after self.old self.new call }
         ensures ready { (result ≡ Err disk_fault → ⊥) → IsTrue (is_ready self.new.journal.pending) }
+        ensures unready { result ≡ Err disk_fault → is_ready self.new.journal.pending ≡ false }
         // Whatever it comes to.
         ensures fixed { M.fixed (M.state self.new.machine) ≡ M.fixed (M.state self.old.machine) }
         ensures later { (D.disk_faults (first_disk self.old.journal) ≤ D.disk_faults (first_disk self.new.journal)) × (D.disk_faults (second_disk self.old.journal) ≤ D.disk_faults (second_disk self.new.journal)) }
@@ -212,6 +213,7 @@ impl<M: Machine, D: Disk> Keep<M, D> {
         ensures told { OnOk result (TellsIn D.told self.old.journal self.new.journal (sync_calls (is_ready self.old.journal.pending))) }
         ensures unfound { OnErr result (Unfound D.told D.disk_faults D.went M.state self.old self.new) }
         ensures pending { OnErr result (self.new.journal.pending ≡ self.old.journal.pending) }
+        ensures unready { OnErr result (is_ready self.new.journal.pending ≡ false) }
         ensures read { D.premise → (D.seen (first_disk self.new.journal) ≡ D.seen (first_disk self.old.journal)) × (D.seen (second_disk self.new.journal) ≡ D.seen (second_disk self.old.journal)) }
         ensures first { D.premise → is_ready self.old.journal.pending ≡ false → IsRead D.seen D.may_leave D.moment D.left_since (first_disk self.old.journal) (first_disk self.new.journal) }
         ensures second { D.premise → is_ready self.old.journal.pending ≡ false → IsRead D.seen D.may_leave D.moment D.left_since (second_disk self.old.journal) (second_disk self.new.journal) }
@@ -244,6 +246,7 @@ impl<M: Machine, D: Disk> Keep<M, D> {
         ensures reply { IfOk result (λ reply. reply ≡ decided.reply) }
         ensures state { OnOk result (M.state self.new.machine ≡ after_step M.after (M.state self.old.machine) decided.step) }
         ensures ready { OnOk result (IsTrue (is_ready self.new.journal.pending)) }
+        ensures unready { result ≡ Err disk_fault → is_ready self.new.journal.pending ≡ false }
         ensures memory { result ≡ Err no_memory → (stored D.seen self.new.journal ≡ stored D.seen self.old.journal) × (M.state self.new.machine ≡ M.state self.old.machine) }
         ensures any_moment { D.premise → EachSince D.moment D.left_since self.old.journal self.new.journal
             (λ pair. StandsFor M.stands_for (M.state self.old.machine) pair ⊎ ((step : M.Step) × ((decided.step ≡ Some step) × StandsFor M.stands_for (M.after (M.state self.old.machine) step) pair))) }
@@ -282,6 +285,7 @@ impl<M: Machine, D: Disk> Keep<M, D> {
         requires short { length (M.record_of step) ≤ 8388608 }
         ensures state { OnOk result (M.state self.new.machine ≡ M.after (M.state self.old.machine) step) }
         ensures ready { OnOk result (IsTrue (is_ready self.new.journal.pending)) }
+        ensures unready { result ≡ Err disk_fault → is_ready self.new.journal.pending ≡ false }
         ensures memory { result ≡ Err no_memory → (stored D.seen self.new.journal ≡ stored D.seen self.old.journal) × (M.state self.new.machine ≡ M.state self.old.machine) }
         ensures any_moment { D.premise → EachSince D.moment D.left_since self.old.journal self.new.journal
             (λ pair. StandsFor M.stands_for (M.state self.old.machine) pair ⊎ StandsFor M.stands_for (M.after (M.state self.old.machine) step) pair) }
@@ -331,6 +335,7 @@ impl<M: Machine, D: Disk> Keep<M, D> {
         ensures later { (D.disk_faults (first_disk self.old.journal) ≤ D.disk_faults (first_disk self.new.journal)) × (D.disk_faults (second_disk self.old.journal) ≤ D.disk_faults (second_disk self.new.journal)) }
         ensures calm { OnOk result ((D.disk_faults (first_disk self.new.journal) ≡ D.disk_faults (first_disk self.old.journal)) × (D.disk_faults (second_disk self.new.journal) ≡ D.disk_faults (second_disk self.old.journal))) }
         ensures ready { OnOk result (IsTrue (is_ready self.new.journal.pending)) }
+        ensures unready { OnErr result (is_ready self.new.journal.pending ≡ false) }
         ensures cause { OnErr result (Rose (D.disk_faults (first_disk self.old.journal)) (D.disk_faults (first_disk self.new.journal)) ⊎ Rose (D.disk_faults (second_disk self.old.journal)) (D.disk_faults (second_disk self.new.journal))) }
         ensures went { WentOn D.went self.old.journal self.new.journal }
     {
@@ -347,10 +352,11 @@ impl<M: Machine, D: Disk> Keep<M, D> {
         ensures unsure { self.new.unsure ≡ self.old.unsure }
         ensures shortened { OnOk result ((image : Option (List ℕ)) × IsShortened M.stands_for (M.state self.old.machine) self.old.put_off self.new.put_off self.old.journal image self.new.journal
             × TellsIn D.told self.old.journal self.new.journal (image_calls self.old.journal image)) }
-        ensures told_first { OnErr result ((image : List ℕ) × (is_many (self.old.journal.end - self.old.journal.start) (self.old.journal.start - 21) ≡ true) × M.stands_for (image ∷ []) (M.state self.old.machine)
+        ensures told_first { OnErr result ((image : List ℕ) × (is_many (self.old.journal.end - self.old.journal.start) (self.old.journal.start - 21) ≡ true) × IsSnapshotOf M.stands_for (M.state self.old.machine) self.old.journal.generation image
             × TellsSomeIn D.told D.disk_faults D.went self.old.journal self.new.journal (image_calls self.old.journal (Some image))) }
         ensures few { OnOk result (HasFew self.new.journal ⊎ Rose self.old.put_off self.new.put_off) }
         ensures ready { OnOk result (IsTrue (is_ready self.new.journal.pending)) }
+        ensures unready { OnErr result (is_ready self.new.journal.pending ≡ false) }
         ensures adds { D.premise → Adds D.moment D.left_since self.old.journal self.new.journal
             (Snapped D.seen M.stands_for (M.state self.old.machine) self.old.journal) }
         ensures later { (D.disk_faults (first_disk self.old.journal) ≤ D.disk_faults (first_disk self.new.journal)) × (D.disk_faults (second_disk self.old.journal) ≤ D.disk_faults (second_disk self.new.journal)) }

@@ -1,10 +1,10 @@
 //! A snapshot of a machine, put in place of a journal's records.
-ghost use Rattle.std.specs.Prelude.{◌≡◌, ◌⊎◌, ◌+◌, ◌≤◌, ℕ, List, Err, IfOk, IsTrue, OnErr, OnOk, Some, [], ◌∷◌, length};
+ghost use Rattle.std.specs.Prelude.{◌≡◌, ◌⊎◌, ◌+◌, ◌≤◌, ℕ, List, Err, IfOk, IsTrue, OnErr, OnOk, Some, [], ◌∷◌, false, length};
 ghost use Rattle.ps_ports.specs.Causes.{Rose};
 ghost use Rattle.host_journal.specs.Moments.{Adds};
 ghost use Rattle.host_journal.specs.State.{is_ready, stored, SameButRoom, WentOn, first_disk, second_disk};
 ghost use Rattle.machine_keep.specs.Calls.{TellsIn, TellsSomeIn, image_calls};
-ghost use Rattle.machine_keep.specs.Course.{IsTurned};
+ghost use Rattle.machine_keep.specs.Course.{IsSnapshotOf, IsTurned};
 ghost use Rattle.machine_keep.specs.Kept.{Snapped, StandsFor};
 ghost use Rattle.machine_keep.specs.declared.fault.StepFault.TheVariants.{Disk as disk_fault, Memory as no_memory};
 
@@ -33,10 +33,11 @@ pub fn put_snapshot<M: Machine, D: Disk>(
         (Snapped D.seen M.stands_for (M.state machine.now) journal.old) }
     ensures empty { OnOk result (journal.new.end ≡ journal.new.start) }
     ensures ready { OnOk result (IsTrue (is_ready journal.new.pending)) }
+    ensures unready { result ≡ Err disk_fault → is_ready journal.new.pending ≡ false }
     ensures put_off { result ≡ Err no_memory → SameButRoom journal.old journal.new }
-    ensures turned { OnOk result ((image : List ℕ) × M.stands_for (image ∷ []) (M.state machine.now) × IsTurned image journal.old journal.new
+    ensures turned { OnOk result ((image : List ℕ) × IsSnapshotOf M.stands_for (M.state machine.now) journal.old.generation image × IsTurned image journal.old journal.new
         × TellsIn D.told journal.old journal.new (image_calls journal.old (Some image))) }
-    ensures told_first { result ≡ Err disk_fault → (image : List ℕ) × M.stands_for (image ∷ []) (M.state machine.now) × TellsSomeIn D.told D.disk_faults D.went journal.old journal.new (image_calls journal.old (Some image)) }
+    ensures told_first { result ≡ Err disk_fault → (image : List ℕ) × IsSnapshotOf M.stands_for (M.state machine.now) journal.old.generation image × TellsSomeIn D.told D.disk_faults D.went journal.old journal.new (image_calls journal.old (Some image)) }
     ensures later { (D.disk_faults (first_disk journal.old) ≤ D.disk_faults (first_disk journal.new)) × (D.disk_faults (second_disk journal.old) ≤ D.disk_faults (second_disk journal.new)) }
     ensures calm { (result ≡ Err disk_fault → ⊥) → (D.disk_faults (first_disk journal.new) ≡ D.disk_faults (first_disk journal.old)) × (D.disk_faults (second_disk journal.new) ≡ D.disk_faults (second_disk journal.old)) }
     ensures cause { result ≡ Err disk_fault → Rose (D.disk_faults (first_disk journal.old)) (D.disk_faults (first_disk journal.new)) ⊎ Rose (D.disk_faults (second_disk journal.old)) (D.disk_faults (second_disk journal.new)) }

@@ -1,3 +1,4 @@
+use Rattle.std.proofs.Common.{arith}
 use Rattle.machine_keep.proofs.CourseLemmas.{turned_place, turned_some, turned_told}
 use Rattle.machine_keep.proofs.KeepLemmas.{snapped_with}
 use Rattle.machine_keep.proofs.snapshot.put_snapshot.Goals as goal
@@ -16,7 +17,7 @@ pub returns-in_err-snapshot-clause-told_first : goal.returns-in_err-snapshot-cla
 returns-in_err-snapshot-clause-told_first g c _ =
     let image = c.in_ok-image.image.bytes in (
       image,
-      c.in_ok-image.ensures.stands,
+      (c.in_ok-image.ensures.stands, omega (arith, c.len.ensures, c.if-len-gt-MOST_IMAGE_BYTES.false), omega (arith, c.generation.ensures, c.generation.type_inv, c.if-generation-eq18446744073709551615.false)),
       turned_some g.D.Disk.told g.D.Disk.disk_faults g.D.Disk.went g.met.D.Disk.went_refl g.met.D.Disk.went_trans c.args.journal.now c.image_in.new.journal c.snapshot.new.self image c.image_in.ensures.same c.in_err-snapshot.ensures.told_first c.in_err-snapshot.ensures.kept.0 c.in_err-snapshot.ensures.kept.1,
     )
 
@@ -26,7 +27,7 @@ returns-clause-turned g c =
     let place = c.in_ok-snapshot.ensures.place in
     let turned = c.in_ok-snapshot.ensures.turned in (
       image,
-      c.in_ok-image.ensures.stands,
+      (c.in_ok-image.ensures.stands, omega (arith, c.len.ensures, c.if-len-gt-MOST_IMAGE_BYTES.false), omega (arith, c.generation.ensures, c.generation.type_inv, c.if-generation-eq18446744073709551615.false)),
       turned_place g.D.Disk.told c.args.journal.now c.image_in.new.journal c.snapshot.new.self image c.image_in.ensures.same turned.1 place.0 place.1 place.2,
       turned_told g.D.Disk.told c.args.journal.now c.image_in.new.journal c.snapshot.new.self image c.image_in.ensures.same c.in_ok-snapshot.ensures.told turned.0 turned.1,
     )

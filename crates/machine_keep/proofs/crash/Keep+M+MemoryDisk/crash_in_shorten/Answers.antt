@@ -31,7 +31,7 @@ returns-clause-left g c =
     IfOk-weaker c.crash_in_snapshot.result _ _
     (λ disks left. (
       Some bytes,
-      (sym c.has_many_records.ensures ∙ c.if-not-has_many_records.false, alone, short, next),
+      (sym c.has_many_records.ensures ∙ c.if-not-has_many_records.false, (alone, short, next)),
       left_turned bytes (pair_of (bytes_now disks.0.history) (bytes_now disks.1.history)) old mid (opens_head c.args.stop c.args.image) same left,
     ))
     c.crash_in_snapshot.ensures.left

@@ -1,7 +1,7 @@
-use Rattle.std.proofs.Common.{◌≡◌, ◌∙◌, ◌∷◌, IfSome, None, Some, [], ap, subst, sym}
+use Rattle.std.proofs.Common.{◌≡◌, ◌∙◌, IfSome, None, Some, ap, subst, sym}
 use Rattle.host_journal.specs.State.{SameButRoom, has_record, stored, which}
-use Rattle.machine_keep.specs.Course.{Shortens}
-use Rattle.machine_keep.proofs.CourseLemmas.{kept_early, kept_late, kept_moves, kept_short, kept_told, late_behind, many_same}
+use Rattle.machine_keep.specs.Course.{IsSnapshotOf, Shortens}
+use Rattle.machine_keep.proofs.CourseLemmas.{kept_early, kept_late, kept_moves, kept_short, kept_told, late_behind, many_same, snapshot_same}
 use Rattle.machine_keep.proofs.KeepLemmas.{made_record, made_snapshot, since_record, since_snapshot, with_step}
 use Rattle.machine_keep.proofs.keep.Keep.keep.Goals as goal
 
@@ -76,7 +76,7 @@ returns-in_err-shorten-clause-breaks g c _ =
     let met = c.in_err-shorten.ensures.told_first in
     record {
       image = Some met.0;
-      due = (sym (many_same old mid turned same payload c.put.ensures.kept c.in_ok-put.ensures.end) ∙ met.1, subst (λ s. g.M.Machine.stands_for (met.0 ∷ []) s) became met.2);
+      due = (sym (many_same old mid turned same payload c.put.ensures.kept c.in_ok-put.ensures.end) ∙ met.1, snapshot_same old mid turned same payload c.put.ensures.kept c.in_ok-put.ensures.end g.M.Machine.stands_for (g.M.Machine.after (g.M.Machine.state c.args.self.now.machine) c.args.step) met.0 (subst (λ s. IsSnapshotOf g.M.Machine.stands_for s turned.generation met.0) became met.2));
       left = (ap (λ m. g.M.Machine.state m) c.shorten.ensures.machine ∙ became, c.shorten.ensures.unsure ∙ c.in_ok-put.ensures.sure);
       told = kept_late g.D.Disk.told g.D.Disk.disk_faults g.D.Disk.went g.met.D.Disk.went_refl g.met.D.Disk.went_trans old mid same payload turned c.shorten.new.self.journal c.put.ensures.kept
           (record { told = c.in_ok-put.ensures.told; calm = c.in_ok-put.ensures.calm; went = c.put.ensures.went }) met.0 met.3;

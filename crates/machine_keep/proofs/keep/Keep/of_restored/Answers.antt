@@ -44,7 +44,7 @@ returns-clause-told g c =
     (elim c.if-is_earlier.branch [
       | then-is_earlier+in_default w ↦ let made = w.in_default.ensures.turned in
           subst (λ j. (x : Option (List ℕ)) × IsRewritten g.M.Machine.stands_for now c.args.journal x j × TellsIn g.D.Disk.told c.args.journal j (image_calls c.args.journal x)) (sym w.journal-is)
-          (Some made.0, (made.1, made.2), made.3)
+          (Some made.0, (made.1.0, made.2), made.3)
       | else-is_earlier w ↦ subst (λ j. (x : Option (List ℕ)) × IsRewritten g.M.Machine.stands_for now c.args.journal x j × TellsIn g.D.Disk.told c.args.journal j (image_calls c.args.journal x)) (sym w.journal-is)
           (None, refl, room_told g.D.Disk.told c.args.journal c.args.journal refl)
     ]))
