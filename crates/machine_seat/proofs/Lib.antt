@@ -1,0 +1,9 @@
+mod BrokenLemmas
+mod CrashedLemmas
+mod DoneLemmas
+mod MadeLemmas
+mod PlaceLemmas
+mod ScheduleLemmas
+mod SeatLemmas
+mod UnsyncedLemmas
+mod StepLemmas

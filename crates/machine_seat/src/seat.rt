@@ -1,0 +1,317 @@
+//! A machine that is kept on two disks in memory, of each of which one call may be made to fail.
+ghost use Rattle.std.specs.Prelude.{◌≡◌, ◌⊎◌, ◌+◌, ◌-◌, ◌^◌, ◌<◌, ◌≤◌, ℕ, Bool, IfOk, IsTrue, None, Ok, List, Option, [], ◌∷◌, false, length, take, true};
+ghost use Rattle.ps_disks.specs.Disk.{Only};
+ghost use Rattle.ps_disks.specs.MemoryDisk.{DiskState};
+ghost use Rattle.ps_disks.specs.Run.{IsArmed};
+ghost use Rattle.host_journal.specs.Pair.{pair_of};
+ghost use Rattle.host_journal.specs.State.{first_disk, is_ready, second_disk, stored};
+ghost use Rattle.machine_keep.specs.Faulted.{seen_on};
+ghost use Rattle.host_journal.specs.declared.reading.Counted.{Counted};
+ghost use Rattle.machine_keep.specs.Kept.{Kept, StandsEither};
+ghost use Rattle.machine_seat.specs.Crashed.{StandsAt, Stops, place_unsynced, state_unsynced};
+ghost use Rattle.machine_seat.specs.Held.{Held, armed_at, place_at, place_of, schedule, syncs, with_snapshot};
+ghost use Rattle.machine_seat.specs.IsHeld.{HasFaults, HasMade, Holds, IsHeld, held};
+ghost use Rattle.machine_seat.specs.Seated.{Broken, Done, Unsynced, flag_broken, flag_still};
+ghost use Rattle.machine_seat.specs.declared.seat.Stepped.TheVariants.{Answered, Faulted};
+
+use crate::law::{law_broken, law_done, law_unsynced};
+use host_journal::fault::{OpenFault, OpenReason};
+use machine_keep::fault::StepFault;
+use machine_keep::keep::Keep;
+use machine_keep::machine::Machine;
+use ps_disks::disk::Disk;
+use ps_disks::image::Image;
+use ps_disks::memory_disk::MemoryDisk;
+use ps_time::memory::Memory;
+use std::alloc::Global;
+use std::marker::Model;
+
+/// What a step comes to.
+#[derive(Drop)]
+pub enum Stepped<R> {
+    Answered(R),
+    /// A call of a disk failed.
+    Faulted,
+}
+
+/// Makes a step. `Memory` also stands for a snapshot that was put off, and for a call of a disk that found no memory; nothing is
+/// known of the machine then. Behind a fault no call is to fail any more.
+fn step_of<M: Machine>(
+    keep: &mut Keep<M, MemoryDisk>,
+    alloc: Global,
+    call: M::Call,
+) -> Result<Stepped<M::Reply>, Memory>
+    requires may { M.may_ask (M.fixed (M.state keep.old.machine)) call }
+    ensures done { (reply : M.Reply) → result ≡ Ok (Answered reply) → keep.old.put_off ≡ 0 → (h : Held M.State) → IsHeld M.state M.stands_for M.after keep.old h
+        → (held : Held M.State) × IsHeld M.state M.stands_for M.after keep.new held × Done M.stands_for M.record_of M.answers M.follows M.after h held call reply }
+    ensures calm { (reply : M.Reply) → result ≡ Ok (Answered reply) → (n : ℕ) → n + 2 < 2 ^ 64 → HasFaults keep.old.journal n → HasFaults keep.new.journal n }
+    ensures fixed { M.fixed (M.state keep.new.machine) ≡ M.fixed (M.state keep.old.machine) }
+    ensures made { IfOk result (λ stepped. keep.old.put_off ≡ 0 → keep.new.put_off ≡ 0) }
+    ensures faulted { result ≡ Ok Faulted → (h : Held M.State) (n : ℕ) → IsHeld M.state M.stands_for M.after keep.old h → HasFaults keep.old.journal n → n + 2 < 2 ^ 64 → h.place.snapshot + h.place.records ≤ 2 ^ 62
+        → (held : Held M.State) × IsHeld M.state M.stands_for M.after keep.new held × HasFaults keep.new.journal (n + 1)
+        × (((unsynced : Unsynced h held) × HasMade keep.old.journal keep.new.journal (take unsynced.number (schedule h)))
+        ⊎ ((broken : Broken M.stands_for M.record_of M.answers M.follows M.after h held call) × HasMade keep.old.journal keep.new.journal (take (length (syncs h.ready) + broken.number) (schedule h)))) }
+{
+    law_done::<M>();
+    law_unsynced::<M>();
+    law_broken::<M>();
+    match keep.apply(alloc, call) {
+        Ok(reply) => {
+            keep.known();
+            if keep.is_starved() || keep.put_off() != 0 {
+                drop(reply);
+                return Err(Memory);
+            }
+            Ok(Stepped::Answered(reply))
+        }
+        Err(StepFault::Memory) => Err(Memory),
+        Err(StepFault::Disk) => {
+            keep.known();
+            if keep.is_starved() || keep.put_off() != 0 {
+                return Err(Memory);
+            }
+            keep.fail_at(None);
+            Ok(Stepped::Faulted)
+        }
+    }
+}
+
+/// So many faults of disks are met at most, and so many bytes are kept.
+const MOST: u64 = 1 << 61;
+
+/// So many bytes come at most with a step that meets a fault: a record of 8 MiB, or a snapshot below 4 GiB.
+const MORE_BYTES: u64 = 1 << 33;
+
+/// A machine that is kept on two disks in memory. Where memory was wanting once, it always is.
+pub struct Seat<M: Machine> {
+    keep: Keep<M, MemoryDisk>,
+    // the disk of which something is loose: whether that is the second
+    loose: Option<bool>,
+    // no disk met more
+    faults: u64,
+    // its snapshot and records have at most so many
+    most_bytes: u64,
+    // memory was never wanting
+    is_fed: bool,
+}
+
+impl<M: Machine> Model for Seat<M> {
+    ghost use Rattle.std.specs.Prelude.{IsTrue};
+    ghost use Rattle.machine_seat.specs.IsHeld.{Holds, Seated};
+
+    ghost Value = { Seated M M.Step };
+
+    ghost view = { λ s. record { keep = s.keep; loose = s.loose } };
+
+    ghost invariant = { λ s. IsTrue s.is_fed → Holds M.fixed M.state M.stands_for M.after s.keep s.loose s.faults s.most_bytes };
+}
+
+// Written out, so that a drop elsewhere is one call.
+impl<M: Machine + Drop> Drop for Seat<M> {
+    fn drop(self) {
+        let Seat {
+            keep: _,
+            loose: _,
+            faults: _,
+            most_bytes: _,
+            is_fed: _,
+        } = self;
+    }
+}
+
+impl<M: Machine + Drop> Seat<M> {
+    /// The machine of an origin for which two disks stand (`Keep::open`), of which no call is to fail.
+    pub fn open(
+        alloc: Global,
+        origin: M::Origin,
+        first: MemoryDisk,
+        second: MemoryDisk,
+    ) -> Result<Seat<M>, OpenFault<MemoryDisk>>
+        requires armed { IsArmed first 0 × IsArmed second 0 }
+        requires faults { (first.faults ≡ 0) × (second.faults ≡ 0) }
+        ensures stands { IfOk result (λ seat. StandsEither M.stands_for M.stood_for (held M.state M.after seat).state (pair_of (⟦<MemoryDisk as Disk>⟧.seen first) (⟦<MemoryDisk as Disk>⟧.seen second))) }
+        ensures fixed { IfOk result (λ seat. M.fixed (held M.state M.after seat).state ≡ M.fixed_of origin) }
+        // Where they lie: as they did, or, where their list was in the earlier form, with a snapshot alone on the other disk.
+        ensures place { IfOk result (λ seat. (read : Counted) × (pair_of (⟦<MemoryDisk as Disk>⟧.seen first) (⟦<MemoryDisk as Disk>⟧.seen second) ≡ Ok read)
+            × (((held M.state M.after seat).place ≡ place_at read)
+            ⊎ ((image : List ℕ) × M.stands_for (image ∷ []) (held M.state M.after seat).state × ((held M.state M.after seat).place ≡ with_snapshot (place_at read) (length image))))) }
+        ensures ready { IfOk result (λ seat. ((held M.state M.after seat).ready ≡ true) × ((held M.state M.after seat).loose ≡ None)
+            × ((held M.state M.after seat).first ≡ 0) × ((held M.state M.after seat).second ≡ 0)) }
+    {
+        let keep = Keep::open(alloc, origin, first, second)?;
+        keep.known();
+        if keep.is_starved() || keep.put_off() != 0 {
+            let (first, second) = keep.into_disks();
+            return Err(OpenFault {
+                reason: OpenReason::Memory,
+                first,
+                second,
+            });
+        }
+        Ok(Seat::over(keep))
+    }
+
+    // A kept machine whose last call met no fault, over disks that met none, of which no call is to fail from then on.
+    fn over(keep: Keep<M, MemoryDisk>) -> Seat<M>
+        requires ready { IsTrue (is_ready keep.journal.pending) }
+        requires made { keep.put_off ≡ 0 }
+        requires faults { HasFaults keep.journal 0 }
+        requires fed { ((first_disk keep.journal).starved ≡ false) × ((second_disk keep.journal).starved ≡ false) }
+        requires reads { ((first_disk keep.journal).calls.failing ≡ []) × ((second_disk keep.journal).calls.failing ≡ []) }
+        ensures { held M.state M.after result
+            ≡ record { state = M.state keep.machine; place = place_of (stored seen_on keep.journal); ready = true; loose = None; first = 0; second = 0 } }
+    {
+        keep.known();
+        let mut keep = keep;
+        keep.fail_at(None);
+        let most_bytes = keep.snapshot_bytes().saturating_add(keep.record_bytes());
+        Seat {
+            keep,
+            loose: None,
+            faults: 0,
+            most_bytes,
+            is_fed: true,
+        }
+    }
+
+    /// Begins to make a step, stops at one of its calls of the disks, counted from 1 over both, and hands back the disks as a crash
+    /// there leaves them (`Keep::crash_in`). `Memory` also stands for a call of a disk that failed.
+    pub fn crash(
+        self,
+        alloc: Global,
+        call: M::Call,
+        stop: u64,
+        image: Image,
+    ) -> Result<(MemoryDisk, MemoryDisk), Memory>
+        requires { M.may_ask (M.fixed (held M.state M.after self).state) call }
+        // At a sync of a step that follows a fault.
+        ensures unsynced { (held M.state M.after self).ready ≡ false → stop ≤ 2 → IfOk result (λ disks. StandsAt M.stands_for
+            (state_unsynced (held M.state M.after self).state (held M.state M.after self).loose stop image) (place_unsynced (held M.state M.after self).place (held M.state M.after self).loose stop image)
+            (pair_of (⟦<MemoryDisk as Disk>⟧.seen disks.0) (⟦<MemoryDisk as Disk>⟧.seen disks.1))) }
+        ensures stops { ((held M.state M.after self).ready ≡ false → 2 < stop) → IfOk result (λ disks. Stops M.stands_for M.record_of M.answers M.follows M.after
+            (held M.state M.after self) call (stop - length (syncs (held M.state M.after self).ready)) image (pair_of (⟦<MemoryDisk as Disk>⟧.seen disks.0) (⟦<MemoryDisk as Disk>⟧.seen disks.1))) }
+        // No call of them is to fail, and a later crash leaves what they read.
+        ensures calm { IfOk result (λ disks. IsArmed disks.0 0 × IsArmed disks.1 0) }
+        ensures first { IfOk result (λ disks. Only (⟦<MemoryDisk as Disk>⟧.seen disks.0) (⟦<MemoryDisk as Disk>⟧.may_leave disks.0)) }
+        ensures second { IfOk result (λ disks. Only (⟦<MemoryDisk as Disk>⟧.seen disks.1) (⟦<MemoryDisk as Disk>⟧.may_leave disks.1)) }
+    {
+        if !self.is_fed {
+            drop((self, call));
+            return Err(Memory);
+        }
+        self.keep.known();
+        let is_ready = self.keep.is_ready();
+        let keep = self.into_keep();
+        if is_ready {
+            return keep.crash_in(alloc, call, stop, image);
+        }
+        keep.crash_in_again(alloc, call, stop, image)
+    }
+
+    /// The kept machine.
+    pub fn into_keep(self) -> Keep<M, MemoryDisk>
+        ensures { result ≡ self.keep }
+    {
+        let Seat {
+            keep,
+            loose: _,
+            faults: _,
+            most_bytes: _,
+            is_fed: _,
+        } = self;
+        keep
+    }
+}
+
+impl<M: Machine> Seat<M> {
+    /// The machine. After a fault it may lack a step that is kept; the next step finds that out.
+    pub fn machine(&self) -> &M
+        ensures { result.now ≡ self.now.keep.machine }
+    {
+        self.keep.machine()
+    }
+
+    /// Whether the last step met no fault.
+    pub fn is_ready(&self) -> bool
+        ensures { result ≡ (held M.state M.after self.now).ready }
+    {
+        self.keep.is_ready()
+    }
+
+    /// Lets one of the writes, cuts and syncs of each disk fail, numbered from 1 from now on, or none for 0. The first fault
+    /// disarms both.
+    pub fn fail_at(&mut self, call: u64)
+        ensures { held M.state M.after self.new ≡ armed_at (held M.state M.after self.old) call }
+    {
+        self.keep.fail_at(Some(call));
+    }
+
+    /// Makes a step, and keeps what it changes before it is answered. After a fault it first finds out what stands. `Memory` also
+    /// stands for a snapshot that was put off.
+    pub fn step(&mut self, alloc: Global, call: M::Call) -> Result<Stepped<M::Reply>, Memory>
+        requires { M.may_ask (M.fixed (held M.state M.after self.old).state) call }
+        ensures done { (reply : M.Reply) → result ≡ Ok (Answered reply) → Done M.stands_for M.record_of M.answers M.follows M.after (held M.state M.after self.old) (held M.state M.after self.new) call reply }
+        ensures faulted { result ≡ Ok Faulted → Unsynced (held M.state M.after self.old) (held M.state M.after self.new)
+            ⊎ Broken M.stands_for M.record_of M.answers M.follows M.after (held M.state M.after self.old) (held M.state M.after self.new) call }
+    {
+        if !self.is_fed || self.faults > MOST || self.most_bytes > MOST {
+            drop(call);
+            return Err(Memory);
+        }
+        self.is_fed = false;
+        let was_ready = self.keep.is_ready();
+        let before = self.keep.calls();
+        match step_of(&mut self.keep, alloc, call)? {
+            Stepped::Answered(reply) => {
+                self.keep.known();
+                self.loose = None;
+                self.most_bytes = self
+                    .keep
+                    .snapshot_bytes()
+                    .saturating_add(self.keep.record_bytes());
+                self.is_fed = true;
+                Ok(Stepped::Answered(reply))
+            }
+            Stepped::Faulted => {
+                let after = self.keep.calls();
+                let first = after.0.saturating_sub(before.0);
+                let second = after.1.saturating_sub(before.1);
+                self.loose = loose_after(was_ready, self.loose, first, second);
+                self.faults += 1;
+                self.most_bytes += MORE_BYTES;
+                self.is_fed = true;
+                Ok(Stepped::Faulted)
+            }
+        }
+    }
+}
+
+// Of which disk something is loose behind a fault, by how many calls each disk made up to it.
+fn loose_after(was_ready: bool, loose: Option<bool>, first: u64, second: u64) -> Option<bool>
+    ensures unsynced { was_ready ≡ false → first + second ≤ 2 → result ≡ flag_still (first + second) loose }
+    ensures ready { was_ready ≡ true → first + second < 2 ^ 64 → result ≡ flag_broken (first + second) second }
+    ensures again { was_ready ≡ false → 2 < first + second → first + second < 2 ^ 64 → result ≡ flag_broken (first + second - 2) (second - 1) }
+{
+    let calls = first.saturating_add(second);
+    if was_ready {
+        return loose_at(calls, second);
+    }
+    if calls > 2 {
+        return loose_at(calls - 2, second.saturating_sub(1));
+    }
+    match loose {
+        Some(false) if calls == 2 => None,
+        loose => loose,
+    }
+}
+
+// The same of the call with this number of a record and a snapshot.
+fn loose_at(number: u64, second: u64) -> Option<bool>
+    ensures { result ≡ flag_broken number second }
+{
+    match number {
+        4 => Some(second == 4),
+        11 => Some(second == 7),
+        _ => None,
+    }
+}
