@@ -1,6 +1,6 @@
 -- What a crash leaves of what is held.
-use Rattle.std.specs.Prelude.{IfOk, IfSome, Result, nat_lt, option_map}
-use Rattle.std.proofs.Common.{◌≡◌, ◌∙◌, ℕ, ◌+◌, ◌-◌, ◌<◌, ◌≤◌, ◌&&◌, Bool, true, false, not, if◌then◌else◌, List, [], ◌∷◌, ◌++◌, length, Option, None, Some, Err, Ok, ap, arith, refl, subst, sym}
+use Rattle.std.specs.Prelude.{IfOk, Result, nat_lt, option_map}
+use Rattle.std.proofs.Common.{◌≡◌, ◌∙◌, ℕ, ◌+◌, ◌-◌, ◌&&◌, Bool, true, false, not, if◌then◌else◌, List, [], ◌∷◌, ◌++◌, length, Option, None, Some, Err, Ok, ap, arith, refl, subst, sym}
 use Rattle.ps_disks.specs.History.{bytes_now, image_bytes}
 use Rattle.ps_disks.specs.Images.{bytes_stand}
 use Rattle.ps_disks.specs.MemoryDisk.{DiskState}

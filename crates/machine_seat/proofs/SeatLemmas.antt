@@ -1,7 +1,7 @@
 -- What is held once nothing is armed, and as it is told by what the machine and its disks are.
 use Rattle.std.specs.Prelude.{Result, nat_lt, option_map}
 use Rattle.std.proofs.lemmas.Bool.Decides.{nat_tests}
-use Rattle.std.proofs.Common.{◌≡◌, ◌∙◌, ℕ, ◌+◌, ◌-◌, ◌≤◌, ◌<◌, ◌^◌, ◌==◌, ◌||◌, Bool, true, false, not, if◌then◌else◌, List, length, Option, None, Some, Err, Ok, ap, arith, refl, subst, sym}
+use Rattle.std.proofs.Common.{◌≡◌, ◌∙◌, ℕ, ◌+◌, ◌≤◌, ◌<◌, ◌^◌, ◌==◌, ◌||◌, Bool, true, false, not, if◌then◌else◌, List, length, Option, None, Some, Err, Ok, ap, arith, refl, subst, sym}
 use Rattle.ps_ports.specs.Causes.{counted}
 use Rattle.ps_disks.specs.History.{image_bytes}
 use Rattle.ps_disks.specs.MemoryDisk.{DiskState, armed}
@@ -16,9 +16,9 @@ use Rattle.host_journal.specs.declared.reading.DiskPlace.{DiskPlace}
 use Rattle.machine_keep.specs.Faulted.{left_now, seen_on}
 use Rattle.machine_keep.specs.Kept.{Kept, StandsFor, caught}
 use Rattle.machine_keep.proofs.LeftLemmas.{is_image}
-use Rattle.machine_seat.specs.Held.{Held, Loose, Place, armed_at, place_at, place_of, with_record}
+use Rattle.machine_seat.specs.Held.{Held, Loose, Place, armed_at, place_of, with_record}
 use Rattle.machine_seat.specs.Seated.{flag_broken, flag_still, loose_broken, loose_still}
-use Rattle.machine_seat.specs.IsHeld.{HasFaults, HasMade, IsHeld, Leaves, LeavesLoose, held_of}
+use Rattle.machine_seat.specs.IsHeld.{HasFaults, HasMade, IsHeld, Leaves, held_of}
 
 pub or_parts : (a b : Bool) → (a || b) ≡ false → (a ≡ false) × (b ≡ false)
 or_parts true b is = absurd (cc is)

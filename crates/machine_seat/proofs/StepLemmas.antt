@@ -1,5 +1,5 @@
 -- What a seat holds behind a step.
-use Rattle.std.specs.Prelude.{IsTrue, Result, max, min, nat_lt, option_map}
+use Rattle.std.specs.Prelude.{IsTrue, Result, min, nat_lt, option_map}
 use Rattle.std.proofs.lemmas.Bool.Decides.{nat_tests}
 use Rattle.std.proofs.Common.{◌≡◌, ◌∙◌, ◌⊎◌, ⊎_elim, ℕ, zero, suc, ◌+◌, ◌-◌, ◌<◌, ◌≤◌, ◌^◌, ◌==◌, Bool, true, false, not, if◌then◌else◌, List, [], ◌∷◌, ◌++◌, length, take, Option, None, Some, IfSome, Err, Ok, ap, arith, inl, inr, refl, subst, sym}
 use Rattle.ps_disks.specs.MemoryDisk.{DiskState}

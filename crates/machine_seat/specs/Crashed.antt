@@ -1,5 +1,5 @@
 -- What a crash leaves of a step that stops at one of its calls.
-use Rattle.std.specs.Prelude.{◌≡◌, ℕ, ◌-◌, ◌≤◌, ◌<◌, ◌&&◌, nat_lt, Bool, false, not, if◌then◌else◌, List, length, Option, None, Some, IfSome, option_map, Result, Ok}
+use Rattle.std.specs.Prelude.{◌≡◌, ℕ, ◌-◌, ◌<◌, ◌&&◌, nat_lt, Bool, not, if◌then◌else◌, List, length, Option, None, Some, IfSome, option_map, Result, Ok}
 use Rattle.ps_disks.specs.declared.image.Image.{Image}
 use Rattle.ps_disks.specs.declared.image.Image.TheVariants.{New}
 use Rattle.host_journal.specs.Crash.{is_new, opens_head}
@@ -7,7 +7,7 @@ use Rattle.host_journal.specs.declared.reading.Counted.{Counted}
 use Rattle.host_journal.specs.declared.reading.DiskPlace.{DiskPlace}
 use Rattle.machine_keep.specs.Crash.{IsSnapshotFor, keeps_step}
 use Rattle.machine_keep.specs.Kept.{after_step}
-use Rattle.machine_seat.specs.Held.{Held, Loose, Place, is_many_at, place_at, syncs, with_record, with_snapshot}
+use Rattle.machine_seat.specs.Held.{Held, Loose, Place, is_many_at, place_at, with_record, with_snapshot}
 
 -- ---- before what was loose is made sure of
 -- the image of the disk of which something is loose: it reads as it does where its sync was made

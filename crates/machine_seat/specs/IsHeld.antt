@@ -1,5 +1,5 @@
 -- What a kept machine over two disks in memory holds.
-use Rattle.std.specs.Prelude.{◌≡◌, ◌+◌, ◌<◌, ◌^◌, ◌-◌, ◌≤◌, ℕ, Bool, true, false, if◌then◌else◌, List, length, Option, None, Some, option_map, Result, Ok}
+use Rattle.std.specs.Prelude.{◌≡◌, ◌+◌, ◌<◌, ◌^◌, ◌-◌, ◌≤◌, ℕ, Bool, false, if◌then◌else◌, List, length, Option, None, Some, option_map, Ok}
 use Rattle.ps_disks.specs.History.{image_bytes}
 use Rattle.ps_disks.specs.MemoryDisk.{DiskState}
 use Rattle.ps_disks.specs.Run.{IsArmed}

@@ -1,5 +1,5 @@
 -- What a step makes of what is held.
-use Rattle.std.specs.Prelude.{◌≡◌, ℕ, ◌+◌, ◌-◌, ◌==◌, ◌^◌, ◌<◌, ◌≤◌, nat_lt, Bool, true, false, not, if◌then◌else◌, List, [], ◌∷◌, length, take, Option, None, Some, IfSome, option_map}
+use Rattle.std.specs.Prelude.{◌≡◌, ℕ, ◌+◌, ◌-◌, ◌==◌, ◌<◌, ◌≤◌, nat_lt, Bool, true, false, not, if◌then◌else◌, List, length, take, Option, None, Some, IfSome, option_map}
 use Rattle.machine_keep.specs.Course.{IsSnapshotOf}
 use Rattle.machine_keep.specs.Kept.{after_step}
 use Rattle.machine_seat.specs.Held.{Held, Loose, Place, calls_of, fault_at, is_many_at, on_first, on_second, place_after, schedule, syncs, with_record, with_snapshot}

@@ -1,10 +1,9 @@
-use Rattle.std.specs.Prelude.{List, Option, ℕ}
-use Rattle.std.proofs.Common.{◌≡◌, ◌+◌, ⊎_elim, Err, Ok, ap, arith, inl, inr, refl, subst, sym}
+use Rattle.std.proofs.Common.{◌≡◌, ◌+◌, ⊎_elim, Err, ap, arith, inl, inr, subst, sym}
 use Rattle.std.specs.Prelude.{length, take}
 use Rattle.host_journal.specs.State.{first_disk, second_disk}
 use Rattle.machine_seat.specs.Held.{Held, armed_at, schedule, syncs}
-use Rattle.machine_seat.specs.IsHeld.{HasFaults, HasMade, IsHeld}
-use Rattle.machine_seat.specs.Seated.{Broken, Done, Unsynced}
+use Rattle.machine_seat.specs.IsHeld.{IsHeld}
+use Rattle.machine_seat.specs.Seated.{Done}
 use Rattle.machine_seat.proofs.SeatLemmas.{faults_armed, held_armed, made_armed, or_parts, same_faults}
 use Rattle.machine_seat.proofs.seat.step_of.Goals as goal
 

@@ -1,5 +1,5 @@
-use Rattle.std.specs.Prelude.{IfOk, List, Option, ℕ}
-use Rattle.std.proofs.Common.{◌≡◌, ◌∙◌, ◌-◌, ◌≤◌, Bool, false, true, ap, arith, if◌then◌else◌, length, nat_lt, refl, subst, sym}
+use Rattle.std.specs.Prelude.{IfOk}
+use Rattle.std.proofs.Common.{◌≡◌, ◌∙◌, ◌-◌, false, true, ap, arith, if◌then◌else◌, length, nat_lt, refl, subst, sym}
 use Rattle.std.proofs.lemmas.Result.{IfOk-weaker}
 use Rattle.ps_disks.specs.History.{bytes_now, image_bytes}
 use Rattle.ps_disks.specs.MemoryDisk.{DiskState}
@@ -9,7 +9,7 @@ use Rattle.machine_keep.specs.Crash.{LeftBehind, LeftExactly}
 use Rattle.machine_keep.specs.Faulted.{seen_on}
 use Rattle.machine_keep.specs.Kept.{Kept, caught}
 use Rattle.machine_seat.specs.Crashed.{StandsAt, Stops, place_unsynced, state_unsynced}
-use Rattle.machine_seat.specs.Held.{Held, syncs}
+use Rattle.machine_seat.specs.Held.{syncs}
 use Rattle.machine_seat.specs.IsHeld.{held, held_of}
 use Rattle.machine_seat.proofs.CrashedLemmas.{ok_both, stops_behind, stops_held, unsynced_held}
 use Rattle.machine_seat.proofs.seat.Seat.crash.Goals as goal

@@ -1,12 +1,11 @@
-use Rattle.std.specs.Prelude.{List, Result, ℕ}
-use Rattle.std.proofs.Common.{◌≡◌, ◌⊎◌, None, Ok, true, [], ◌∷◌, length, ap, subst, sym}
+use Rattle.std.specs.Prelude.{List, ℕ}
+use Rattle.std.proofs.Common.{◌≡◌, ◌⊎◌, None, Ok, true, [], ◌∷◌, length, subst, sym}
 use Rattle.ps_disks.proofs.RunLemmas.{fed_after}
 use Rattle.host_journal.specs.Pair.{pair_of}
 use Rattle.host_journal.specs.State.{first_disk, second_disk, stored}
 use Rattle.host_journal.specs.declared.reading.Counted.{Counted}
 use Rattle.machine_keep.specs.Faulted.{seen_on}
 use Rattle.machine_seat.specs.Held.{Held, place_at, place_of, with_snapshot}
-use Rattle.machine_seat.specs.IsHeld.{held}
 use Rattle.machine_seat.proofs.SeatLemmas.{or_parts}
 use Rattle.machine_seat.proofs.StepLemmas.{opened_place}
 use Rattle.machine_seat.proofs.seat.Seat.open.Goals as goal

@@ -1,5 +1,5 @@
-use Rattle.std.proofs.Common.{◌≡◌, ◌∙◌, ◌+◌, ◌-◌, None, ap, arith, refl, subst, sym}
-use Rattle.host_journal.specs.State.{first_disk, has_record, second_disk, stored}
+use Rattle.std.proofs.Common.{◌∙◌, ◌+◌, ◌-◌, None, ap, arith, refl, subst, sym}
+use Rattle.host_journal.specs.State.{has_record, stored}
 use Rattle.machine_keep.specs.Faulted.{seen_on}
 use Rattle.machine_keep.specs.Kept.{caught}
 use Rattle.machine_seat.specs.Held.{Held, armed_at}

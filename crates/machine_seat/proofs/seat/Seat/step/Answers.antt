@@ -1,6 +1,5 @@
-use Rattle.std.proofs.Common.{◌≡◌, ◌∙◌, ◌+◌, ◌⊎◌, None, Ok, Some, ap, arith, inl, inr, refl, subst, sym}
-use Rattle.machine_seat.specs.Held.{Held}
-use Rattle.machine_seat.specs.IsHeld.{Holds, IsHeld, held, held_of}
+use Rattle.std.proofs.Common.{◌∙◌, ◌⊎◌, None, Ok, ap, arith, subst, sym}
+use Rattle.machine_seat.specs.IsHeld.{held, held_of}
 use Rattle.machine_seat.specs.Seated.{Broken, Done, Unsynced}
 use Rattle.machine_seat.proofs.StepLemmas.{Tells, answered_done, answered_holds, answered_ready, faulted_holds, faulted_so}
 use Rattle.machine_seat.proofs.seat.Seat.step.Goals as goal
