@@ -17,7 +17,7 @@ use Rattle.machine_keep.specs.Faulted.{left_now, seen_on}
 use Rattle.machine_keep.specs.Kept.{Kept, StandsFor, caught}
 use Rattle.machine_keep.proofs.LeftLemmas.{is_image}
 use Rattle.machine_seat.specs.Held.{Held, Loose, Place, armed_at, place_of, with_record}
-use Rattle.machine_seat.specs.Seated.{flag_broken, flag_still, loose_broken, loose_still}
+use Rattle.machine_seat.specs.Seated.{loose_disk_broken, loose_disk_still, loose_broken, loose_still}
 use Rattle.machine_seat.specs.IsHeld.{HasFaults, HasMade, IsHeld, Leaves, held_of}
 
 pub or_parts : (a b : Bool) → (a || b) ≡ false → (a ≡ false) × (b ≡ false)
@@ -120,7 +120,7 @@ module _ {M S T : Type 0} (state : M → S) (stands : List (List ℕ) → S → 
       (ap (option_map loose_now) (sym same) ∙ is_loose is.read h.loose is.left) is.first.armed is.second.armed
 
 -- ---- the disk of which something is loose
-pub flag_stays : {S : Type 0} (number : ℕ) (o : Option (Loose S)) → option_map (λ l. l.second) (loose_still number o) ≡ flag_still number (option_map (λ l. l.second) o)
+pub flag_stays : {S : Type 0} (number : ℕ) (o : Option (Loose S)) → option_map (λ l. l.second) (loose_still number o) ≡ loose_disk_still number (option_map (λ l. l.second) o)
 flag_stays number None = refl
 flag_stays {S} number (Some loose) = by (nat_lt 1 number) loose.second refl
   where
@@ -131,7 +131,7 @@ flag_stays {S} number (Some loose) = by (nat_lt 1 number) loose.second refl
 
 -- of so many calls on the second disk of a record and a snapshot, behind the syncs
 pub flag_breaks : {S : Type 0} (number : ℕ) (p : Place) (before later : S) (bytes made : ℕ) → (number ≡ 4 → (made == 4) ≡ p.second) → (number ≡ 11 → (made == 7) ≡ not p.second)
-    → option_map (λ l. l.second) (loose_broken number p before later bytes) ≡ flag_broken number made
+    → option_map (λ l. l.second) (loose_broken number p before later bytes) ≡ loose_disk_broken number made
 flag_breaks {S} number p before later bytes made four_is seven_is = by (number == 4) (number == 11) (λ t. four_is (nat_eq_is number 4 t)) (λ t. seven_is (nat_eq_is number 11 t))
   where
     nat_eq_is : (a b : ℕ) → (a == b) ≡ true → a ≡ b

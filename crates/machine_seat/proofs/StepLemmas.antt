@@ -12,7 +12,7 @@ use Rattle.machine_keep.specs.Faulted.{seen_on}
 use Rattle.machine_keep.specs.Kept.{Kept, after_step}
 use Rattle.machine_seat.specs.Held.{Held, Loose, four, on_first, on_second, place_at, place_of, schedule, seven, syncs, with_record, with_snapshot}
 use Rattle.machine_seat.specs.IsHeld.{HasFaults, HasMade, Holds, IsHeld, held_of}
-use Rattle.machine_seat.specs.Seated.{Broken, Done, Unsynced, bytes_in, flag_broken, flag_still, place_broken}
+use Rattle.machine_seat.specs.Seated.{Broken, Done, Unsynced, bytes_in, loose_disk_broken, loose_disk_still, place_broken}
 use Rattle.machine_seat.proofs.PlaceLemmas.{pair_in_order, place_moved}
 use Rattle.machine_seat.proofs.SeatLemmas.{flag_breaks, flag_stays, is_view}
 
@@ -118,28 +118,28 @@ module _ {M S C R T F : Type 0} (fixed : S → F) (state : M → S) (stands : Li
   pub record Tells (flag_now : Option Bool) (first second : ℕ) : Type 0 where
     pub first_made : length (first_disk new.journal).history.log - length (first_disk old.journal).history.log ≡ first
     pub second_made : length (second_disk new.journal).history.log - length (second_disk old.journal).history.log ≡ second
-    pub unsynced : is_ready old.journal.pending ≡ false → first + second ≤ 2 → flag_now ≡ flag_still (first + second) flag
-    pub ready : is_ready old.journal.pending ≡ true → first + second < 2 ^ 64 → flag_now ≡ flag_broken (first + second) second
-    pub again : is_ready old.journal.pending ≡ false → 2 < first + second → first + second < 2 ^ 64 → flag_now ≡ flag_broken (first + second - 2) (second - 1)
+    pub unsynced : is_ready old.journal.pending ≡ false → first + second ≤ 2 → flag_now ≡ loose_disk_still (first + second) flag
+    pub ready : is_ready old.journal.pending ≡ true → first + second < 2 ^ 64 → flag_now ≡ loose_disk_broken (first + second) second
+    pub again : is_ready old.journal.pending ≡ false → 2 < first + second → first + second < 2 ^ 64 → flag_now ≡ loose_disk_broken (first + second - 2) (second - 1)
 
   module _ (flag_now : Option Bool) (first second : ℕ) (tells : Tells flag_now first second) where
-    unsynced_flag : (ready : Bool) → is_ready old.journal.pending ≡ ready → ready ≡ false → (number : ℕ) → 1 ≤ number → number ≤ 2 → HasMade old.journal new.journal (take number (syncs ready ++ behind_syncs h.place.second)) → flag_now ≡ flag_still number flag
+    unsynced_flag : (ready : Bool) → is_ready old.journal.pending ≡ ready → ready ≡ false → (number : ℕ) → 1 ≤ number → number ≤ 2 → HasMade old.journal new.journal (take number (syncs ready ++ behind_syncs h.place.second)) → flag_now ≡ loose_disk_still number flag
     unsynced_flag true is never number least most made = absurd (cc never)
     unsynced_flag false is never zero least most made = absurd (omega (arith, least))
     unsynced_flag false is never (suc zero) least most made =
         let one : first ≡ 1 = omega (arith, made.first, tells.first_made) in
         let two : second ≡ 0 = omega (arith, made.second, tells.second_made) in
         let sum : first + second ≡ 1 = omega (arith, one, two) in
-        tells.unsynced is (omega (arith, sum)) ∙ ap (λ (n : ℕ). flag_still n flag) sum
+        tells.unsynced is (omega (arith, sum)) ∙ ap (λ (n : ℕ). loose_disk_still n flag) sum
     unsynced_flag false is never (suc (suc zero)) least most made =
         let one : first ≡ 1 = omega (arith, made.first, tells.first_made) in
         let two : second ≡ 1 = omega (arith, made.second, tells.second_made) in
         let sum : first + second ≡ 2 = omega (arith, one, two) in
-        tells.unsynced is (omega (arith, sum)) ∙ ap (λ (n : ℕ). flag_still n flag) sum
+        tells.unsynced is (omega (arith, sum)) ∙ ap (λ (n : ℕ). loose_disk_still n flag) sum
     unsynced_flag false is never (suc (suc (suc n))) least most made = absurd (omega (arith, most))
 
     broken_flag : (ready : Bool) → is_ready old.journal.pending ≡ ready → (number : ℕ) → 1 ≤ number → number ≤ 11 → HasMade old.journal new.journal (take (length (syncs ready) + number) (syncs ready ++ behind_syncs h.place.second))
-        → flag_now ≡ flag_broken number (on_second (take number (behind_syncs h.place.second)))
+        → flag_now ≡ loose_disk_broken number (on_second (take number (behind_syncs h.place.second)))
     broken_flag true is number least most made =
         let calls = take number (behind_syncs h.place.second) in
         let all : length calls ≡ number = taken_all number (behind_syncs h.place.second) (omega (arith, most, length_behind h.place.second)) in
@@ -149,7 +149,7 @@ module _ {M S C R T F : Type 0} (fixed : S → F) (state : M → S) (stands : Li
         let twos : on_second (take (length (syncs true) + number) (syncs true ++ behind_syncs h.place.second)) ≡ on_second calls = ap (λ (n : ℕ). on_second (take n (behind_syncs h.place.second))) plain in
         let two : second ≡ on_second calls = omega (arith, made.second, tells.second_made, twos) in
         let sum : first + second ≡ number = omega (arith, made.first, tells.first_made, made.second, tells.second_made, both, all, ones, twos) in
-        tells.ready is (omega (arith, sum, most)) ∙ (ap (λ (n : ℕ). flag_broken n second) sum ∙ ap (flag_broken number) two)
+        tells.ready is (omega (arith, sum, most)) ∙ (ap (λ (n : ℕ). loose_disk_broken n second) sum ∙ ap (loose_disk_broken number) two)
     broken_flag false is number least most made =
         let calls = take number (behind_syncs h.place.second) in
         let all : length calls ≡ number = taken_all number (behind_syncs h.place.second) (omega (arith, most, length_behind h.place.second)) in
@@ -160,7 +160,7 @@ module _ {M S C R T F : Type 0} (fixed : S → F) (state : M → S) (stands : Li
         let two : second - 1 ≡ on_second calls = omega (arith, made.second, tells.second_made, twos) in
         let sum : first + second ≡ number + 2 = omega (arith, made.first, tells.first_made, made.second, tells.second_made, both, all, ones, twos) in
         let few : first + second - 2 ≡ number = omega (arith, sum) in
-        tells.again is (omega (arith, sum, least)) (omega (arith, sum, most)) ∙ (ap (λ (n : ℕ). flag_broken n (second - 1)) few ∙ ap (flag_broken number) two)
+        tells.again is (omega (arith, sum, least)) (omega (arith, sum, most)) ∙ (ap (λ (n : ℕ). loose_disk_broken n (second - 1)) few ∙ ap (loose_disk_broken number) two)
 
     fourth_is : (number : ℕ) → number ≡ 4 → (on_second (take number (behind_syncs h.place.second)) == 4) ≡ h.place.second
     fourth_is number is = subst (λ (n : ℕ). (on_second (take n (behind_syncs h.place.second)) == 4) ≡ h.place.second) (sym is) (fourth h.place.second)
@@ -171,7 +171,7 @@ module _ {M S C R T F : Type 0} (fixed : S → F) (state : M → S) (stands : Li
     module _ (call : C) (x : Held S) (is : IsHeld state stands after new x) where
       flag_so : Fault x call → option_map (λ l. l.second) x.loose ≡ flag_now
       flag_so = ⊎_elim
-          (λ u. ap (λ (y : Held S). option_map (λ l. l.second) y.loose) u.0.became ∙ (flag_stays u.0.number h.loose ∙ (ap (flag_still u.0.number) own_flag ∙ sym (unsynced_flag h.ready refl u.0.unready u.0.number u.0.least u.0.most u.1))))
+          (λ u. ap (λ (y : Held S). option_map (λ l. l.second) y.loose) u.0.became ∙ (flag_stays u.0.number h.loose ∙ (ap (loose_disk_still u.0.number) own_flag ∙ sym (unsynced_flag h.ready refl u.0.unready u.0.number u.0.least u.0.most u.1))))
           (λ b. ap (λ (y : Held S). option_map (λ l. l.second) y.loose) b.0.became ∙ (flag_breaks b.0.number h.place h.state (after h.state b.0.step) (length (bytes b.0.step)) (on_second (take b.0.number (behind_syncs h.place.second))) (fourth_is b.0.number) (eleventh_is b.0.number)
           ∙ sym (broken_flag h.ready refl b.0.number b.0.least b.0.most b.1)))
 

@@ -63,11 +63,11 @@ held_of state after k loose = record {
 }
 
 -- a kept machine, and the disk of which something is loose: whether that is the second
-pub record Seated (M T : Type 0) : Type 0 where
+pub record SeatState (M T : Type 0) : Type 0 where
   pub keep : Kept M DiskState T
   pub loose : Option Bool
 
-abbrev pub held : {M S T : Type 0} → (M → S) → (S → T → S) → Seated M T → Held S
+abbrev pub held : {M S T : Type 0} → (M → S) → (S → T → S) → SeatState M T → Held S
 held state after s = held_of state after s.keep s.loose
 
 -- Of a machine that is held: its disks met at most so many faults, no snapshot was put off, and so many bytes are its snapshot and its records at most.

@@ -35,13 +35,13 @@ loose_broken number p before later record_bytes =
     else (if number == 11 then Some (record { second = not p.second; state = later; place = with_record p record_bytes }) else None)
 
 -- the disk of what is loose then
-abbrev pub flag_still : ℕ → Option Bool → Option Bool
-flag_still number None = None
-flag_still number (Some second) = if nat_lt 1 number then (if second then Some true else None) else Some second
+abbrev pub loose_disk_still : ℕ → Option Bool → Option Bool
+loose_disk_still number None = None
+loose_disk_still number (Some second) = if nat_lt 1 number then (if second then Some true else None) else Some second
 
 -- by how many calls of the second disk were among so many of a record and a snapshot
-abbrev pub flag_broken : ℕ → ℕ → Option Bool
-flag_broken number on_second = if number == 4 then Some (on_second == 4) else (if number == 11 then Some (on_second == 7) else None)
+abbrev pub loose_disk_broken : ℕ → ℕ → Option Bool
+loose_disk_broken number on_second = if number == 4 then Some (on_second == 4) else (if number == 11 then Some (on_second == 7) else None)
 
 -- how many bytes a snapshot has
 abbrev pub bytes_in : Option (List ℕ) → ℕ

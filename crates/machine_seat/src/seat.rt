@@ -1,5 +1,5 @@
 //! A machine that is kept on two disks in memory, of each of which one call may be made to fail.
-ghost use Rattle.std.specs.Prelude.{◌≡◌, ◌⊎◌, ◌+◌, ◌-◌, ◌^◌, ◌<◌, ◌≤◌, ℕ, Bool, IfOk, IsTrue, None, Ok, List, Option, [], ◌∷◌, false, length, take, true};
+ghost use Rattle.std.specs.Prelude.{◌≡◌, ◌⊎◌, ◌+◌, ◌-◌, ◌^◌, ◌<◌, ◌≤◌, ℕ, Bool, IfErr, IfOk, IsTrue, None, Ok, List, Option, [], ◌∷◌, false, length, take, true};
 ghost use Rattle.ps_disks.specs.Disk.{Only};
 ghost use Rattle.ps_disks.specs.MemoryDisk.{DiskState};
 ghost use Rattle.ps_disks.specs.Run.{IsArmed};
@@ -8,10 +8,12 @@ ghost use Rattle.host_journal.specs.State.{first_disk, is_ready, second_disk, st
 ghost use Rattle.machine_keep.specs.Faulted.{seen_on};
 ghost use Rattle.host_journal.specs.declared.reading.Counted.{Counted};
 ghost use Rattle.machine_keep.specs.Kept.{Kept, StandsEither};
+ghost use Rattle.machine_keep.specs.Refusal.{IsRefusedAt, StandsOf};
+ghost use Rattle.ps_ports.specs.Causes.{Rose, counted};
 ghost use Rattle.machine_seat.specs.Crashed.{StandsAt, Stops, place_unsynced, state_unsynced};
 ghost use Rattle.machine_seat.specs.Held.{Held, armed_at, place_at, place_of, schedule, syncs, with_snapshot};
 ghost use Rattle.machine_seat.specs.IsHeld.{HasFaults, HasMade, Holds, IsHeld, held};
-ghost use Rattle.machine_seat.specs.Seated.{Broken, Done, Unsynced, flag_broken, flag_still};
+ghost use Rattle.machine_seat.specs.Seated.{Broken, Done, Unsynced, loose_disk_broken, loose_disk_still};
 ghost use Rattle.machine_seat.specs.declared.seat.Stepped.TheVariants.{Answered, Faulted};
 
 use crate::law::{law_broken, law_done, law_unsynced};
@@ -97,9 +99,9 @@ pub struct Seat<M: Machine> {
 
 impl<M: Machine> Model for Seat<M> {
     ghost use Rattle.std.specs.Prelude.{IsTrue};
-    ghost use Rattle.machine_seat.specs.IsHeld.{Holds, Seated};
+    ghost use Rattle.machine_seat.specs.IsHeld.{Holds, SeatState};
 
-    ghost Value = { Seated M M.Step };
+    ghost Value = { SeatState M M.Step };
 
     ghost view = { λ s. record { keep = s.keep; loose = s.loose } };
 
@@ -120,7 +122,8 @@ impl<M: Machine + Drop> Drop for Seat<M> {
 }
 
 impl<M: Machine + Drop> Seat<M> {
-    /// The machine of an origin for which two disks stand (`Keep::open`), of which no call is to fail.
+    /// The machine of an origin for which two disks stand (`Keep::open`), of which no call is to fail. `OpenReason::Memory` also
+    /// stands for a snapshot that was put off, and for a call of a disk that found no memory.
     pub fn open(
         alloc: Global,
         origin: M::Origin,
@@ -131,6 +134,12 @@ impl<M: Machine + Drop> Seat<M> {
         requires faults { (first.faults ≡ 0) × (second.faults ≡ 0) }
         ensures stands { IfOk result (λ seat. StandsEither M.stands_for M.stood_for (held M.state M.after seat).state (pair_of (⟦<MemoryDisk as Disk>⟧.seen first) (⟦<MemoryDisk as Disk>⟧.seen second))) }
         ensures fixed { IfOk result (λ seat. M.fixed (held M.state M.after seat).state ≡ M.fixed_of origin) }
+        // No journal of that origin, in the words of `Keep::open`, and a fault only where a count of the disks rose.
+        ensures nothing { IfErr result (λ f. (at : _) → f.reason ≡ OpenReason.NotAJournal at → (s : M.State) → M.fixed s ≡ M.fixed_of origin
+            → StandsEither M.stands_for M.stood_for s (pair_of (⟦<MemoryDisk as Disk>⟧.seen first) (⟦<MemoryDisk as Disk>⟧.seen second)) → ⊥) }
+        ensures refused { IfErr result (λ f. (at : _) → f.reason ≡ OpenReason.NotAJournal at
+            → IsRefusedAt (StandsOf M.fixed (M.fixed_of origin) M.stands_for M.stood_for) (pair_of (⟦<MemoryDisk as Disk>⟧.seen first) (⟦<MemoryDisk as Disk>⟧.seen second)) at) }
+        ensures fault { IfErr result (λ f. f.reason ≡ OpenReason.DiskFault → Rose (counted first.faults) (counted f.first.faults) ⊎ Rose (counted second.faults) (counted f.second.faults)) }
         // Where they lie: as they did, or, where their list was in the earlier form, with a snapshot alone on the other disk.
         ensures place { IfOk result (λ seat. (read : Counted) × (pair_of (⟦<MemoryDisk as Disk>⟧.seen first) (⟦<MemoryDisk as Disk>⟧.seen second) ≡ Ok read)
             × (((held M.state M.after seat).place ≡ place_at read)
@@ -138,7 +147,10 @@ impl<M: Machine + Drop> Seat<M> {
         ensures ready { IfOk result (λ seat. ((held M.state M.after seat).ready ≡ true) × ((held M.state M.after seat).loose ≡ None)
             × ((held M.state M.after seat).first ≡ 0) × ((held M.state M.after seat).second ≡ 0)) }
     {
-        let keep = Keep::open(alloc, origin, first, second)?;
+        let keep = match Keep::open(alloc, origin, first, second) {
+            Ok(keep) => keep,
+            Err(fault) => return Err(fault),
+        };
         keep.known();
         if keep.is_starved() || keep.put_off() != 0 {
             let (first, second) = keep.into_disks();
@@ -247,7 +259,7 @@ impl<M: Machine> Seat<M> {
     }
 
     /// Makes a step, and keeps what it changes before it is answered. After a fault it first finds out what stands. `Memory` also
-    /// stands for a snapshot that was put off.
+    /// stands for a snapshot that was put off, for a call of a disk that found no memory, and for more than 2^61 faults or bytes.
     pub fn step(&mut self, alloc: Global, call: M::Call) -> Result<Stepped<M::Reply>, Memory>
         requires { M.may_ask (M.fixed (held M.state M.after self.old).state) call }
         ensures done { (reply : M.Reply) → result ≡ Ok (Answered reply) → Done M.stands_for M.record_of M.answers M.follows M.after (held M.state M.after self.old) (held M.state M.after self.new) call reply }
@@ -288,9 +300,9 @@ impl<M: Machine> Seat<M> {
 
 // Of which disk something is loose behind a fault, by how many calls each disk made up to it.
 fn loose_after(was_ready: bool, loose: Option<bool>, first: u64, second: u64) -> Option<bool>
-    ensures unsynced { was_ready ≡ false → first + second ≤ 2 → result ≡ flag_still (first + second) loose }
-    ensures ready { was_ready ≡ true → first + second < 2 ^ 64 → result ≡ flag_broken (first + second) second }
-    ensures again { was_ready ≡ false → 2 < first + second → first + second < 2 ^ 64 → result ≡ flag_broken (first + second - 2) (second - 1) }
+    ensures unsynced { was_ready ≡ false → first + second ≤ 2 → result ≡ loose_disk_still (first + second) loose }
+    ensures ready { was_ready ≡ true → first + second < 2 ^ 64 → result ≡ loose_disk_broken (first + second) second }
+    ensures again { was_ready ≡ false → 2 < first + second → first + second < 2 ^ 64 → result ≡ loose_disk_broken (first + second - 2) (second - 1) }
 {
     let calls = first.saturating_add(second);
     if was_ready {
@@ -307,7 +319,7 @@ fn loose_after(was_ready: bool, loose: Option<bool>, first: u64, second: u64) ->
 
 // The same of the call with this number of a record and a snapshot.
 fn loose_at(number: u64, second: u64) -> Option<bool>
-    ensures { result ≡ flag_broken number second }
+    ensures { result ≡ loose_disk_broken number second }
 {
     match number {
         4 => Some(second == 4),
