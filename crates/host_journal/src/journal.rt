@@ -218,6 +218,13 @@ impl<D: Disk> Journal<D> {
         self.generation
     }
 
+    /// Whether the second disk counts.
+    pub fn is_second(&self) -> bool
+        ensures { result ≡ self.now.second }
+    {
+        self.second
+    }
+
     /// Whether no call failed, or a `reload` was `Ok` since.
     pub fn is_ready(&self) -> bool
         ensures { result ≡ is_ready self.now.pending }
@@ -386,6 +393,21 @@ impl Journal<MemoryDisk> {
             other || counting
         } else {
             counting || other
+        }
+    }
+
+    /// How many writes, cuts and syncs of each disk come up to the one that is to fail, that one too, the first disk first;
+    /// 0 where none is.
+    pub fn until_faults(&self) -> (u64, u64)
+        ensures first { result.0 ≡ (first_disk self.now).until_fault }
+        ensures second { result.1 ≡ (second_disk self.now).until_fault }
+    {
+        let counting = self.counting.until_fault();
+        let other = self.other.until_fault();
+        if self.second {
+            (other, counting)
+        } else {
+            (counting, other)
         }
     }
 

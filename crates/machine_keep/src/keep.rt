@@ -107,6 +107,13 @@ impl<M: Machine, D: Disk> Keep<M, D> {
         self.journal.generation()
     }
 
+    /// Whether the second disk counts.
+    pub fn is_second(&self) -> bool
+        ensures { result ≡ self.now.journal.second }
+    {
+        self.journal.is_second()
+    }
+
     /// The bytes of the records behind the snapshot: for each a length of four, the record and a gate.
     pub fn record_bytes(&self) -> u64
         ensures { result ≡ self.now.journal.end - self.now.journal.start }
@@ -436,6 +443,15 @@ impl<M: Machine> Keep<M, MemoryDisk> {
         ensures { result ≡ (first_disk self.now.journal).starved || (second_disk self.now.journal).starved }
     {
         self.journal.is_starved()
+    }
+
+    /// How many writes, cuts and syncs of each disk come up to the one that is to fail, that one too, the first disk first;
+    /// 0 where none is.
+    pub fn until_faults(&self) -> (u64, u64)
+        ensures first { result.0 ≡ (first_disk self.now.journal).until_fault }
+        ensures second { result.1 ≡ (second_disk self.now.journal).until_fault }
+    {
+        self.journal.until_faults()
     }
 
     /// How many writes, cuts and syncs were made on each disk, the first one first.

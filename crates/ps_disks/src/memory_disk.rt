@@ -91,6 +91,13 @@ impl MemoryDisk {
         self.faults.count()
     }
 
+    /// How many writes, cuts and syncs come up to the one that is to fail, that one too; 0 where none is.
+    pub fn until_fault(&self) -> u64
+        ensures { result ≡ self.now.until_fault }
+    {
+        self.until_fault
+    }
+
     /// Whether a call ever found no memory. From then on the disk doesn't tell its calls.
     pub fn starved(&self) -> bool
         ensures { result ≡ self.now.starved }
