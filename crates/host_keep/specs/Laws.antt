@@ -47,6 +47,13 @@ follows_with c s step next follows = record {
   code = follows.code;
 }
 
+-- it is the configuration then, and the step leaves the same
+pub fixed_with : (c : Config) (s : Standing) → (with_config c s).config ≡ c
+fixed_with c s = refl
+
+pub after_with : (c : Config) (s : Standing) (step : HostStep) → after (with_config c s) step ≡ with_config c (after s step)
+after_with c s step = refl
+
 -- ---- the book after a call is that of the host's definition
 nothing_after : (b : Book) (c : Changes) → c.list ≡ [] → book_after b c ≡ b
 nothing_after b c is = go c.list is

@@ -119,7 +119,7 @@ fn step_of(alloc: Global, book: &mut HostBook, kept: Changes) -> Result<Option<H
 impl Machine for Host {
     ghost use Rattle.std.specs.Prelude.{◌≤◌, length};
     ghost use Rattle.host_keep.specs.Standing.{Answers, Follows, IsAsked, IsNext, Standing, StandsNow, StoodOnce, after, with_config};
-    ghost use Rattle.host_keep.specs.Laws.{after_fixed, follows_with, stands_more, stands_with};
+    ghost use Rattle.host_keep.specs.Laws.{after_fixed, after_with, fixed_with, follows_with, stands_more, stands_with};
     ghost use Rattle.host_model.specs.declared.config.Config.{Config as ConfigSeen};
 
     type Origin = Config;
@@ -233,6 +233,10 @@ impl Machine for Host {
     ghost stands_set = { stands_with };
 
     ghost follows_set = { follows_with };
+
+    ghost fixed_set = { fixed_with };
+
+    ghost after_set = { after_with };
 }
 
 /// A row of a snapshot has about so many bytes.

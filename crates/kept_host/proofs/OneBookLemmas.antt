@@ -33,7 +33,7 @@ second_begins bytes b is = is ∙ append_assoc (number_64.code the_first) (numbe
 first_begins : (bytes : List ℕ) (b : Book) → bytes ≡ first_book.code b → bytes ≡ number_64.code b.moment ++ (list task_row & list row).code (b.tasks, b.rows)
 first_begins bytes b is = is
 
--- it isn't the one of no bytes
+-- neither is a snapshot of no bytes
 no_bytes : (rest : List ℕ) → [] ≡ number_64.code the_first ++ rest → ⊥
 no_bytes rest is =
     let none : None ≡ Some (the_first, rest) = ap number_64.read is ∙ number_64_is.again the_first rest (omega arith) in
@@ -42,7 +42,7 @@ no_bytes rest is =
 other_moment : (m : ℕ) (x y : List ℕ) → m < 2 ^ 64 → number_64.code the_first ++ x ≡ number_64.code m ++ y → the_first ≡ m
 other_moment m x y fits is = (one_code number_64 number_64_is the_first m x y (omega arith) fits is).0
 
-apart : (self : ℕ) (bytes : List ℕ) (a b : Book) → IsSnapshot true bytes a → IsSnapshot false bytes b → Lawful self b → ⊥
+pub apart : (self : ℕ) (bytes : List ℕ) (a b : Book) → IsSnapshot true bytes a → IsSnapshot false bytes b → Lawful self b → ⊥
 apart self [] a b second first lawful = no_bytes (behind_first a) (second_begins [] a second.1)
 apart self (n ∷ bytes) a b second first lawful =
     let moment : the_first ≡ b.moment = other_moment b.moment (behind_first a) ((list task_row & list row).code (b.tasks, b.rows)) first.0.parts.0 (sym (second_begins (n ∷ bytes) a second.1) ∙ first_begins (n ∷ bytes) b first.1) in

@@ -11,8 +11,8 @@ use Rattle.host_journal.specs.declared.pending.Pending.TheVariants.{Nothing, Uno
 use Rattle.host_journal.specs.declared.reading.Counted.{Counted}
 use Rattle.host_journal.specs.declared.reading.DiskPlace.{DiskPlace}
 use Rattle.machine_keep.specs.Calls.{MakesPair, PairCalls, TellsIn, TellsPair, TellsSome, TellsSomeIn, all_on, image_calls, kept_calls, record_calls, sync_calls}
-use Rattle.machine_keep.specs.Course.{IsFound, IsRead, IsRewritten, IsShortened, IsSnapshotOf, IsTurned, Moves, Opened, Shortens, Unwritten, is_many_with}
-use Rattle.machine_keep.specs.Kept.{Kept, is_many}
+use Rattle.machine_keep.specs.Course.{IsFound, IsInForm, IsRead, IsRewritten, IsShortened, IsSnapshotOf, IsTurned, Moves, Opened, Shortens, Unwritten, is_many_with}
+use Rattle.machine_keep.specs.Kept.{Kept, StandsFor, is_many}
 use Rattle.machine_keep.proofs.CallLemmas.{some_early, some_later, some_on, some_other, tells_both, tells_counting, tells_none, tells_other}
 
 -- ---- the calls of the journal
@@ -253,3 +253,24 @@ refused_so {D} told first second first_mid second_mid first_now second_now synce
   subst (λ (d : D). TellsAll (told first) (told d) (Sync ∷ [])) (sym same.0) synced.0,
   subst (λ (d : D). TellsAll (told second) (told d) (Sync ∷ [])) (sym same.1) synced.1,
 )
+
+-- ---- the form of a list, by the disk that counts once its machine is opened
+not_other : (b : Bool) → b ≡ not b → ⊥
+not_other false is = cc is
+not_other true is = cc is
+
+abbrev second_in : Result Counted DiskPlace → Bool
+second_in (Ok k) = k.second
+second_in (Err place) = false
+
+module _ {S : Type 0} (stands stood : List (List ℕ) → S → Type 0) (s : S) where
+  pub form_turned : (before now : Bool) (pair : Result Counted DiskPlace) → now ≡ not before → StandsFor stood s pair → IsInForm stands stood s before now pair
+  form_turned before now pair turned it = (λ same. absurd (not_other before (sym same ∙ turned)), λ other. it)
+
+  pub form_same : (before : Bool) (pair : Result Counted DiskPlace) → StandsFor stands s pair → IsInForm stands stood s before before pair
+  form_same before pair it = (λ same. it, λ other. absurd (not_other before other))
+
+  -- as the disks are read
+  pub form_read : {D : Type 0} (journal : State D) (list : List (List ℕ)) (pair : Result Counted DiskPlace) → pair ≡ opened_as journal list → (now : Bool) → IsInForm stands stood s journal.second now pair
+      → (read : Counted) → pair ≡ Ok read → IsInForm stands stood s read.second now pair
+  form_read journal list pair is now form read is_read = subst (λ (b : Bool). IsInForm stands stood s b now pair) (ap second_in (sym is ∙ is_read)) form

@@ -1,12 +1,14 @@
 -- The course of a call of a kept machine: what it finds, makes and leaves, and what its disks tell.
-use Rattle.std.specs.Prelude.{◌≡◌, ℕ, ◌+◌, ◌-◌, ◌^◌, ◌<◌, ◌≤◌, Bool, true, false, not, if◌then◌else◌, List, [], ◌∷◌, ◌++◌, length, Option, None, Some, IfSome, option_map}
+use Rattle.std.specs.Prelude.{◌≡◌, ℕ, ◌+◌, ◌-◌, ◌^◌, ◌<◌, ◌≤◌, Bool, true, false, not, if◌then◌else◌, List, [], ◌∷◌, ◌++◌, length, Option, None, Some, IfSome, option_map, Result}
 use Rattle.ps_ports.specs.Causes.{raised}
 use Rattle.ps_disks.specs.declared.disk.DiskCall.{DiskCall}
 use Rattle.host_journal.specs.Format.{stands as is_standing}
 use Rattle.host_journal.specs.Pair.{pair_of}
 use Rattle.host_journal.specs.State.{State, IsAt, SameButRoom, first_disk, has_record, is_ready, second_disk, stored}
+use Rattle.host_journal.specs.declared.reading.Counted.{Counted}
+use Rattle.host_journal.specs.declared.reading.DiskPlace.{DiskPlace}
 use Rattle.machine_keep.specs.Calls.{TellsIn, TellsPair, TellsSome, TellsSomeIn, image_calls, kept_calls, step_calls, sync_calls}
-use Rattle.machine_keep.specs.Kept.{Kept, after_step, caught, is_many}
+use Rattle.machine_keep.specs.Kept.{Kept, StandsFor, after_step, caught, is_many}
 
 -- The journal as it was, or, where the last call met a fault, as a reload finds it; and whether the record of a step that was
 -- unsure is found to stand.
@@ -172,3 +174,7 @@ module _ {D S : Type 0} (premise : Type 0) (seen : D → List ℕ) (tells : D �
     pub image : List ℕ
     pub alone : stands (image ∷ []) state
     pub told : TellsSome tells faults goes first second first_now second_now (sync_calls false ++ image_calls place (Some image))
+
+-- The same disk counts as before where the list stood for the state in the form that is written, and the other where it stood for it in the earlier one.
+abbrev pub IsInForm : {S : Type 0} → (List (List ℕ) → S → Type 0) → (List (List ℕ) → S → Type 0) → S → Bool → Bool → Result Counted DiskPlace → Type 0
+IsInForm stands stood s before now pair = (now ≡ before → StandsFor stands s pair) × (now ≡ not before → StandsFor stood s pair)

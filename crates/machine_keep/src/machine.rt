@@ -159,4 +159,9 @@ pub trait Machine: Sized {
     ghost stands_set: { (list : List (List ℕ)) (f : Fixed) (s : State) → may_set (fixed s) f → stands_for list s → stands_for list (with_fixed f s) };
 
     ghost follows_set: { (f : Fixed) (s : State) (step : Self.Step) → may_set (fixed s) f → follows s step → follows (with_fixed f s) step };
+
+    // It is what is fixed then, and a step leaves the same behind it as with what was set before.
+    ghost fixed_set: { (f : Fixed) (s : State) → fixed (with_fixed f s) ≡ f };
+
+    ghost after_set: { (f : Fixed) (s : State) (step : Self.Step) → after (with_fixed f s) step ≡ with_fixed f (after s step) };
 }

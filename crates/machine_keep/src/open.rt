@@ -1,14 +1,15 @@
 //! Opening a machine that is kept.
-ghost use Rattle.std.specs.Prelude.{◌≡◌, ◌⊎◌, ◌∷◌, ◌+◌, ◌<◌, ◌^◌, ℕ, List, Option, IsFalse, IsTrue, IfOk, IfErr, Some, [], false, length, take};
+ghost use Rattle.std.specs.Prelude.{◌≡◌, ◌⊎◌, ◌∷◌, ◌+◌, ◌<◌, ◌^◌, ℕ, List, Option, IsFalse, IsTrue, IfOk, IfErr, Ok, Some, [], false, length, take};
 ghost use Rattle.ps_ports.specs.Causes.{Rose};
 ghost use Rattle.host_journal.specs.Calls.{IsRead};
 ghost use Rattle.host_journal.specs.Format.{record_bytes};
 ghost use Rattle.host_journal.specs.Moments.{Adds, LeftIn};
 ghost use Rattle.host_journal.specs.Pair.{pair_of};
+ghost use Rattle.host_journal.specs.declared.reading.Counted.{Counted};
 ghost use Rattle.host_journal.specs.State.{is_ready, stored, opened_as, EachImage, WentOn, first_disk, second_disk};
 ghost use Rattle.machine_keep.specs.declared.fault.StepFault.TheVariants.{Disk as disk_fault, Memory as no_memory};
 ghost use Rattle.machine_keep.specs.Calls.{TellsIn, TellsPair, TellsSome, image_calls, sync_calls};
-ghost use Rattle.machine_keep.specs.Course.{IsRewritten, Opened, Unwritten};
+ghost use Rattle.machine_keep.specs.Course.{IsInForm, IsRewritten, Opened, Unwritten};
 ghost use Rattle.machine_keep.specs.Kept.{EachFrom, IsMade, IsMigrating, StandsEither, StandsFor};
 ghost use Rattle.machine_keep.specs.Opening.{EachUnlessUndone, IsBegun, StandsAsBefore};
 ghost use Rattle.machine_keep.specs.Refusal.{IsRefusedAt, StandsOf};
@@ -61,6 +62,9 @@ impl<M: Machine + Drop, D: Disk> Keep<M, D> {
         ensures fault { IfErr result (λ f. f.reason ≡ OpenReason.DiskFault → Rose (D.disk_faults first) (D.disk_faults f.first) ⊎ Rose (D.disk_faults second) (D.disk_faults f.second)) }
         ensures calm { IfOk result (λ keep. (D.disk_faults (first_disk keep.journal) ≡ D.disk_faults first) × (D.disk_faults (second_disk keep.journal) ≡ D.disk_faults second)) }
         ensures calm_err { IfErr result (λ f. (f.reason ≡ OpenReason.DiskFault → ⊥) → (D.disk_faults f.first ≡ D.disk_faults first) × (D.disk_faults f.second ≡ D.disk_faults second)) }
+        // The form of the list decides which disk counts then.
+        ensures form { D.premise → IfOk result (λ keep. (read : Counted) → pair_of (D.seen first) (D.seen second) ≡ Ok read
+            → IsInForm M.stands_for M.stood_for (M.state keep.machine) read.second keep.journal.second (pair_of (D.seen first) (D.seen second))) }
         // The calls that the disks tell: the syncs, and a snapshot where the list was in the earlier form. On no premise.
         ensures opened { IfOk result (λ keep. Opened D.premise D.seen D.told M.stands_for first second (M.state keep.machine) keep.journal) }
         ensures told_err { IfErr result (λ f. f.reason ≡ OpenReason.DiskFault → TellsSome D.told D.disk_faults D.went first second f.first f.second (sync_calls false)
@@ -100,6 +104,7 @@ impl<M: Machine + Drop, D: Disk> Keep<M, D> {
         ensures place { D.premise → IfErr result (λ f. (place : _) → f.reason ≡ OpenReason.NotAJournal place → IsRefusedAt (StandsOf M.fixed (M.fixed_of origin) M.stands_for M.stood_for) (stored D.seen journal) place) }
         ensures fault { IfErr result (λ f. f.reason ≡ OpenReason.DiskFault → Rose (D.disk_faults (first_disk journal)) (D.disk_faults f.first) ⊎ Rose (D.disk_faults (second_disk journal)) (D.disk_faults f.second)) }
         ensures calm { IfOk result (λ keep. (D.disk_faults (first_disk keep.journal) ≡ D.disk_faults (first_disk journal)) × (D.disk_faults (second_disk keep.journal) ≡ D.disk_faults (second_disk journal))) }
+        ensures form { D.premise → IfOk result (λ keep. IsInForm M.stands_for M.stood_for (M.state keep.machine) journal.second keep.journal.second (stored D.seen journal)) }
         ensures told { IfOk result (λ keep. (image : Option (List ℕ)) × IsRewritten M.stands_for (M.state keep.machine) journal image keep.journal × TellsIn D.told journal keep.journal (image_calls journal image)) }
         ensures told_first { IfErr result (λ f. f.reason ≡ OpenReason.DiskFault → (s : M.State) × (image : List ℕ) × M.stands_for (image ∷ []) s
             × TellsSome D.told D.disk_faults D.went (first_disk journal) (second_disk journal) f.first f.second (image_calls journal (Some image))) }
@@ -138,6 +143,7 @@ impl<M: Machine + Drop, D: Disk> Keep<M, D> {
         ensures no_place { IfErr result (λ f. (place : _) → f.reason ≡ OpenReason.NotAJournal place → ⊥) }
         ensures fault { IfErr result (λ f. f.reason ≡ OpenReason.DiskFault → Rose (D.disk_faults (first_disk journal)) (D.disk_faults f.first) ⊎ Rose (D.disk_faults (second_disk journal)) (D.disk_faults f.second)) }
         ensures calm { IfOk result (λ keep. (D.disk_faults (first_disk keep.journal) ≡ D.disk_faults (first_disk journal)) × (D.disk_faults (second_disk keep.journal) ≡ D.disk_faults (second_disk journal))) }
+        ensures form { D.premise → IfOk result (λ keep. IsInForm M.stands_for M.stood_for (M.state keep.machine) journal.second keep.journal.second (stored D.seen journal)) }
         ensures told { IfOk result (λ keep. (image : Option (List ℕ)) × IsRewritten M.stands_for (M.state keep.machine) journal image keep.journal × TellsIn D.told journal keep.journal (image_calls journal image)) }
         ensures told_first { IfErr result (λ f. f.reason ≡ OpenReason.DiskFault → (s : M.State) × (image : List ℕ) × M.stands_for (image ∷ []) s
             × TellsSome D.told D.disk_faults D.went (first_disk journal) (second_disk journal) f.first f.second (image_calls journal (Some image))) }

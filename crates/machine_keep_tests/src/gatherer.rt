@@ -183,4 +183,8 @@ impl Machine for Gatherer {
     ghost stands_set = { λ list most s can is. is };
 
     ghost follows_set = { with_most };
+
+    ghost fixed_set = { λ most s. refl };
+
+    ghost after_set = { λ most s step. refl };
 }

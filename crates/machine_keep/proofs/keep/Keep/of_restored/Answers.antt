@@ -2,9 +2,9 @@ use Rattle.std.proofs.Common.{List, None, Option, Some, false, inr, refl, subst,
 use Rattle.host_journal.specs.Moments.{Adds, AddsOnly, LeftIn}
 use Rattle.host_journal.specs.State.{first_disk, second_disk, stored}
 use Rattle.machine_keep.specs.Calls.{TellsIn, image_calls}
-use Rattle.machine_keep.specs.Course.{IsRewritten}
+use Rattle.machine_keep.specs.Course.{IsInForm, IsRewritten}
 use Rattle.machine_keep.specs.Kept.{IsMade}
-use Rattle.machine_keep.proofs.CourseLemmas.{room_told}
+use Rattle.machine_keep.proofs.CourseLemmas.{form_same, form_turned, room_told}
 use Rattle.machine_keep.proofs.KeepLemmas.{adds_none, made_alone}
 use Rattle.machine_keep.proofs.keep.Keep.of_restored.Goals.{then-is_earlier+in_default, else-is_earlier}
 use Rattle.machine_keep.proofs.keep.Keep.of_restored.Goals as goal
@@ -47,4 +47,18 @@ returns-clause-told g c =
           (Some made.0, (made.1.0, made.2), made.3)
       | else-is_earlier w ↦ subst (λ j. (x : Option (List ℕ)) × IsRewritten g.M.Machine.stands_for now c.args.journal x j × TellsIn g.D.Disk.told c.args.journal j (image_calls c.args.journal x)) (sym w.journal-is)
           (None, refl, room_told g.D.Disk.told c.args.journal c.args.journal refl)
+    ]))
+
+pub returns-clause-form : goal.returns-clause-form
+returns-clause-form g c p =
+    let s = g.M.Machine.state c.args.restored.machine in
+    let pair = stored g.D.Disk.seen c.args.journal in
+    let before = c.args.journal.second in
+    subst (λ m. IsInForm g.M.Machine.stands_for g.M.Machine.stood_for (g.M.Machine.state m) before c.over-keep.result.journal.second pair) (sym c.over-keep.ensures.machine)
+    (subst (λ j. IsInForm g.M.Machine.stands_for g.M.Machine.stood_for s before j.second pair) (sym c.over-keep.ensures.journal)
+    (elim c.if-is_earlier.branch [
+      | then-is_earlier+in_default w ↦ subst (λ j. IsInForm g.M.Machine.stands_for g.M.Machine.stood_for s before j.second pair) (sym w.journal-is)
+          (form_turned g.M.Machine.stands_for g.M.Machine.stood_for s before w.put_snapshot.new.journal.second pair w.in_default.ensures.turned.2.second (c.requires.earlier p w.if-is_earlier.true))
+      | else-is_earlier w ↦ subst (λ j. IsInForm g.M.Machine.stands_for g.M.Machine.stood_for s before j.second pair) (sym w.journal-is)
+          (form_same g.M.Machine.stands_for g.M.Machine.stood_for s before pair (c.requires.now p w.if-is_earlier.false))
     ]))

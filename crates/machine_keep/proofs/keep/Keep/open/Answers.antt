@@ -1,15 +1,16 @@
-use Rattle.std.proofs.Common.{◌≡◌, IfErr, IfOk, List, Option, inl, inr, subst, ℕ}
+use Rattle.std.proofs.Common.{◌≡◌, IfErr, IfOk, List, Ok, Option, inl, inr, subst, ℕ}
 use Rattle.std.proofs.lemmas.Result.{IfErr-weaker}
 use Rattle.host_journal.specs.Moments.{Adds, LeftIn}
 use Rattle.host_journal.specs.Pair.{pair_of}
 use Rattle.host_journal.specs.State.{first_disk, second_disk, stored}
 use Rattle.host_journal.specs.declared.fault.OpenReason.{OpenReason}
+use Rattle.host_journal.specs.declared.reading.Counted.{Counted}
 use Rattle.host_journal.specs.declared.reading.DiskPlace.{DiskPlace}
 use Rattle.machine_keep.specs.Calls.{TellsIn, image_calls}
-use Rattle.machine_keep.specs.Course.{IsRewritten, Opened}
+use Rattle.machine_keep.specs.Course.{IsInForm, IsRewritten, Opened}
 use Rattle.machine_keep.specs.Kept.{IsMade, StandsEither}
 use Rattle.machine_keep.specs.Opening.{EachUnlessUndone, IsBegun}
-use Rattle.machine_keep.proofs.CourseLemmas.{ok_more, opened_so, read_at, refused_so, syncs_some, unwritten_so}
+use Rattle.machine_keep.proofs.CourseLemmas.{form_read, ok_more, opened_so, read_at, refused_so, syncs_some, unwritten_so}
 use Rattle.machine_keep.proofs.KeepLemmas.{left_so, not_opened, ok_both}
 use Rattle.machine_keep.proofs.OpeningLemmas.{begun, given, not_given, not_written}
 use Rattle.machine_keep.proofs.keep.Keep.open.Goals as goal
@@ -95,3 +96,13 @@ returns-in-Ok-clause-told_refused g c =
 
 pub returns-in-Err-clause-told_err : goal.returns-in-Err-clause-told_err
 returns-in-Err-clause-told_err g c is = inl (syncs_some g.D.Disk.told g.D.Disk.disk_faults g.D.Disk.went g.met.D.Disk.went_refl g.met.D.Disk.went_trans c.args.first c.args.second c.in-Err.fault.first c.in-Err.fault.second (c.in-Err.ensures.told_err is))
+
+pub returns-in-Ok-clause-form : goal.returns-in-Ok-clause-form
+returns-in-Ok-clause-form g c p =
+    let journal = c.in-Ok.journal in
+    let pair = pair_of (g.D.Disk.seen c.args.first) (g.D.Disk.seen c.args.second) in
+    ok_more (λ keep. IsInForm g.M.Machine.stands_for g.M.Machine.stood_for (g.M.Machine.state keep.machine) journal.second keep.journal.second pair)
+    (λ keep. (read : Counted) → pair ≡ Ok read → IsInForm g.M.Machine.stands_for g.M.Machine.stood_for (g.M.Machine.state keep.machine) read.second keep.journal.second pair)
+    (λ keep form. form_read g.M.Machine.stands_for g.M.Machine.stood_for (g.M.Machine.state keep.machine) journal c.in-Ok.list pair (c.in-Ok.ensures.list p) keep.journal.second form)
+    c.of_list.result
+    (subst (λ x. IfOk c.of_list.result (λ keep. IsInForm g.M.Machine.stands_for g.M.Machine.stood_for (g.M.Machine.state keep.machine) journal.second keep.journal.second x)) (c.in-Ok.ensures.stored p) (c.of_list.ensures.form p))
