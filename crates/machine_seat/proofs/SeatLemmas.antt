@@ -1,5 +1,5 @@
 -- What is held once nothing is armed, and as it is told by what the machine and its disks are.
-use Rattle.std.specs.Prelude.{Result, nat_lt, option_map}
+use Rattle.std.specs.Prelude.{IfSome, Result, nat_lt, option_map, unwrap_or}
 use Rattle.std.proofs.lemmas.Bool.Decides.{nat_tests}
 use Rattle.std.proofs.Common.{◌≡◌, ◌∙◌, ℕ, ◌+◌, ◌≤◌, ◌<◌, ◌^◌, ◌==◌, ◌||◌, Bool, true, false, not, if◌then◌else◌, List, length, Option, None, Some, Err, Ok, ap, arith, refl, subst, sym}
 use Rattle.ps_ports.specs.Causes.{counted}
@@ -10,14 +10,14 @@ use Rattle.ps_disks.specs.declared.image.Image.{Image}
 use Rattle.ps_disks.specs.declared.image.Image.TheVariants.{Old}
 use Rattle.host_journal.specs.Crash.{is_new}
 use Rattle.host_journal.specs.Pair.{pair_of}
-use Rattle.host_journal.specs.State.{EachImage, first_disk, has_record, is_ready, second_disk, stored}
+use Rattle.host_journal.specs.State.{EachImage, IsAt, State, first_disk, has_record, is_ready, second_disk, stored}
 use Rattle.host_journal.specs.declared.reading.Counted.{Counted}
 use Rattle.host_journal.specs.declared.reading.DiskPlace.{DiskPlace}
 use Rattle.machine_keep.specs.Faulted.{left_now, seen_on}
 use Rattle.machine_keep.specs.Kept.{Kept, StandsFor, caught}
 use Rattle.machine_keep.proofs.LeftLemmas.{is_image}
-use Rattle.machine_seat.specs.Held.{Held, Loose, Place, armed_at, place_of, with_record}
-use Rattle.machine_seat.specs.Seated.{loose_disk_broken, loose_disk_still, loose_broken, loose_still}
+use Rattle.machine_seat.specs.Held.{Held, Loose, Place, armed_at, place_of, with_record, with_snapshot}
+use Rattle.machine_seat.specs.Seated.{loose_disk_broken, loose_disk_still, loose_broken, loose_still, place_broken}
 use Rattle.machine_seat.specs.IsHeld.{HasFaults, HasMade, IsHeld, Leaves, held_of}
 
 pub or_parts : (a b : Bool) → (a || b) ≡ false → (a ≡ false) × (b ≡ false)
@@ -163,3 +163,38 @@ held_over state stands after k ready sure stood each one two = by (stored seen_o
       first = one;
       second = two;
     }
+
+-- ---- which disk counts
+pub counted_there : {D : Type 0} (s : State D) (pair : Result Counted DiskPlace) → IsAt s pair → (place_of pair).second ≡ s.second
+counted_there s (Ok read) at = at.0
+counted_there s (Err place) at = absurd at
+
+-- what is loose still is on that one
+pub still_there : (number : ℕ) (flag : Option Bool) (second : Bool) → IfSome flag (λ disk. disk ≡ second) → unwrap_or (loose_disk_still number flag) second ≡ second
+still_there number None second there = refl
+still_there number (Some disk) second there = by (nat_lt 1 number) disk there
+  where
+    by : (late c : Bool) → c ≡ second → unwrap_or (if late then (if c then Some true else None) else Some c) second ≡ second
+    by true true is = is
+    by true false is = refl
+    by false c is = is
+
+pub broken_there : {S : Type 0} (number : ℕ) (p : Place) (before later : S) (bytes snapshot : ℕ) (second : Bool) → number ≤ 11 → second ≡ p.second
+    → unwrap_or (option_map (λ (l : Loose S). l.second) (loose_broken number p before later bytes)) second ≡ (place_broken number p bytes snapshot).second
+broken_there {S} number p before later bytes snapshot second most is = by (number == 4) (number == 11) (nat_lt 10 number) (nat_lt 3 number) refl refl refl
+  where
+    by : (four eleven late some : Bool) → (number == 4) ≡ four → (number == 11) ≡ eleven → nat_lt 10 number ≡ late
+        → unwrap_or (option_map (λ (l : Loose S). l.second) (if four then Some (record { second = p.second; state = before; place = p }) else (if eleven then Some (record { second = not p.second; state = later; place = with_record p bytes }) else None))) second
+        ≡ (if late then with_snapshot p snapshot else (if some then with_record p bytes else p)).second
+    by true eleven true some at_four at_eleven above = absurd (grind (arith, nat_tests, at_four, above))
+    by true eleven false true at_four at_eleven above = refl
+    by true eleven false false at_four at_eleven above = refl
+    by false true true some at_four at_eleven above = refl
+    by false true false some at_four at_eleven above = absurd (grind (arith, nat_tests, at_eleven, above))
+    by false false true some at_four at_eleven above = absurd (grind (arith, nat_tests, at_eleven, above, most))
+    by false false false true at_four at_eleven above = is
+    by false false false false at_four at_eleven above = is
+
+pub loose_there : (flag : Option Bool) (second : Bool) → IfSome flag (λ disk. disk ≡ unwrap_or flag second)
+loose_there None second = tt
+loose_there (Some disk) second = refl

@@ -1,5 +1,5 @@
 -- What a seat holds behind a step.
-use Rattle.std.specs.Prelude.{IsTrue, Result, min, nat_lt, option_map}
+use Rattle.std.specs.Prelude.{IsTrue, Result, min, nat_lt, option_map, unwrap_or}
 use Rattle.std.proofs.lemmas.Bool.Decides.{nat_tests}
 use Rattle.std.proofs.Common.{◌≡◌, ◌∙◌, ◌⊎◌, ⊎_elim, ℕ, zero, suc, ◌+◌, ◌-◌, ◌<◌, ◌≤◌, ◌^◌, ◌==◌, Bool, true, false, not, if◌then◌else◌, List, [], ◌∷◌, ◌++◌, length, take, Option, None, Some, IfSome, Err, Ok, ap, arith, inl, inr, refl, subst, sym}
 use Rattle.ps_disks.specs.MemoryDisk.{DiskState}
@@ -11,10 +11,10 @@ use Rattle.machine_keep.specs.Course.{IsRewritten}
 use Rattle.machine_keep.specs.Faulted.{seen_on}
 use Rattle.machine_keep.specs.Kept.{Kept, after_step}
 use Rattle.machine_seat.specs.Held.{Held, Loose, four, on_first, on_second, place_at, place_of, schedule, seven, syncs, with_record, with_snapshot}
-use Rattle.machine_seat.specs.IsHeld.{HasFaults, HasMade, Holds, IsHeld, held_of}
+use Rattle.machine_seat.specs.IsHeld.{HasFaults, HasMade, Holds, IsCounting, IsHeld, held_of}
 use Rattle.machine_seat.specs.Seated.{Broken, Done, Unsynced, bytes_in, loose_disk_broken, loose_disk_still, place_broken}
 use Rattle.machine_seat.proofs.PlaceLemmas.{pair_in_order, place_moved}
-use Rattle.machine_seat.proofs.SeatLemmas.{flag_breaks, flag_stays, is_view}
+use Rattle.machine_seat.proofs.SeatLemmas.{broken_there, counted_there, flag_breaks, flag_stays, is_view, loose_there, still_there}
 
 flag_of : {S : Type 0} (f : Bool → Loose S) → ((b : Bool) → (f b).second ≡ b) → (flag : Option Bool) → option_map (λ (l : Loose S). l.second) (option_map f flag) ≡ flag
 flag_of f is None = refl
@@ -105,6 +105,9 @@ module _ {M S C R T F : Type 0} (fixed : S → F) (state : M → S) (stands : Li
       is_fixed = ap (λ (x : Held S). fixed x.state) answered_view ∙ (ap (λ (x : Held S). fixed x.state) it.2.became ∙ (fixed_step it.2.step it.2.may ∙ (holds.is_fixed ∙ sym fixed_new)));
       size = λ below. (let sum = place_size new.journal (stored seen_on new.journal) it.1.read snapshot records one two at it.1.is_read in omega (arith, below, is, sum));
     }
+
+    pub answered_counts : (second : Bool) → second ≡ new.journal.second → IsAt new.journal (stored seen_on new.journal) → IsCounting new.journal None second
+    answered_counts second is at = record { is_second = is ∙ sym (counted_there new.journal (stored seen_on new.journal) at); is_loose = tt }
 
   -- ---- it met a fault
   abbrev Fault : Held S → C → Type 0
@@ -215,3 +218,16 @@ module _ {M S C R T F : Type 0} (fixed : S → F) (state : M → S) (stands : Li
         is_fixed = ap (λ (y : Held S). fixed y.state) (faulted_view fault) ∙ (fixed_so fault ∙ (holds.is_fixed ∙ sym fixed_new));
         size = λ below. (let same = ap (λ (y : Held S). y.place.snapshot + y.place.records) (faulted_view fault) in omega (arith, same, size_so fault, holds.size (omega (arith, small))));
       }
+
+      pub faulted_counts : Fault x call → (second : Bool) → IsCounting old.journal flag second → IsCounting new.journal flag_now (unwrap_or flag_now second)
+      faulted_counts fault second counts = record {
+        is_second = (ap (λ o. unwrap_or o second) (sym (flag_so fault)) ∙ there fault) ∙ sym (ap (λ (y : Held S). y.place.second) (faulted_view fault));
+        is_loose = loose_there flag_now second;
+      }
+        where
+          there : Fault x call → unwrap_or (option_map (λ l. l.second) x.loose) second ≡ x.place.second
+          there = ⊎_elim
+              (λ u. (ap (λ (y : Held S). unwrap_or (option_map (λ l. l.second) y.loose) second) u.0.became ∙ (ap (λ o. unwrap_or o second) (flag_stays u.0.number h.loose ∙ ap (loose_disk_still u.0.number) own_flag)
+              ∙ (still_there u.0.number flag second counts.is_loose ∙ counts.is_second))) ∙ sym (ap (λ (y : Held S). y.place.second) u.0.became))
+              (λ b. (ap (λ (y : Held S). unwrap_or (option_map (λ l. l.second) y.loose) second) b.0.became ∙ broken_there b.0.number h.place h.state (after h.state b.0.step) (length (bytes b.0.step)) (bytes_in b.0.snapshot) second b.0.most counts.is_second)
+              ∙ sym (ap (λ (y : Held S). y.place.second) b.0.became))

@@ -1,5 +1,5 @@
 -- What a kept machine over two disks in memory holds.
-use Rattle.std.specs.Prelude.{◌≡◌, ◌+◌, ◌<◌, ◌^◌, ◌-◌, ◌≤◌, ℕ, Bool, false, if◌then◌else◌, List, length, Option, None, Some, option_map, Ok}
+use Rattle.std.specs.Prelude.{◌≡◌, ◌+◌, ◌<◌, ◌^◌, ◌-◌, ◌≤◌, ℕ, Bool, false, if◌then◌else◌, List, length, Option, None, Some, IfSome, option_map, Ok}
 use Rattle.ps_disks.specs.History.{image_bytes}
 use Rattle.ps_disks.specs.MemoryDisk.{DiskState}
 use Rattle.ps_disks.specs.Run.{IsArmed}
@@ -77,3 +77,8 @@ pub record Holds {M S T F : Type 0} (fixed : S → F) (state : M → S) (stands 
   pub made : k.put_off ≡ 0
   pub is_fixed : fixed (held_of state after k loose).state ≡ fixed (state k.machine)
   pub size : most < 2 ^ 64 - 1 → (held_of state after k loose).place.snapshot + (held_of state after k loose).place.records ≤ most
+
+-- this disk counts as they read, and nothing is loose of the other
+pub record IsCounting (journal : State DiskState) (loose : Option Bool) (second : Bool) : Type 0 where
+  pub is_second : second ≡ (place_of (stored seen_on journal)).second
+  pub is_loose : IfSome loose (λ disk. disk ≡ second)

@@ -1,5 +1,5 @@
 //! A machine that is kept on two disks in memory, of each of which one call may be made to fail.
-ghost use Rattle.std.specs.Prelude.{◌≡◌, ◌⊎◌, ◌+◌, ◌-◌, ◌^◌, ◌<◌, ◌≤◌, ℕ, Bool, IfErr, IfOk, IsTrue, None, Ok, List, Option, [], ◌∷◌, false, length, take, true};
+ghost use Rattle.std.specs.Prelude.{◌≡◌, ◌⊎◌, ◌+◌, ◌-◌, ◌^◌, ◌<◌, ◌≤◌, ℕ, Bool, IfErr, IfOk, IfSome, IsTrue, None, Ok, List, Option, [], ◌∷◌, ◌++◌, false, length, not, take, true};
 ghost use Rattle.ps_disks.specs.Disk.{Only};
 ghost use Rattle.ps_disks.specs.MemoryDisk.{DiskState};
 ghost use Rattle.ps_disks.specs.Run.{IsArmed};
@@ -11,7 +11,7 @@ ghost use Rattle.machine_keep.specs.Kept.{Kept, StandsEither};
 ghost use Rattle.machine_keep.specs.Refusal.{IsRefusedAt, StandsOf};
 ghost use Rattle.ps_ports.specs.Causes.{Rose, counted};
 ghost use Rattle.machine_seat.specs.Crashed.{StandsAt, Stops, place_unsynced, state_unsynced};
-ghost use Rattle.machine_seat.specs.Held.{Held, armed_at, place_at, place_of, schedule, syncs, with_snapshot};
+ghost use Rattle.machine_seat.specs.Held.{Held, armed_at, failing, fault_at, four, place_at, place_of, schedule, seven, syncs, with_snapshot};
 ghost use Rattle.machine_seat.specs.IsHeld.{HasFaults, HasMade, Holds, IsHeld, held};
 ghost use Rattle.machine_seat.specs.Seated.{Broken, Done, Unsynced, loose_disk_broken, loose_disk_still};
 ghost use Rattle.machine_seat.specs.declared.seat.Stepped.TheVariants.{Answered, Faulted};
@@ -89,6 +89,8 @@ pub struct Seat<M: Machine> {
     keep: Keep<M, MemoryDisk>,
     // the disk of which something is loose: whether that is the second
     loose: Option<bool>,
+    // whether the second disk counts
+    second: bool,
     // no disk met more
     faults: u64,
     // its snapshot and records have at most so many
@@ -99,13 +101,13 @@ pub struct Seat<M: Machine> {
 
 impl<M: Machine> Model for Seat<M> {
     ghost use Rattle.std.specs.Prelude.{IsTrue};
-    ghost use Rattle.machine_seat.specs.IsHeld.{Holds, SeatState};
+    ghost use Rattle.machine_seat.specs.IsHeld.{Holds, IsCounting, SeatState};
 
     ghost Value = { SeatState M M.Step };
 
     ghost view = { λ s. record { keep = s.keep; loose = s.loose } };
 
-    ghost invariant = { λ s. IsTrue s.is_fed → Holds M.fixed M.state M.stands_for M.after s.keep s.loose s.faults s.most_bytes };
+    ghost invariant = { λ s. IsTrue s.is_fed → Holds M.fixed M.state M.stands_for M.after s.keep s.loose s.faults s.most_bytes × IsCounting s.keep.journal s.loose s.second };
 }
 
 // Written out, so that a drop elsewhere is one call.
@@ -114,6 +116,7 @@ impl<M: Machine + Drop> Drop for Seat<M> {
         let Seat {
             keep: _,
             loose: _,
+            second: _,
             faults: _,
             most_bytes: _,
             is_fed: _,
@@ -176,10 +179,12 @@ impl<M: Machine + Drop> Seat<M> {
         keep.known();
         let mut keep = keep;
         keep.fail_at(None);
+        let second = keep.is_second();
         let most_bytes = keep.snapshot_bytes().saturating_add(keep.record_bytes());
         Seat {
             keep,
             loose: None,
+            second,
             faults: 0,
             most_bytes,
             is_fed: true,
@@ -227,6 +232,7 @@ impl<M: Machine + Drop> Seat<M> {
         let Seat {
             keep,
             loose: _,
+            second: _,
             faults: _,
             most_bytes: _,
             is_fed: _,
@@ -248,6 +254,18 @@ impl<M: Machine> Seat<M> {
         ensures { result ≡ (held M.state M.after self.now).ready }
     {
         self.keep.is_ready()
+    }
+
+    /// Which of the calls that the next step makes is to fail, counted from 1 over both disks, where it makes as many; none, where
+    /// none of the most that it makes. `Memory`, where memory was ever wanting.
+    pub fn fault_at(&self) -> Result<Option<u64>, Memory>
+        ensures { IfOk result (λ number. number ≡ fault_at (held M.state M.after self.now)) }
+    {
+        if !self.is_fed {
+            return Err(Memory);
+        }
+        let (first, second) = self.keep.until_faults();
+        Ok(failing_at(self.keep.is_ready(), self.second, first, second))
     }
 
     /// Lets one of the writes, cuts and syncs of each disk fail, numbered from 1 from now on, or none for 0. The first fault
@@ -277,6 +295,7 @@ impl<M: Machine> Seat<M> {
             Stepped::Answered(reply) => {
                 self.keep.known();
                 self.loose = None;
+                self.second = self.keep.is_second();
                 self.most_bytes = self
                     .keep
                     .snapshot_bytes()
@@ -289,6 +308,7 @@ impl<M: Machine> Seat<M> {
                 let first = after.0.saturating_sub(before.0);
                 let second = after.1.saturating_sub(before.1);
                 self.loose = loose_after(was_ready, self.loose, first, second);
+                self.second = self.loose.unwrap_or(self.second);
                 self.faults += 1;
                 self.most_bytes += MORE_BYTES;
                 self.is_fed = true;
@@ -326,4 +346,48 @@ fn loose_at(number: u64, second: u64) -> Option<bool>
         11 => Some(second == 7),
         _ => None,
     }
+}
+
+// Which call is to fail of the most that a step makes, by which call of each disk is to, or 0.
+fn failing_at(is_ready: bool, is_second: bool, first: u64, second: u64) -> Option<u64>
+    ensures { result ≡ failing first second (syncs is_ready ++ (four is_second ++ seven (not is_second))) }
+{
+    if is_ready {
+        return failing_kept(is_second, first, second);
+    }
+    if first == 1 {
+        return Some(1);
+    }
+    if second == 1 {
+        return Some(2);
+    }
+    match failing_kept(is_second, first.saturating_sub(1), second.saturating_sub(1)) {
+        Some(number) => Some(number + 2),
+        None => None,
+    }
+}
+
+// The same of a record and a snapshot.
+fn failing_kept(is_second: bool, first: u64, second: u64) -> Option<u64>
+    ensures kept { result ≡ failing first second (four is_second ++ seven (not is_second)) }
+    ensures few { IfSome result (λ number. number ≤ 11) }
+{
+    if is_second {
+        return failing_in(second, first);
+    }
+    failing_in(first, second)
+}
+
+// Four calls of the disk that counts, and seven of the other.
+fn failing_in(counting: u64, other: u64) -> Option<u64>
+    ensures is { result ≡ failing counting other (four false ++ seven true) }
+    ensures few { IfSome result (λ number. number ≤ 11) }
+{
+    if counting != 0 && counting <= 4 {
+        return Some(counting);
+    }
+    if other != 0 && other <= 7 {
+        return Some(4 + other);
+    }
+    None
 }
