@@ -17,6 +17,7 @@ ghost use Rattle.machine_seat.specs.Seated.{Broken, Done, Unsynced, loose_disk_b
 ghost use Rattle.machine_seat.specs.declared.seat.Stepped.TheVariants.{Answered, Faulted};
 
 use crate::law::{law_broken, law_done, law_unsynced};
+use host_journal::crash::crash_now;
 use host_journal::fault::{OpenFault, OpenReason};
 use machine_keep::fault::StepFault;
 use machine_keep::keep::Keep;
@@ -225,8 +226,42 @@ impl<M: Machine + Drop> Seat<M> {
         keep.crash_in_again(alloc, call, stop, image)
     }
 
-    /// The kept machine.
-    pub fn into_keep(self) -> Keep<M, MemoryDisk>
+    /// Hands the disks back as a crash between two steps leaves them. `Memory` also stands for a disk for whose bytes there was none.
+    pub fn crash_now(self, image: Image) -> Result<(MemoryDisk, MemoryDisk), Memory>
+        ensures left { IfOk result (λ disks. StandsAt M.stands_for
+            (state_unsynced (held M.state M.after self).state (held M.state M.after self).loose 0 image) (place_unsynced (held M.state M.after self).place (held M.state M.after self).loose 0 image)
+            (pair_of (⟦<MemoryDisk as Disk>⟧.seen disks.0) (⟦<MemoryDisk as Disk>⟧.seen disks.1))) }
+        // No call of them is to fail, and a later crash leaves what they read.
+        ensures calm { IfOk result (λ disks. IsArmed disks.0 0 × IsArmed disks.1 0) }
+        ensures first { IfOk result (λ disks. Only (⟦<MemoryDisk as Disk>⟧.seen disks.0) (⟦<MemoryDisk as Disk>⟧.may_leave disks.0)) }
+        ensures second { IfOk result (λ disks. Only (⟦<MemoryDisk as Disk>⟧.seen disks.1) (⟦<MemoryDisk as Disk>⟧.may_leave disks.1)) }
+    {
+        if !self.is_fed {
+            drop(self);
+            return Err(Memory);
+        }
+        let (first, second) = self.into_keep().into_disks();
+        let first = crash_now(first, image)?;
+        let second = crash_now(second, image)?;
+        Ok((first, second))
+    }
+
+    /// Hands the disks back, which stand as they read for the state that is held. `Memory`, where memory was ever wanting.
+    pub fn into_disks(self) -> Result<(MemoryDisk, MemoryDisk), Memory>
+        ensures stands { IfOk result (λ disks. StandsAt M.stands_for (held M.state M.after self).state (held M.state M.after self).place
+            (pair_of (⟦<MemoryDisk as Disk>⟧.seen disks.0) (⟦<MemoryDisk as Disk>⟧.seen disks.1))) }
+        ensures first { IfOk result (λ disks. disks.0 ≡ first_disk self.keep.journal) }
+        ensures second { IfOk result (λ disks. disks.1 ≡ second_disk self.keep.journal) }
+    {
+        if !self.is_fed {
+            drop(self);
+            return Err(Memory);
+        }
+        Ok(self.into_keep().into_disks())
+    }
+
+    // The kept machine.
+    fn into_keep(self) -> Keep<M, MemoryDisk>
         ensures { result ≡ self.keep }
     {
         let Seat {
