@@ -56,6 +56,10 @@ pub record Held (S : Type 0) : Type 0 where
   pub first : ℕ
   pub second : ℕ
 
+-- with this as what is fixed
+abbrev pub configured : {S F : Type 0} → (F → S → S) → F → Held S → Held S
+configured {S} with_fixed f h = record h { state = with_fixed f h.state; loose = option_map {T = Loose S} (λ l. record l { state = with_fixed f l.state }) h.loose }
+
 -- of each disk the call of this number is to fail
 abbrev pub armed_at : {S : Type 0} → Held S → ℕ → Held S
 armed_at h n = record h { first = n; second = n }

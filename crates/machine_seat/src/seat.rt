@@ -1,5 +1,5 @@
 //! A machine that is kept on two disks in memory, of each of which one call may be made to fail.
-ghost use Rattle.std.specs.Prelude.{◌≡◌, ◌⊎◌, ◌+◌, ◌-◌, ◌^◌, ◌<◌, ◌≤◌, ℕ, Bool, IfErr, IfOk, IfSome, IsTrue, None, Ok, List, Option, [], ◌∷◌, ◌++◌, false, length, not, take, true};
+ghost use Rattle.std.specs.Prelude.{◌≡◌, ◌⊎◌, ◌+◌, ◌-◌, ◌^◌, ◌<◌, ◌≤◌, ℕ, Bool, IfErr, IfOk, IfSome, IsTrue, None, Ok, List, OnErr, OnOk, Option, [], ◌∷◌, ◌++◌, false, length, not, take, true};
 ghost use Rattle.ps_disks.specs.Disk.{Only};
 ghost use Rattle.ps_disks.specs.MemoryDisk.{DiskState};
 ghost use Rattle.ps_disks.specs.Run.{IsArmed};
@@ -11,7 +11,7 @@ ghost use Rattle.machine_keep.specs.Kept.{Kept, StandsEither};
 ghost use Rattle.machine_keep.specs.Refusal.{IsRefusedAt, StandsOf};
 ghost use Rattle.ps_ports.specs.Causes.{Rose, counted};
 ghost use Rattle.machine_seat.specs.Crashed.{StandsAt, Stops, place_unsynced, state_unsynced};
-ghost use Rattle.machine_seat.specs.Held.{Held, armed_at, failing, fault_at, four, place_at, place_of, schedule, seven, syncs, with_snapshot};
+ghost use Rattle.machine_seat.specs.Held.{Held, armed_at, configured, failing, fault_at, four, place_at, place_of, schedule, seven, syncs, with_snapshot};
 ghost use Rattle.machine_seat.specs.IsHeld.{HasFaults, HasMade, Holds, IsHeld, held};
 ghost use Rattle.machine_seat.specs.Seated.{Broken, Done, Unsynced, loose_disk_broken, loose_disk_still};
 ghost use Rattle.machine_seat.specs.declared.seat.Stepped.TheVariants.{Answered, Faulted};
@@ -279,8 +279,10 @@ impl<M: Machine + Drop> Seat<M> {
 impl<M: Machine> Seat<M> {
     /// The machine. After a fault it may lack a step that is kept; the next step finds that out.
     pub fn machine(&self) -> &M
-        ensures { result.now ≡ self.now.keep.machine }
+        ensures machine { result.now ≡ self.now.keep.machine }
+        ensures state { (held M.state M.after self.now).ready ≡ true → M.state result.now ≡ (held M.state M.after self.now).state }
     {
+        self.keep.known();
         self.keep.machine()
     }
 
@@ -309,6 +311,21 @@ impl<M: Machine> Seat<M> {
         ensures { held M.state M.after self.new ≡ armed_at (held M.state M.after self.old) call }
     {
         self.keep.fail_at(Some(call));
+    }
+
+    /// Sets an origin again, as a configuration (`Keep::configure`). What is kept stays, and what is loose. `Memory`, where memory
+    /// was ever wanting.
+    pub fn configure(&mut self, origin: M::Origin) -> Result<(), Memory>
+        requires { M.may_set (M.fixed (held M.state M.after self.old).state) (M.fixed_of origin) }
+        ensures set { OnOk result (held M.state M.after self.new ≡ configured M.with_fixed (M.fixed_of origin) (held M.state M.after self.old)) }
+        ensures still { OnErr result (self.new ≡ self.old) }
+    {
+        if !self.is_fed {
+            drop(origin);
+            return Err(Memory);
+        }
+        self.keep.configure(origin);
+        Ok(())
     }
 
     /// Makes a step, and keeps what it changes before it is answered. After a fault it first finds out what stands. `Memory` also
