@@ -7,10 +7,10 @@ use Rattle.host_journal.specs.Pair.{pair_of}
 use Rattle.host_journal.specs.State.{IsAt, State, first_disk, is_ready, second_disk, stored}
 use Rattle.host_journal.specs.declared.reading.Counted.{Counted}
 use Rattle.host_journal.specs.declared.reading.DiskPlace.{DiskPlace}
-use Rattle.machine_keep.specs.Course.{IsRewritten}
+use Rattle.machine_keep.specs.Course.{IsInForm, IsRewritten}
 use Rattle.machine_keep.specs.Faulted.{seen_on}
-use Rattle.machine_keep.specs.Kept.{Kept, after_step}
-use Rattle.machine_seat.specs.Held.{Held, Loose, four, on_first, on_second, place_at, place_of, schedule, seven, syncs, with_record, with_snapshot}
+use Rattle.machine_keep.specs.Kept.{Kept, StandsFor, after_step}
+use Rattle.machine_seat.specs.Held.{Held, Loose, Place, four, on_first, on_second, place_at, place_of, schedule, seven, syncs, with_record, with_snapshot}
 use Rattle.machine_seat.specs.IsHeld.{HasFaults, HasMade, Holds, IsCounting, IsHeld, held_of}
 use Rattle.machine_seat.specs.Seated.{Broken, Done, Unsynced, bytes_in, loose_disk_broken, loose_disk_still, place_broken}
 use Rattle.machine_seat.proofs.PlaceLemmas.{pair_in_order, place_moved}
@@ -32,16 +32,24 @@ over_size s (Ok read) snapshot records one two at = place_size s (Ok read) read 
 over_size s (Err place) snapshot records one two at = absurd at
 
 -- the place behind an opening
-pub opened_place : {D S : Type 0} (stands : List (List ℕ) → S → Type 0) (s : S) (place now : State D) (first second : List ℕ) (pair : Result Counted DiskPlace) → IsAt place (pair_of first second) → IsAt now pair → (image : Option (List ℕ)) → IsRewritten stands s place image now
-    → (read : Counted) × (pair_of first second ≡ Ok read) × ((place_of pair ≡ place_at read) ⊎ ((image : List ℕ) × stands (image ∷ []) s × (place_of pair ≡ with_snapshot (place_at read) (length image))))
-opened_place {D} {S} stands s place now first second pair at at_now image rewritten = by (pair_of first second) refl pair at at_now image rewritten
+abbrev pub OpenedAt : {S : Type 0} → (List (List ℕ) → S → Type 0) → (List (List ℕ) → S → Type 0) → S → Result Counted DiskPlace → Counted → Place → Type 0
+OpenedAt stands stood s from read place = (StandsFor stands s from × (place ≡ place_at read)) ⊎ (StandsFor stood s from × ((image : List ℕ) × stands (image ∷ []) s × (place ≡ with_snapshot (place_at read) (length image))))
+
+pub opened_place : {D S : Type 0} (stands stood : List (List ℕ) → S → Type 0) (s : S) (place now : State D) (first second : List ℕ) (pair : Result Counted DiskPlace) → IsAt place (pair_of first second) → IsAt now pair → (image : Option (List ℕ)) → IsRewritten stands s place image now
+    → ((read : Counted) → pair_of first second ≡ Ok read → IsInForm stands stood s read.second now.second (pair_of first second))
+    → (read : Counted) × (pair_of first second ≡ Ok read) × OpenedAt stands stood s (pair_of first second) read (place_of pair)
+opened_place {D} {S} stands stood s place now first second pair at at_now image rewritten form = by (pair_of first second) refl pair at at_now image rewritten
   where
     by : (from : Result Counted DiskPlace) → pair_of first second ≡ from → (p : Result Counted DiskPlace) → IsAt place from → IsAt now p → (image : Option (List ℕ)) → IsRewritten stands s place image now
-        → (read : Counted) × (pair_of first second ≡ Ok read) × ((place_of p ≡ place_at read) ⊎ ((image : List ℕ) × stands (image ∷ []) s × (place_of p ≡ with_snapshot (place_at read) (length image))))
+        → (read : Counted) × (pair_of first second ≡ Ok read) × OpenedAt stands stood s (pair_of first second) read (place_of p)
     by (Err where_it) is p at at_now image rewritten = absurd at
     by (Ok read) is (Err where_it) at at_now image rewritten = absurd at_now
-    by (Ok read) is (Ok l) at at_now None rewritten = (read, is, inl (place_moved place now read l (pair_in_order first second read is) at at_now None None (λ x. x) rewritten))
-    by (Ok read) is (Ok l) at at_now (Some image) rewritten = (read, is, inr (image, rewritten.0, place_moved place now read l (pair_in_order first second read is) at at_now (Some []) (Some image) (λ no. absurd (cc no)) rewritten.1))
+    by (Ok read) is (Ok l) at at_now None rewritten =
+        let moved = place_moved place now read l (pair_in_order first second read is) at at_now None None (λ x. x) rewritten in
+        (read, is, inl ((form read is).0 (sym at_now.0 ∙ ap (λ (x : Place). x.second) moved), moved))
+    by (Ok read) is (Ok l) at at_now (Some image) rewritten =
+        let moved = place_moved place now read l (pair_in_order first second read is) at at_now (Some []) (Some image) (λ no. absurd (cc no)) rewritten.1 in
+        (read, is, inr ((form read is).1 (sym at_now.0 ∙ ap (λ (x : Place). x.second) moved), (image, rewritten.0, moved)))
 
 -- ---- how many calls each disk made
 both_counted : (calls : List Bool) → on_first calls + on_second calls ≡ length calls

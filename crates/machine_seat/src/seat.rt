@@ -7,7 +7,7 @@ ghost use Rattle.host_journal.specs.Pair.{pair_of};
 ghost use Rattle.host_journal.specs.State.{first_disk, is_ready, second_disk, stored};
 ghost use Rattle.machine_keep.specs.Faulted.{seen_on};
 ghost use Rattle.host_journal.specs.declared.reading.Counted.{Counted};
-ghost use Rattle.machine_keep.specs.Kept.{Kept, StandsEither};
+ghost use Rattle.machine_keep.specs.Kept.{Kept, StandsEither, StandsFor};
 ghost use Rattle.machine_keep.specs.Refusal.{IsRefusedAt, StandsOf};
 ghost use Rattle.ps_ports.specs.Causes.{Rose, counted};
 ghost use Rattle.machine_seat.specs.Crashed.{StandsAt, Stops, place_unsynced, state_unsynced};
@@ -146,8 +146,9 @@ impl<M: Machine + Drop> Seat<M> {
         ensures fault { IfErr result (λ f. f.reason ≡ OpenReason.DiskFault → Rose (counted first.faults) (counted f.first.faults) ⊎ Rose (counted second.faults) (counted f.second.faults)) }
         // Where they lie: as they did, or, where their list was in the earlier form, with a snapshot alone on the other disk.
         ensures place { IfOk result (λ seat. (read : Counted) × (pair_of (⟦<MemoryDisk as Disk>⟧.seen first) (⟦<MemoryDisk as Disk>⟧.seen second) ≡ Ok read)
-            × (((held M.state M.after seat).place ≡ place_at read)
-            ⊎ ((image : List ℕ) × M.stands_for (image ∷ []) (held M.state M.after seat).state × ((held M.state M.after seat).place ≡ with_snapshot (place_at read) (length image))))) }
+            × ((StandsFor M.stands_for (held M.state M.after seat).state (pair_of (⟦<MemoryDisk as Disk>⟧.seen first) (⟦<MemoryDisk as Disk>⟧.seen second)) × ((held M.state M.after seat).place ≡ place_at read))
+            ⊎ (StandsFor M.stood_for (held M.state M.after seat).state (pair_of (⟦<MemoryDisk as Disk>⟧.seen first) (⟦<MemoryDisk as Disk>⟧.seen second))
+            × ((image : List ℕ) × M.stands_for (image ∷ []) (held M.state M.after seat).state × ((held M.state M.after seat).place ≡ with_snapshot (place_at read) (length image)))))) }
         ensures ready { IfOk result (λ seat. ((held M.state M.after seat).ready ≡ true) × ((held M.state M.after seat).loose ≡ None)
             × ((held M.state M.after seat).first ≡ 0) × ((held M.state M.after seat).second ≡ 0)) }
     {

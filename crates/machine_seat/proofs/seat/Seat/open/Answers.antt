@@ -1,13 +1,12 @@
-use Rattle.std.specs.Prelude.{List, ℕ}
-use Rattle.std.proofs.Common.{◌≡◌, ◌⊎◌, None, Ok, true, [], ◌∷◌, length, subst, sym}
+use Rattle.std.proofs.Common.{◌≡◌, None, Ok, true, subst, sym}
 use Rattle.ps_disks.proofs.RunLemmas.{fed_after}
 use Rattle.host_journal.specs.Pair.{pair_of}
 use Rattle.host_journal.specs.State.{first_disk, second_disk, stored}
 use Rattle.host_journal.specs.declared.reading.Counted.{Counted}
 use Rattle.machine_keep.specs.Faulted.{seen_on}
-use Rattle.machine_seat.specs.Held.{Held, place_at, place_of, with_snapshot}
+use Rattle.machine_seat.specs.Held.{Held, place_of}
 use Rattle.machine_seat.proofs.SeatLemmas.{or_parts}
-use Rattle.machine_seat.proofs.StepLemmas.{opened_place}
+use Rattle.machine_seat.proofs.StepLemmas.{OpenedAt, opened_place}
 use Rattle.machine_seat.proofs.seat.Seat.open.Goals as goal
 
 pub over-requires-clause-reads : goal.over-requires-clause-reads
@@ -25,8 +24,8 @@ returns-clause-place g c =
     let first = seen_on c.args.first in
     let second = seen_on c.args.second in
     let now : Held g.M.Machine.State = record { state = m.state keep.machine; place = place_of (stored seen_on keep.journal); ready = true; loose = None; first = 0; second = 0 } in
-    subst (λ (h : Held g.M.Machine.State). (read : Counted) × (pair_of first second ≡ Ok read) × ((h.place ≡ place_at read) ⊎ ((image : List ℕ) × m.stands_for (image ∷ []) h.state × (h.place ≡ with_snapshot (place_at read) (length image))))) {x = now} (sym c.over.ensures)
-    (opened_place m.stands_for (m.state keep.machine) o.place keep.journal first second (stored seen_on keep.journal) (o.read.at tt) (c.known.ensures.place tt c.in-Ok.ensures.ready) o.image o.rewritten)
+    subst (λ (h : Held g.M.Machine.State). (read : Counted) × (pair_of first second ≡ Ok read) × OpenedAt m.stands_for m.stood_for h.state (pair_of first second) read h.place) {x = now} (sym c.over.ensures)
+    (opened_place m.stands_for m.stood_for (m.state keep.machine) o.place keep.journal first second (stored seen_on keep.journal) (o.read.at tt) (c.known.ensures.place tt c.in-Ok.ensures.ready) o.image o.rewritten (c.in-Ok.ensures.form tt))
 
 pub returns-in-Err-clause-nothing : goal.returns-in-Err-clause-nothing
 returns-in-Err-clause-nothing g c at is s fixed stands = c.in-Err.ensures.nothing tt at is s fixed stands
