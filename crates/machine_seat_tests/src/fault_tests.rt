@@ -101,3 +101,26 @@ fn a_crash_behind_a_fault_keeps_what_a_sync_made_sure_of(rt: HostRuntime) -> Res
     assert!(rt; each_left(rt.alloc(), &CRASHES)?);
     Ok(())
 }
+
+// The fourth call is to fail of a step, and a crash comes behind it, between two steps.
+fn is_left_between(alloc: Global, image: Image, bytes: usize) -> Result<bool, Memory> {
+    let Some(mut seat) = new_seat(alloc)? else {
+        return Ok(false);
+    };
+    seat.fail_at(4);
+    if seat.fault_at()? != Some(4) || gathered(alloc, &mut seat)? != 0 {
+        return Ok(false);
+    }
+    if seat.fault_at()?.is_some() {
+        return Ok(false);
+    }
+    let (first, second) = seat.crash_now(image)?;
+    Ok(opened(alloc, first, second) == Some(bytes))
+}
+
+#[test]
+fn a_crash_between_two_steps_keeps_what_its_image_keeps(rt: HostRuntime) -> Result<(), Fail> {
+    assert!(rt; is_left_between(rt.alloc(), Image::Old, 0)?);
+    assert!(rt; is_left_between(rt.alloc(), Image::New, 1)?);
+    Ok(())
+}
