@@ -89,6 +89,7 @@ module _ (hosts : List ScriptHost) (b : Seen) (none : b.stops ≡ []) where
   calm_move (Move.Lost n) = refl
   calm_move (Move.Arms place stop) = refl
   calm_move (Move.Crashes c) = refl
+  calm_move (Move.Breaks c kept) = refl
 
   pub none_stops : (move : Move) → None ≡ stopped_step hosts b move
   none_stops move = sym (ap (option_map step_of) (calm_move move))

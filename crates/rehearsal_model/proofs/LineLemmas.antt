@@ -144,6 +144,7 @@ module _ (hosts : List ScriptHost) (lawful : AreLawfulHosts hosts) (s : Show) (r
   configs_moved (Move.Lost n) = reach.configs
   configs_moved (Move.Arms place stop) = reach.configs
   configs_moved (Move.Crashes c) = configs_at c.place (crashed_stage c.stop (stage_at b c.place) c.clock c.asked) (cut_config (keeps_step c.stop.call c.stop.image) (stage_at b c.place) c.clock c.asked)
+  configs_moved (Move.Breaks c kept) = configs_at c.place (cut_stage kept (stage_at b c.place) c.clock c.asked) (cut_config kept (stage_at b c.place) c.clock c.asked)
 
   -- ---- orderly books
   stage_orderly : (place : ℕ) → place < length hosts → IsOrderlyStage (stage_at b place)
@@ -187,6 +188,8 @@ module _ (hosts : List ScriptHost) (lawful : AreLawfulHosts hosts) (s : Show) (r
       let kept : Bool = keeps_step c.stop.call c.stop.image in
       let left : Stage = cut_stage kept (stage_at b c.place) c.clock c.asked in
       orderly_at c.place (acted left c.clock input.Open) (acted_orderly left c.clock input.Open tt (cut_orderly kept (stage_at b c.place) c.clock c.asked (cause_sized c.place c.cause c.asked is.2) (stage_orderly c.place is.0)))
+  orderly_moved (Move.Breaks c kept) is =
+      orderly_at c.place (cut_stage kept (stage_at b c.place) c.clock c.asked) (cut_orderly kept (stage_at b c.place) c.clock c.asked (cause_sized c.place c.cause c.asked is.2) (stage_orderly c.place is.0))
 
   -- ---- results that are told
   may_step : (place clock : ℕ) (i : Input) → place < length hosts → clock ≤ greatest_moment → IsInput (config_at b place) i → MayStep (config_at b place) (book_at b place) clock i
@@ -224,6 +227,10 @@ module _ (hosts : List ScriptHost) (lawful : AreLawfulHosts hosts) (s : Show) (r
   cut_told false place clock i within low asked =
       step_told (config_at b place) (book_at b place) clock input.Open (may_step place clock input.Open within low tt) (told_at hosts lawful s reach place within)
 
+  broken_told : (kept : Bool) (place clock : ℕ) (i : Input) → place < length hosts → clock ≤ greatest_moment → IsInput (config_at b place) i → IsToldStage (cut_stage kept (stage_at b place) clock i)
+  broken_told true place clock i within low asked = step_told (config_at b place) (book_at b place) clock i (may_step place clock i within low asked) (told_at hosts lawful s reach place within)
+  broken_told false place clock i within low asked = told_at hosts lawful s reach place within
+
   told_moved : (move : Move) → IsMove hosts b move → MayMove b move → All IsToldStage (stages_after hosts b move)
   told_moved Move.Rests is may = reach.told
   told_moved (Move.Asks place clock i) is may = stepped_told place clock i is.0 is.1 may
@@ -237,6 +244,8 @@ module _ (hosts : List ScriptHost) (lawful : AreLawfulHosts hosts) (s : Show) (r
   told_moved (Move.Crashes c) is may =
       let kept : Bool = keeps_step c.stop.call c.stop.image in
       told_set c.place (crashed_stage c.stop (stage_at b c.place) c.clock c.asked) (cut_told kept c.place c.clock c.asked is.0 is.1 (cause_asked c.place c.cause c.asked is.2 may))
+  told_moved (Move.Breaks c kept) is may =
+      told_set c.place (cut_stage kept (stage_at b c.place) c.clock c.asked) (broken_told kept c.place c.clock c.asked is.0 is.1 (cause_asked c.place c.cause c.asked is.2 may))
 
   -- ---- letters
   module _ (place : ℕ) (within : place < length hosts) where
@@ -303,6 +312,7 @@ module _ (hosts : List ScriptHost) (lawful : AreLawfulHosts hosts) (s : Show) (r
   joined_known (Move.Lost n) is = All-nil Known
   joined_known (Move.Arms place stop) is = All-nil Known
   joined_known (Move.Crashes c) is = All-nil Known
+  joined_known (Move.Breaks c kept) is = All-nil Known
 
   letters_all : (move : Move) → IsMove hosts b move → All Known (world_after move).letters
   letters_all move is =
@@ -328,6 +338,7 @@ module _ (hosts : List ScriptHost) (lawful : AreLawfulHosts hosts) (s : Show) (r
   flying_all P all (Move.Lost n) = All-filter (λ f. not (f == n)) P s.flying all
   flying_all P all (Move.Arms place stop) = all
   flying_all P all (Move.Crashes c) = landed_all P all c.landing
+  flying_all P all (Move.Breaks c kept) = landed_all P all c.landing
 
   flying_moved : (m : ℕ) (move : Move) → IsMove hosts b move → All (λ n. IsTrue (is_sent (seen hosts (moved hosts s m move)) n)) (flying_after hosts b move)
   flying_moved m move is =

@@ -63,6 +63,7 @@ IsMove hosts b (Move.Arrives n clock) = clock ≤ greatest_moment
 IsMove hosts b (Move.Lost n) = Unit {0}
 IsMove hosts b (Move.Arms place stop) = Unit {0}
 IsMove hosts b (Move.Crashes c) = (c.place < length hosts) × (c.clock ≤ greatest_moment) × HasCause hosts b c.place c.cause c.asked
+IsMove hosts b (Move.Breaks c kept) = (c.place < length hosts) × (c.clock ≤ greatest_moment) × HasCause hosts b c.place c.cause c.asked
 
 asking_is : (hosts : List ScriptHost) (b : Seen) (place clock : ℕ) (r : Result Input Response) → place < length hosts → clock ≤ greatest_moment → ((i : Input) → r ≡ Ok i → is_client i ≡ true) → ((i : Input) → r ≡ Ok i → IsSized i)
     → IsMove hosts b (asking place clock r)
@@ -254,19 +255,13 @@ module _ (hosts : List ScriptHost) (lawful : AreLawfulHosts hosts) (s : Show) (r
   cut_letters n clock c (Some i) true = refl
   cut_letters n clock c (Some i) false = refl
 
-  module _ (c : Crash) (is : IsMove hosts b (Move.Crashes c)) where
-    abbrev kept : Bool
-    kept = keeps_step c.stop.call c.stop.image
-
+  module _ (c : Crash) (is : IsMove hosts b (Move.Crashes c)) (kept : Bool) where
     abbrev m : ℕ
     m = number_at hosts c.place
 
-    -- the stage in which the step leaves the host, and that after it is opened
+    -- the stage in which the step leaves the host
     abbrev left : Stage
     left = cut_stage kept (w.hosts m).now c.clock c.asked
-
-    abbrev opened : Stage
-    opened = step_stage (push w m left) m c.clock (config_at b c.place) input.Open
 
     cut_here : happens w (Event.Cut m c.clock c.cause kept) ≡ push w m left
     cut_here =
@@ -274,25 +269,15 @@ module _ (hosts : List ScriptHost) (lawful : AreLawfulHosts hosts) (s : Show) (r
         ∙ (ap (λ o. cut w m c.clock (w.hosts m).now.config o kept) (cause_input c.place is.0 c.cause c.asked is.2)
         ∙ cut_is m c.clock c.asked kept)
 
-    opened_is : opened ≡ crashed_stage c.stop (stage_at b c.place) c.clock c.asked
-    opened_is =
-        let here : Stage = cut_stage kept (stage_at b c.place) c.clock c.asked in
-        ap (λ x. record { config = config_at b c.place; book = step_book (config_at b c.place) x.book c.clock input.Open }) (now_same w m left)
-        ∙ (ap (λ (x : Stage). record { config = config_at b c.place; book = step_book (config_at b c.place) (cut_stage kept x c.clock c.asked).book c.clock input.Open }) (sym (stage_here c.place is.0))
-        ∙ ap (λ x. record { config = x; book = step_book x here.book c.clock input.Open }) (sym (cut_config kept (stage_at b c.place) c.clock c.asked)))
-
-    crashed_stages : present hosts (run (events_of hosts s (Move.Crashes c)) w) ≡ stages_after hosts b (Move.Crashes c)
-    crashed_stages =
+    broken_stages : present hosts (happens w (Event.Cut m c.clock c.cause kept)) ≡ set b.stages c.place (cut_stage kept (stage_at b c.place) c.clock c.asked)
+    broken_stages =
         let x = host_at hosts c.place is.0 in
-        let at = pushed_at hosts (differ hosts lawful) in
-        ap (λ v. present hosts (happens v (Event.Reopen m c.clock (config_at b c.place)))) cut_here
-        ∙ (at (push w m left) c.place x.0 x.1 m (number c.place is.0) opened
-        ∙ (ap (λ xs. set xs c.place opened) (at w c.place x.0 x.1 m (number c.place is.0) left)
-        ∙ (set-set b.stages c.place left opened
-        ∙ ap (set b.stages c.place) opened_is)))
+        ap (present hosts) cut_here
+        ∙ (pushed_at hosts (differ hosts lawful) w c.place x.0 x.1 m (number c.place is.0) left
+        ∙ ap (λ (y : Stage). set b.stages c.place (cut_stage kept y c.clock c.asked)) (sym (stage_here c.place is.0)))
 
-    crashed_letters : (run (events_of hosts s (Move.Crashes c)) w).letters ≡ w.letters
-    crashed_letters = cut_letters m c.clock (config_by w m c.cause) (input_by w m c.cause) kept
+    broken_letters : (happens w (Event.Cut m c.clock c.cause kept)).letters ≡ w.letters
+    broken_letters = cut_letters m c.clock (config_by w m c.cause) (input_by w m c.cause) kept
 
     cut_may : (cause : Cause) → HasCause hosts b c.place cause c.asked → MayAsk (config_at b c.place) cause → MayHappen w (Event.Cut m c.clock cause kept)
     cut_may (Cause.ByClient i) has may = (is.1, bounds_here c.place is.0 i may)
@@ -300,10 +285,44 @@ module _ (hosts : List ScriptHost) (lawful : AreLawfulHosts hosts) (s : Show) (r
     cut_may (Cause.ByLetter j) has may = is.1
     cut_may (Cause.ByOpening d) has may = absurd has
 
+  -- and the host is opened again
+  module _ (c : Crash) (is : IsMove hosts b (Move.Crashes c)) where
+    abbrev kept : Bool
+    kept = keeps_step c.stop.call c.stop.image
+
+    abbrev own : ℕ
+    own = number_at hosts c.place
+
+    abbrev halted : Stage
+    halted = cut_stage kept (w.hosts own).now c.clock c.asked
+
+    abbrev opened : Stage
+    opened = step_stage (push w own halted) own c.clock (config_at b c.place) input.Open
+
+    opened_is : opened ≡ crashed_stage c.stop (stage_at b c.place) c.clock c.asked
+    opened_is =
+        let here : Stage = cut_stage kept (stage_at b c.place) c.clock c.asked in
+        ap (λ x. record { config = config_at b c.place; book = step_book (config_at b c.place) x.book c.clock input.Open }) (now_same w own halted)
+        ∙ (ap (λ (x : Stage). record { config = config_at b c.place; book = step_book (config_at b c.place) (cut_stage kept x c.clock c.asked).book c.clock input.Open }) (sym (stage_here c.place is.0))
+        ∙ ap (λ x. record { config = x; book = step_book x here.book c.clock input.Open }) (sym (cut_config kept (stage_at b c.place) c.clock c.asked)))
+
+    crashed_stages : present hosts (run (events_of hosts s (Move.Crashes c)) w) ≡ stages_after hosts b (Move.Crashes c)
+    crashed_stages =
+        let x = host_at hosts c.place is.0 in
+        let at = pushed_at hosts (differ hosts lawful) in
+        ap (λ v. present hosts (happens v (Event.Reopen own c.clock (config_at b c.place)))) (cut_here c is kept)
+        ∙ (at (push w own halted) c.place x.0 x.1 own (number c.place is.0) opened
+        ∙ (ap (λ xs. set xs c.place opened) (at w c.place x.0 x.1 own (number c.place is.0) halted)
+        ∙ (set-set b.stages c.place halted opened
+        ∙ ap (set b.stages c.place) opened_is)))
+
+    crashed_letters : (run (events_of hosts s (Move.Crashes c)) w).letters ≡ w.letters
+    crashed_letters = broken_letters c is kept
+
     crash_may : MayMove b (Move.Crashes c) → MayRun w (events_of hosts s (Move.Crashes c))
     crash_may may =
-        let named = run_named (Event.Cut m c.clock c.cause kept ∷ []) w in
-        (cut_may c.cause is.2 may, ((is.1, subst (λ ns. Right ns m (config_at b c.place)) (sym named) (config_right c.place is.0)), tt))
+        let named = run_named (Event.Cut own c.clock c.cause kept ∷ []) w in
+        (cut_may c is kept c.cause is.2 may, ((is.1, subst (λ ns. Right ns own (config_at b c.place)) (sym named) (config_right c.place is.0)), tt))
 
   -- ---- every move
   pub stages_moved : (move : Move) → IsMove hosts b move → present hosts (run (events_of hosts s move) w) ≡ stages_after hosts b move
@@ -317,6 +336,7 @@ module _ (hosts : List ScriptHost) (lawful : AreLawfulHosts hosts) (s : Show) (r
   stages_moved (Move.Lost n) is = refl
   stages_moved (Move.Arms place stop) is = refl
   stages_moved (Move.Crashes c) is = crashed_stages c is
+  stages_moved (Move.Breaks c kept) is = broken_stages c is kept
 
   pub letters_moved : (move : Move) → IsMove hosts b move → (run (events_of hosts s move) w).letters ≡ reverse (joining hosts b move) ++ w.letters
   letters_moved Move.Rests is = refl
@@ -329,6 +349,7 @@ module _ (hosts : List ScriptHost) (lawful : AreLawfulHosts hosts) (s : Show) (r
   letters_moved (Move.Lost n) is = refl
   letters_moved (Move.Arms place stop) is = refl
   letters_moved (Move.Crashes c) is = crashed_letters c is
+  letters_moved (Move.Breaks c kept) is = broken_letters c is kept
 
   -- its events may happen
   pub may_moved : (move : Move) → IsMove hosts b move → MayMove b move → MayRun w (events_of hosts s move)
@@ -343,6 +364,7 @@ module _ (hosts : List ScriptHost) (lawful : AreLawfulHosts hosts) (s : Show) (r
   may_moved (Move.Lost n) is may = (tt, tt)
   may_moved (Move.Arms place stop) is may = tt
   may_moved (Move.Crashes c) is may = crash_may c is may
+  may_moved (Move.Breaks c kept) is may = (cut_may c is kept c.cause is.2 may, tt)
 
   -- ---- a move whose step may be to stop
   asks_stopped : (place clock : ℕ) (i : Input) (cause : Cause) (landing : Option ℕ) (move : Move) → place < length hosts → clock ≤ greatest_moment → HasCause hosts b place cause i → IsMove hosts b move → (o : Option Stop)
@@ -367,6 +389,7 @@ module _ (hosts : List ScriptHost) (lawful : AreLawfulHosts hosts) (s : Show) (r
   stopped_is (Move.Lost n) is = is
   stopped_is (Move.Arms place stop) is = is
   stopped_is (Move.Crashes c) is = is
+  stopped_is (Move.Breaks c kept) is = is
 
   may_stop : (place clock : ℕ) (i : Input) (cause : Cause) (landing : Option ℕ) (move : Move) → MayAsk (config_at b place) cause → MayMove b move → (o : Option Stop)
       → MayMove b (unless_crash move (option_map (λ stop. record { place = place; clock = clock; cause = cause; asked = i; landing = landing; stop = stop }) o))
@@ -388,3 +411,4 @@ module _ (hosts : List ScriptHost) (lawful : AreLawfulHosts hosts) (s : Show) (r
   stopped_may (Move.Lost n) may = may
   stopped_may (Move.Arms place stop) may = may
   stopped_may (Move.Crashes c) may = may
+  stopped_may (Move.Breaks c kept) may = may

@@ -49,6 +49,7 @@ stages_after hosts b (Move.Arrives n clock) = arrived_at hosts b clock (message 
 stages_after hosts b (Move.Lost n) = b.stages
 stages_after hosts b (Move.Arms place stop) = b.stages
 stages_after hosts b (Move.Crashes c) = set b.stages c.place (crashed_stage c.stop (stage_at b c.place) c.clock c.asked)
+stages_after hosts b (Move.Breaks c kept) = set b.stages c.place (cut_stage kept (stage_at b c.place) c.clock c.asked)
 
 -- a move at a moment
 abbrev pub moved_seen : List ScriptHost → Seen → ℕ → Move → Seen

@@ -1,7 +1,11 @@
 pub mod After
 pub mod Hosts
 pub mod Moves
+pub mod Plays
 pub mod Reaching
 pub mod Rehearsal
 pub mod Requests
+pub mod Scenes
+pub mod Seats
 pub mod Seen
+pub mod Telling

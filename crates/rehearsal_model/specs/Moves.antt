@@ -55,6 +55,8 @@ pub data Move : Type 0 where
   Arms : (place : ℕ) (stop : Stop) → Move
   -- a step stops, and its host is opened again
   Crashes : (crash : Crash) → Move
+  -- a step meets a fault of a disk, at which its host isn't opened again: it is kept, or it isn't
+  Breaks : (crash : Crash) (kept : Bool) → Move
 
 -- ---- requests
 -- one that is refused as it is read asks nothing
@@ -212,6 +214,7 @@ abbrev pub still_flying : Seen → Move → List ℕ
 still_flying b (Arrives n clock) = landed n b.flying
 still_flying b (Lost n) = landed n b.flying
 still_flying b (Crashes c) = landed_with c.landing b.flying
+still_flying b (Breaks c kept) = landed_with c.landing b.flying
 still_flying b _ = b.flying
 
 abbrev pub flying_after : List ScriptHost → Seen → Move → List ℕ

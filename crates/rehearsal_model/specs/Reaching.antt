@@ -72,4 +72,5 @@ abbrev pub MayMove : Seen → Move → Type 0
 MayMove b (Move.Asks place clock i) = IsInput (config_at b place) i
 MayMove b (Move.Tries place clock i) = IsInput (config_at b place) i
 MayMove b (Move.Crashes c) = MayAsk (config_at b c.place) c.cause
+MayMove b (Move.Breaks c kept) = MayAsk (config_at b c.place) c.cause
 MayMove b _ = Unit {0}

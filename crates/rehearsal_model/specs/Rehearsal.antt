@@ -86,6 +86,7 @@ events_of hosts s (Move.Lost n) = Event.Lose (n - 1) ∷ []
 events_of hosts s (Move.Arms place stop) = []
 events_of hosts s (Move.Crashes c) =
     Event.Cut (number_at hosts c.place) c.clock c.cause (keeps_step c.stop.call c.stop.image) ∷ Event.Reopen (number_at hosts c.place) c.clock (config_at (seen hosts s) c.place) ∷ []
+events_of hosts s (Move.Breaks c kept) = Event.Cut (number_at hosts c.place) c.clock c.cause kept ∷ []
 
 -- a move at a moment
 abbrev pub moved : List ScriptHost → Show → ℕ → Move → Show

@@ -13,6 +13,8 @@ ghost use Rattle.psched_world.specs.World.{Letter};
 ghost use Rattle.rehearsal_model.specs.After.{first_seen, seen_after};
 ghost use Rattle.rehearsal_model.specs.Moves.{Outcomes, move_of, receiver, reply_to};
 ghost use Rattle.rehearsal_model.specs.Reaching.{IsKnown, IsScriptPeer, MayMove, Reaches};
+ghost use Rattle.rehearsal_model.specs.Plays.{IsPlay, MayPlay};
+ghost use Rattle.rehearsal_model.specs.Scenes.{Play, Turns, first_play, play_line};
 ghost use Rattle.rehearsal_model.specs.Rehearsal.{Show, after, first_show, seen};
 ghost use Rattle.rehearsal_model.specs.Seen.{config_at, is_sent, message};
 
@@ -51,4 +53,11 @@ pub fn law_replied()
 /// A law: all that a rehearsal comes to is safe.
 pub fn law_rehearsed()
     ensures { (hosts : List ScriptHost) (s : Show) → AreLawfulHosts hosts → Reaches hosts s → Safe s.world }
+{}
+
+/// A law: where calls of disks may fail, a rehearsal goes on with each line, and is safe, whichever way it turns out what a fault left.
+pub fn law_played()
+    ensures first { (hosts : List ScriptHost) → AreLawfulHosts hosts → IsPlay hosts (first_play hosts) }
+    ensures line { (comes : Outcomes) (hosts : List ScriptHost) (p : Play) (line : ScriptLine) → AreLawfulHosts hosts → IsPlay hosts p → IsLawfulLine (length hosts) line → MayPlay comes hosts p line → IsPlay hosts (play_line comes hosts p line) }
+    ensures safe { (hosts : List ScriptHost) (p : Play) (turns : Turns) → AreLawfulHosts hosts → IsPlay hosts p → Safe (p.worlds turns) }
 {}

@@ -1,0 +1,365 @@
+-- What a line leaves where calls of disks may fail: a rehearsal goes on, whichever way what is loose turns out.
+use Rattle.std.specs.List.{AllByRecursion}
+use Rattle.std.specs.Prelude.{◌&&◌, All, if◌then◌else◌, max, nat_le, not, set}
+use Rattle.std.proofs.Common.{◌≡◌, ◌≤◌, ◌<◌, ◌-◌, ◌+◌, ◌∙◌, ◌∷◌, ℕ, Bool, true, false, List, [], length, None, Option, Some, ap, arith, map, refl, subst, sym, Result, Ok, Err}
+use Rattle.std.proofs.lemmas.Bool.Decides.{nat_tests}
+use Rattle.std.proofs.lemmas.List.{get_or-set_same, length-map, length-set, set-get_or, set-set}
+use Rattle.std.proofs.lemmas.List.Elements.{All-from_recursion, All-set}
+use Rattle.ps_time.specs.Numbers.{greatest_moment}
+use Rattle.ps_http.specs.declared.message.Response.{Response}
+use Rattle.host_model.specs.declared.config.Config.{Config}
+use Rattle.host_model.specs.declared.input.Input.{Input}
+use Rattle.host_model.specs.declared.input.Input.TheVariants as input
+use Rattle.host_model.specs.declared.lead.Due.{Due}
+use Rattle.machine_seat.specs.Held.{Held, armed_at, configured, fault_at, syncs}
+use Rattle.psched_world.specs.Events.{Cause, brings}
+use Rattle.psched_world.specs.World.{Letter, Stage}
+use Rattle.psched_script.specs.Lawful.{AreLawfulHosts, IsLawfulLine}
+use Rattle.psched_script.specs.declared.script.ScriptHost.{ScriptHost}
+use Rattle.psched_script.specs.declared.script.ScriptLine.{ScriptLine}
+use Rattle.psched_script.specs.declared.script.ScriptLine.TheVariants as line
+use Rattle.psched_script.specs.declared.script.Stop.{Stop}
+use Rattle.rehearsal_model.specs.After.{arrived_at, crashed_stage, moved_seen, opened_stage, stages_after}
+use Rattle.rehearsal_model.specs.Hosts.{first_config}
+use Rattle.rehearsal_model.specs.Moves.{Move, Outcomes, asking, attempt, joining, landed_with, moment_of_line, receiver, replies, still_flying, stops_after, trying}
+use Rattle.rehearsal_model.specs.Plays.{IsPlay, IsSeat, MayDeed, MayPlay, MayTry}
+use Rattle.rehearsal_model.specs.Reaching.{MayMove}
+use Rattle.rehearsal_model.specs.Rehearsal.{retooled, seen}
+use Rattle.rehearsal_model.specs.Requests.{delete, get, post}
+use Rattle.rehearsal_model.specs.Scenes.{Deed, Fork, Play, Scene, Step, Turns, archived, as_read, at_last, but, chosen_from, chosen_stage, crash_by, deed_of, fault_of, first_play, flies, has_come, is_broken, is_kept_in, kept_all, letter_number, looked, looking, looks, never, play_by, play_crashed, play_line, play_step, play_unanswered, played, plainly, reopen_fork, seat_at, seen_by, show_by, step_by, step_of, stop_fork, surely, tried, unless_broken, worlds_by}
+use Rattle.rehearsal_model.specs.Seats.{Left, done, is_before, left_behind, left_faulted, left_stopped, left_unsynced, new_left, opened_anew, opened_on, stage_with, stepped}
+use Rattle.rehearsal_model.specs.Seen.{Seen, acted, config_at, disarmed, landed, message, nobody, stage_at, stop_at}
+use Rattle.rehearsal_model.proofs.FirstLemmas.{first_is, first_reaches}
+use Rattle.rehearsal_model.proofs.MoveLemmas.{IsMove, moment_within, move_is}
+use Rattle.rehearsal_model.proofs.PlayLemmas.{CanStep, can_break, forked, may_break, may_same, move_same, replied_same, seat_each, seen_quiet, sent_same, stepped_on, stepped_same, unanswered_on}
+use Rattle.rehearsal_model.proofs.ReachLemmas.{receiver_within}
+use Rattle.rehearsal_model.proofs.SceneLemmas.{but_here, calm_seat, chosen_set, chosen_still, config_chosen, configured_chosen, configured_seat, opened_chosen, stage_chosen, unsynced_left_is}
+
+max_zero : (n : ℕ) → max n 0 ≡ n
+max_zero n = grind (arith, nat_tests)
+
+-- with other steps that are to stop
+restopped : (hosts : List ScriptHost) (p : Play) (stops : List (ℕ × Stop)) → IsPlay hosts p → IsPlay hosts (record p { scene = record p.scene { stops = stops } })
+restopped hosts p stops is = record {
+  reaches = λ t. let r = is.reaches t in record { events = r.events; may = r.may; world = r.world; configs = r.configs; orderly = r.orderly; told = r.told; letters = r.letters; flying = r.flying; last = r.last };
+  sees = λ t. ap (λ (x : Seen). record x { stops = stops }) (is.sees t);
+  seats = is.seats;
+  long = is.long;
+}
+
+-- ---- a step that is to stop
+module _ (hosts : List ScriptHost) (lawful : AreLawfulHosts hosts) (p : Play) (is : IsPlay hosts p) (m : ℕ) (low : m ≤ greatest_moment) (step : Step) (can : CanStep hosts (as_read p.scene) step) (stop : Stop) where
+  abbrev b : Scene
+  b = p.scene
+
+  abbrev place : ℕ
+  place = step.place
+
+  abbrev here : Held Stage
+  here = seat_at b place
+
+  each : (k : ℕ) → IsSeat (seat_at b k)
+  each k = seat_each b.seats is.seats k
+
+  opened_seat : (left : Left) → IsSeat (opened_on left step.clock)
+  opened_seat left = calm_seat (opened_on left step.clock) refl
+
+  -- the scene behind it, on what was left of the disks
+  abbrev behind : Left → Scene
+  behind left = record b { seats = set b.seats place (opened_on left step.clock); flying = landed_with step.landing b.flying; last = max b.last m; stops = disarmed place b.stops }
+
+  -- ---- where nothing fails before
+  module _ (kept : Bool) (cut : Stop) (left : Left) (same : crashed_stage cut (chosen_stage kept here) step.clock step.asked ≡ acted left.state step.clock input.Open) where
+    abbrev crashing : Fork
+    crashing = record { from = λ t. but t place kept; move = λ t. Move.Crashes (crash_by step cut) }
+
+    crashed_stages : (t : Turns) → stages_after hosts (seen_by (but t place kept) b) (Move.Crashes (crash_by step cut)) ≡ chosen_from t 0 (set b.seats place (opened_on left step.clock))
+    crashed_stages t =
+        ap (λ (s : Stage). set (chosen_from (but t place kept) 0 b.seats) place (crashed_stage cut s step.clock step.asked)) (stage_chosen (but t place kept) b place ∙ ap (λ (k : Bool). chosen_stage k here) (but_here t place kept))
+        ∙ (ap (set (chosen_from (but t place kept) 0 b.seats) place) (same ∙ sym (opened_chosen (t place) left step.clock))
+        ∙ sym (chosen_set t place kept b.seats (opened_on left step.clock)))
+
+    crashes_on : IsPlay hosts (record { worlds = worlds_by hosts p crashing; scene = behind left })
+    crashes_on =
+        forked hosts lawful p is m low crashing (behind left)
+        (λ t. can_break hosts b each (but t place kept) step cut can)
+        (λ t. may_break hosts b each (but t place kept) step cut can)
+        (λ t. seen_quiet hosts (seen_by (but t place kept) b) m (Move.Crashes (crash_by step cut)) (chosen_from t 0 (set b.seats place (opened_on left step.clock))) (landed_with step.landing b.flying) (disarmed place b.stops) (crashed_stages t) refl refl refl)
+        (All-set IsSeat b.seats place (opened_on left step.clock) (opened_seat left) is.seats)
+        (length-set b.seats place (opened_on left step.clock) ∙ is.long)
+
+  stopped_on : IsPlay hosts (record { worlds = worlds_by hosts p (stop_fork here step stop); scene = behind (left_stopped here step.clock step.asked stop) })
+  stopped_on = by (not here.ready && nat_le stop.call 2)
+    where
+      by : (early : Bool) → IsPlay hosts (record {
+        worlds = worlds_by hosts p (if early then record { from = λ t. but t place (is_kept_in stop.call stop.image here.loose); move = λ t. Move.Crashes (crash_by step never) } else surely place (Move.Crashes (crash_by step (record { call = stop.call - length (syncs here.ready); image = stop.image }))));
+        scene = behind (if early then left_unsynced here stop.call stop.image else left_behind here step.clock step.asked (stop.call - length (syncs here.ready)) stop.image);
+      })
+      by true = crashes_on (is_kept_in stop.call stop.image here.loose) never (left_unsynced here stop.call stop.image) (ap (λ (s : Stage). acted s step.clock input.Open) (sym (unsynced_left_is here stop.call stop.image)))
+      by false = crashes_on true (record { call = stop.call - length (syncs here.ready); image = stop.image }) (left_behind here step.clock step.asked (stop.call - length (syncs here.ready)) stop.image) refl
+
+  -- ---- where a call is to fail before
+  abbrev mid : Play
+  mid = play_unanswered hosts p step
+
+  abbrev late : Held Stage
+  late = stepped here step.clock step.asked
+
+  mid_is : IsPlay hosts mid
+  mid_is = unanswered_on hosts lawful p is 0 (omega arith) step can mid.scene (fault_of b step) (refl, refl, refl, sym (max_zero b.last), refl)
+
+  within : place < length b.seats
+  within = subst (λ (n : ℕ). place < n) (sym is.long) can.within
+
+  late_there : seat_at mid.scene place ≡ late
+  late_there = get_or-set_same b.seats place late _ within
+
+  abbrev kept_late : Bool
+  kept_late = is_kept_in 0 stop.image late.loose
+
+  abbrev left_late : Left
+  left_late = left_faulted here step.clock step.asked stop.image
+
+  reopened_stages : (t : Turns) → stages_after hosts (seen_by (but t place kept_late) mid.scene) (Move.Reopens place step.clock) ≡ chosen_from t 0 (set b.seats place (opened_on left_late step.clock))
+  reopened_stages t =
+      let stage : stage_at (seen_by (but t place kept_late) mid.scene) place ≡ chosen_stage kept_late late =
+      stage_chosen (but t place kept_late) mid.scene place ∙ (ap (λ (k : Bool). chosen_stage k (seat_at mid.scene place)) (but_here t place kept_late) ∙ ap (chosen_stage kept_late) late_there) in
+      ap (λ (s : Stage). set (chosen_from (but t place kept_late) 0 mid.scene.seats) place (acted s step.clock input.Open)) (stage ∙ sym (unsynced_left_is late 0 stop.image))
+      ∙ (ap (set (chosen_from (but t place kept_late) 0 mid.scene.seats) place) (sym (opened_chosen (t place) left_late step.clock))
+      ∙ (sym (chosen_set t place kept_late mid.scene.seats (opened_on left_late step.clock))
+      ∙ ap (chosen_from t 0) (set-set b.seats place late (opened_on left_late step.clock))))
+
+  reopened_on : IsPlay hosts (record { worlds = worlds_by hosts mid (reopen_fork late step stop.image); scene = behind left_late })
+  reopened_on =
+      restopped hosts (record { worlds = worlds_by hosts mid (reopen_fork late step stop.image); scene = record (behind left_late) { stops = b.stops } }) (disarmed place b.stops)
+      (forked hosts lawful mid mid_is m low (reopen_fork late step stop.image) (record (behind left_late) { stops = b.stops })
+      (λ t. (can.within, can.low)) (λ t. tt)
+      (λ t. seen_quiet hosts (seen_by (but t place kept_late) mid.scene) m (Move.Reopens place step.clock) (chosen_from t 0 (set b.seats place (opened_on left_late step.clock))) (landed_with step.landing b.flying) b.stops (reopened_stages t) refl refl refl)
+      (All-set IsSeat b.seats place (opened_on left_late step.clock) (opened_seat left_late) is.seats)
+      (length-set b.seats place (opened_on left_late step.clock) ∙ is.long))
+
+  pub crashed_on : IsPlay hosts (at_last m (play_crashed hosts p step stop))
+  crashed_on = by (is_before stop.call (fault_at here))
+    where
+      by : (before : Bool) → IsPlay hosts (record {
+        worlds = if before then worlds_by hosts mid (reopen_fork late step stop.image) else worlds_by hosts p (stop_fork here step stop);
+        scene = behind (if before then left_late else left_stopped here step.clock step.asked stop);
+      })
+      by true = reopened_on
+      by false = stopped_on
+
+-- ---- moves
+-- that lines make
+abbrev pub IsOfLine : Move → Type 0
+IsOfLine (Move.Reopens place clock) = ⊥
+IsOfLine (Move.Crashes c) = ⊥
+IsOfLine (Move.Breaks c kept) = ⊥
+IsOfLine _ = Unit {0}
+
+module _ (hosts : List ScriptHost) (lawful : AreLawfulHosts hosts) (p : Play) (is : IsPlay hosts p) (m : ℕ) (low : m ≤ greatest_moment) where
+  abbrev scene : Scene
+  scene = p.scene
+
+  every : (k : ℕ) → IsSeat (seat_at scene k)
+  every k = seat_each scene.seats is.seats k
+
+  -- one that makes a step
+  module _ (move : Move) (step : Step) (can : CanStep hosts (as_read scene) step) (moves : IsMove hosts (as_read scene) move) (may : MayMove (as_read scene) move)
+      (stages : (t : Turns) → stages_after hosts (seen_by (but t step.place true) scene) move ≡ chosen_from t 0 (set scene.seats step.place (done (seat_at scene step.place) step.clock step.asked)))
+      (joins : (t : Turns) → joining hosts (seen_by (but t step.place true) scene) move ≡ joining hosts (as_read scene) move)
+      (flies : (t : Turns) → still_flying (seen_by t scene) move ≡ landed_with step.landing scene.flying) (stops : (t : Turns) → stops_after (seen_by t scene) move ≡ scene.stops) where
+    step_on : IsPlay hosts (at_last m (play_step hosts p move step (stop_at (as_read scene) step.place)))
+    step_on = by (stop_at (as_read scene) step.place)
+      where
+        by : (o : Option Stop) → IsPlay hosts (at_last m (play_step hosts p move step o))
+        by None = stepped_on hosts lawful p is m low step can move moves may stages joins flies stops
+        by (Some stop) = crashed_on hosts lawful p is m low step can stop
+
+  -- one that makes none
+  rested_on : (move : Move) (later : Scene) → IsMove hosts (as_read scene) move → MayMove (as_read scene) move → ((t : Turns) → moved_seen hosts (seen_by t scene) m move ≡ seen_by t later)
+      → All IsSeat later.seats → length later.seats ≡ length hosts → IsPlay hosts (record { worlds = worlds_by hosts p (plainly move); scene = later })
+  rested_on move later moves may leaves seats long =
+      forked hosts lawful p is m low (plainly move) later (λ t. move_same hosts scene every kept_all t move moves) (λ t. may_same hosts scene every kept_all t move may) leaves seats long
+
+  -- another host at a place, which is seen as before
+  same_stages : (place : ℕ) (g : Held Stage) → ((k : Bool) → chosen_stage k g ≡ chosen_stage k (seat_at scene place)) → (t : Turns) → chosen_from t 0 scene.seats ≡ chosen_from t 0 (set scene.seats place g)
+  same_stages place g same t =
+      let xs : List Stage = chosen_from t 0 scene.seats in
+      sym (chosen_still t place scene.seats g ∙ (ap (set xs place) (same (t place) ∙ sym (stage_chosen t scene place)) ∙ set-get_or xs place nobody))
+
+  -- ---- other tools
+  module _ (place : ℕ) (tools : List (List ℕ)) where
+    abbrev config : Config
+    config = retooled tools (seat_at scene place).state.config
+
+    retooled_stages : (t : Turns) → stages_after hosts (seen_by t scene) (Move.Retools place tools) ≡ chosen_from t 0 (set scene.seats place (configured stage_with config (seat_at scene place)))
+    retooled_stages t =
+        let s : Stage = chosen_stage (t place) (seat_at scene place) in
+        ap (λ (x : Stage). set (chosen_from t 0 scene.seats) place (record { config = retooled tools x.config; book = x.book })) (stage_chosen t scene place)
+        ∙ (ap (λ (c : Config). set (chosen_from t 0 scene.seats) place (record { config = retooled tools c; book = s.book })) (config_chosen (seat_at scene place) (every place) (t place))
+        ∙ (ap (set (chosen_from t 0 scene.seats) place) (sym (configured_chosen config (seat_at scene place) (t place)))
+        ∙ sym (chosen_still t place scene.seats (configured stage_with config (seat_at scene place)))))
+
+  -- ---- a message that arrives
+  module _ (n clock : ℕ) (moves : clock ≤ greatest_moment) where
+    arrives_on : (o : Option Letter) → message (as_read scene) n ≡ o → IsPlay hosts (at_last m (play_by hosts p (Move.Arrives n clock) (step_by hosts n clock o)))
+    arrives_on None e =
+        rested_on (Move.Arrives n clock) (record scene { flying = landed n scene.flying; last = max scene.last m }) moves tt
+        (λ t. seen_quiet hosts (seen_by t scene) m (Move.Arrives n clock) (chosen_from t 0 scene.seats) (landed n scene.flying) scene.stops (ap (arrived_at hosts (seen_by t scene) clock) e) (ap (replies hosts (seen_by t scene) clock) e) refl refl)
+        is.seats is.long
+    arrives_on (Some l) e =
+        let place : ℕ = receiver hosts l in
+        let step : Step = record { place = place; clock = clock; cause = Cause.ByLetter (n - 1); asked = brings l l.reply; landing = Some n } in
+        let there : message (seen hosts (show_by kept_all p)) n ≡ Some l = ap (λ (x : Seen). message x n) (is.sees kept_all) ∙ e in
+        step_on (Move.Arrives n clock) step
+        (record { within = receiver_within hosts lawful (show_by kept_all p) (is.reaches kept_all) n l there; low = moves; has = (l, e, refl, refl); may = tt })
+        moves tt
+        (λ t. ap (arrived_at hosts (seen_by (but t place true) scene) clock) e ∙ stepped_same hosts scene place t clock (brings l l.reply) place refl)
+        (λ t. ap (replies hosts (seen_by (but t place true) scene) clock) e ∙ (replied_same hosts scene place t clock l refl l.reply ∙ sym (ap (replies hosts (as_read scene) clock) e)))
+        (λ t. refl) (λ t. refl)
+
+  -- ---- every move of a line
+  pub does_on : (move : Move) → IsOfLine move → IsMove hosts (as_read scene) move → MayMove (as_read scene) move → IsPlay hosts (at_last m (play_by hosts p move (step_of hosts (as_read scene) move)))
+  does_on Move.Rests line moves may =
+      rested_on Move.Rests (record scene { last = max scene.last m }) tt tt (λ t. seen_quiet hosts (seen_by t scene) m Move.Rests (chosen_from t 0 scene.seats) scene.flying scene.stops refl refl refl refl) is.seats is.long
+  does_on (Move.Asks place clock i) line moves may =
+      step_on (Move.Asks place clock i) (record { place = place; clock = clock; cause = Cause.ByClient i; asked = i; landing = None })
+      (record { within = moves.0; low = moves.1; has = (refl, moves.2, moves.3); may = may }) moves may
+      (λ t. stepped_same hosts scene place t clock i place refl) (λ t. refl) (λ t. refl) (λ t. refl)
+  does_on (Move.Tries place clock i) line moves may =
+      step_on (Move.Tries place clock i) (record { place = place; clock = clock; cause = Cause.ByInner i; asked = i; landing = None })
+      (record { within = moves.0; low = moves.1; has = (refl, moves.2); may = may }) moves may
+      (λ t. stepped_same hosts scene place t clock i place refl) (λ t. refl) (λ t. refl) (λ t. refl)
+  does_on (Move.Turns place clock) line moves may =
+      step_on (Move.Turns place clock) (record { place = place; clock = clock; cause = Cause.ByInner input.Turn; asked = input.Turn; landing = None })
+      (record { within = moves.0; low = moves.1; has = (refl, refl); may = tt }) moves may
+      (λ t. stepped_same hosts scene place t clock input.Turn place refl) (λ t. sent_same hosts scene place t clock) (λ t. refl) (λ t. refl)
+  does_on (Move.Retools place tools) line moves may =
+      let c : Config = retooled tools (seat_at scene place).state.config in
+      rested_on (Move.Retools place tools) (record scene { seats = set scene.seats place (configured stage_with c (seat_at scene place)); last = max scene.last m }) moves tt
+      (λ t. seen_quiet hosts (seen_by t scene) m (Move.Retools place tools) (chosen_from t 0 (set scene.seats place (configured stage_with c (seat_at scene place)))) scene.flying scene.stops (retooled_stages place tools t) refl refl refl)
+      (All-set IsSeat scene.seats place (configured stage_with c (seat_at scene place)) (configured_seat c (seat_at scene place)) is.seats) (length-set scene.seats place (configured stage_with c (seat_at scene place)) ∙ is.long)
+  does_on (Move.Reopens place clock) line moves may = absurd line
+  does_on (Move.Arrives n clock) line moves may = arrives_on n clock moves (message (as_read scene) n) refl
+  does_on (Move.Lost n) line moves may =
+      rested_on (Move.Lost n) (record scene { flying = landed n scene.flying; last = max scene.last m }) tt tt (λ t. seen_quiet hosts (seen_by t scene) m (Move.Lost n) (chosen_from t 0 scene.seats) (landed n scene.flying) scene.stops refl refl refl refl) is.seats is.long
+  does_on (Move.Arms place stop) line moves may =
+      let stops = stops_after (as_read scene) (Move.Arms place stop) in
+      rested_on (Move.Arms place stop) (record scene { stops = stops; last = max scene.last m }) tt tt (λ t. seen_quiet hosts (seen_by t scene) m (Move.Arms place stop) (chosen_from t 0 scene.seats) scene.flying stops refl refl refl refl) is.seats is.long
+  does_on (Move.Crashes c) line moves may = absurd line
+  does_on (Move.Breaks c kept) line moves may = absurd line
+
+  -- ---- what else a line does
+  pub fails_on : (place call : ℕ) → IsPlay hosts (played hosts p m (Deed.Fails place call))
+  fails_on place call =
+      let g : Held Stage = armed_at (seat_at scene place) call in
+      rested_on Move.Rests (record scene { seats = set scene.seats place g; last = max scene.last m }) tt tt
+      (λ t. seen_quiet hosts (seen_by t scene) m Move.Rests (chosen_from t 0 (set scene.seats place g)) scene.flying scene.stops (same_stages place g (λ k. refl) t) refl refl refl)
+      (All-set IsSeat scene.seats place g (every place) is.seats) (length-set scene.seats place g ∙ is.long)
+
+  pub hears_on : (n : ℕ) → IsPlay hosts (played hosts p m (Deed.Hears n))
+  hears_on n =
+      rested_on Move.Rests (record scene { unheard = landed n scene.unheard; last = max scene.last m }) tt tt (λ t. seen_quiet hosts (seen_by t scene) m Move.Rests (chosen_from t 0 scene.seats) scene.flying scene.stops refl refl refl refl) is.seats is.long
+
+-- ---- the first one
+first_chosen : (hosts hs : List ScriptHost) (t : Turns) (at : ℕ) → chosen_from t at (map (λ h. opened_anew (first_config hosts h)) hs) ≡ map (opened_stage hosts) hs
+first_chosen hosts [] t at = refl
+first_chosen hosts (h ∷ hs) t at =
+    ap (λ (s : Stage). s ∷ chosen_from t (at + 1) (map (λ g. opened_anew (first_config hosts g)) hs)) (opened_chosen (t at) (new_left (first_config hosts h)) 0)
+    ∙ ap (λ xs. opened_stage hosts h ∷ xs) (first_chosen hosts hs t (at + 1))
+
+calm_seats : (hosts hs : List ScriptHost) → AllByRecursion IsSeat (map (λ h. opened_anew (first_config hosts h)) hs)
+calm_seats hosts [] = tt
+calm_seats hosts (h ∷ hs) = (calm_seat (opened_anew (first_config hosts h)) refl, calm_seats hosts hs)
+
+pub first_on : (hosts : List ScriptHost) → AreLawfulHosts hosts → IsPlay hosts (first_play hosts)
+first_on hosts lawful = record {
+  reaches = λ t. first_reaches hosts lawful;
+  sees = λ t. first_is hosts lawful ∙ ap (λ xs. record { stages = xs; letters = []; flying = []; last = 0; stops = [] }) (sym (first_chosen hosts hosts t 0));
+  seats = All-from_recursion IsSeat (map (λ h. opened_anew (first_config hosts h)) hosts) (calm_seats hosts hosts);
+  long = length-map hosts (λ h. opened_anew (first_config hosts h));
+}
+
+-- ---- lines
+abbrev IsDeed : List ScriptHost → Scene → Deed → Type 0
+IsDeed hosts b (Deed.Does move) = IsOfLine move × IsMove hosts (as_read b) move
+IsDeed hosts b _ = Unit {0}
+
+asking_line : (place clock : ℕ) (r : Result Input Response) → IsOfLine (asking place clock r)
+asking_line place clock (Ok i) = tt
+asking_line place clock (Err response) = tt
+
+trying_line : (comes : Outcomes) (place clock : ℕ) (o : Option Due) → IsOfLine (trying comes place clock o)
+trying_line comes place clock None = tt
+trying_line comes place clock (Some d) = tt
+
+either_deed : (hosts : List ScriptHost) (b : Scene) (t : Bool) (x y : Deed) → IsDeed hosts b x → IsDeed hosts b y → IsDeed hosts b (if t then x else y)
+either_deed hosts b true x y one two = one
+either_deed hosts b false x y one two = two
+
+module _ (comes : Outcomes) (hosts : List ScriptHost) (b : Scene) (low : b.last ≤ greatest_moment) where
+  deed_is : (l : ScriptLine) → IsLawfulLine (length hosts) l → IsDeed hosts b (deed_of comes b l)
+  deed_is (line.Host place) is = (tt, tt)
+  deed_is (line.Tools host tools) is = (tt, move_is comes hosts (as_read b) low (line.Tools host tools) is)
+  deed_is (line.Limits host limits) is = (tt, move_is comes hosts (as_read b) low (line.Limits host limits) is)
+  deed_is (line.Book at host class priority start len) is = (tt, move_is comes hosts (as_read b) low (line.Book at host class priority start len) is)
+  deed_is (line.Post at host address body) is = (asking_line host at (post (config_at (as_read b) host) address body at), move_is comes hosts (as_read b) low (line.Post at host address body) is)
+  deed_is (line.Get at host path) is = (asking_line host at (get (config_at (as_read b) host) path at), move_is comes hosts (as_read b) low (line.Get at host path) is)
+  deed_is (line.Delete at host address path) is = (asking_line host at (delete (config_at (as_read b) host) address path at), move_is comes hosts (as_read b) low (line.Delete at host address path) is)
+  deed_is (line.Turn at host) is = (tt, move_is comes hosts (as_read b) low (line.Turn at host) is)
+  deed_is (line.Archive at host) is = (trying_line comes host at (attempt (as_read b) host at), move_is comes hosts (as_read b) low (line.Archive at host) is)
+  deed_is (line.Crash at host stop) is = (tt, tt)
+  deed_is (line.Deliver at n) is =
+      either_deed hosts b (flies b n) (unless_broken b n (Deed.Hears n) (Deed.Does (Move.Arrives (letter_number b n) at))) (Deed.Does Move.Rests)
+      (either_deed hosts b (is_broken b n) (Deed.Hears n) (Deed.Does (Move.Arrives (letter_number b n) at)) tt (tt, is)) (tt, tt)
+  deed_is (line.Repeat at n) is =
+      either_deed hosts b (has_come b n) (unless_broken b n (Deed.Does Move.Rests) (Deed.Does (Move.Arrives (letter_number b n) at))) (Deed.Does Move.Rests)
+      (either_deed hosts b (is_broken b n) (Deed.Does Move.Rests) (Deed.Does (Move.Arrives (letter_number b n) at)) (tt, tt) (tt, is)) (tt, tt)
+  deed_is (line.Lose n) is =
+      either_deed hosts b (flies b n) (unless_broken b n (Deed.Hears n) (Deed.Does (Move.Lost (letter_number b n)))) (Deed.Does Move.Rests)
+      (either_deed hosts b (is_broken b n) (Deed.Hears n) (Deed.Does (Move.Lost (letter_number b n))) tt (tt, tt)) (tt, tt)
+
+module _ (comes : Outcomes) (hosts : List ScriptHost) (lawful : AreLawfulHosts hosts) (p : Play) (is : IsPlay hosts p) where
+  last_low : p.scene.last ≤ greatest_moment
+  last_low = (is.reaches kept_all).last
+
+  deed_on : (m : ℕ) → m ≤ greatest_moment → (deed : Deed) → IsDeed hosts p.scene deed → MayDeed (as_read p.scene) deed → IsPlay hosts (played hosts p m deed)
+  deed_on m low (Deed.Does move) deed may = does_on hosts lawful p is m low move deed.0 deed.1 may
+  deed_on m low (Deed.Fails place call) deed may = fails_on hosts lawful p is m low place call
+  deed_on m low (Deed.Hears n) deed may = hears_on hosts lawful p is m low n
+
+  tried_on : (place clock : ℕ) → clock ≤ greatest_moment → place < length hosts → MayTry comes p place clock → IsPlay hosts (tried comes hosts p place clock)
+  tried_on place clock low within may =
+      does_on hosts lawful p is clock low (trying comes place clock (attempt (as_read p.scene) place clock)) (trying_line comes place clock (attempt (as_read p.scene) place clock))
+      (move_is comes hosts (as_read p.scene) last_low (line.Archive clock place) (low, within)) may
+
+  looked_on : (place clock : ℕ) → clock ≤ greatest_moment → place < length hosts → IsPlay hosts (looked hosts p place clock)
+  looked_on place clock low within = does_on hosts lawful p is clock low (looking place clock) tt (within, low, refl, tt) tt
+
+module _ (comes : Outcomes) (hosts : List ScriptHost) (lawful : AreLawfulHosts hosts) (p : Play) (is : IsPlay hosts p) where
+  archived_on : (place clock : ℕ) → clock ≤ greatest_moment → place < length hosts → MayPlay comes hosts p (line.Archive clock place) → IsPlay hosts (archived comes hosts p place clock)
+  archived_on place clock low within may = by (seat_at p.scene place).ready (looks p.scene place clock) refl
+    where
+      by : (ready answered : Bool) → (seat_at p.scene place).ready ≡ ready
+          → IsPlay hosts (if ready then tried comes hosts p place clock else (if answered then tried comes hosts (looked hosts p place clock) place clock else looked hosts p place clock))
+      by true answered e = tried_on comes hosts lawful p is place clock low within (may.0 e)
+      by false true e = tried_on comes hosts lawful (looked hosts p place clock) (looked_on comes hosts lawful p is place clock low within) place clock low within (may.1 e)
+      by false false e = looked_on comes hosts lawful p is place clock low within
+
+  plain_on : (l : ScriptLine) → IsLawfulLine (length hosts) l → MayDeed (as_read p.scene) (deed_of comes p.scene l) → IsPlay hosts (played hosts p (moment_of_line l) (deed_of comes p.scene l))
+  plain_on l law may = deed_on comes hosts lawful p is (moment_of_line l) (moment_within (length hosts) l law) (deed_of comes p.scene l) (deed_is comes hosts p.scene (last_low comes hosts lawful p is) l law) may
+
+  pub line_on : (l : ScriptLine) → IsLawfulLine (length hosts) l → MayPlay comes hosts p l → IsPlay hosts (play_line comes hosts p l)
+  line_on (line.Archive at host) law may = archived_on host at law.0 law.1 may
+  line_on (line.Host place) law may = plain_on (line.Host place) law may
+  line_on (line.Tools host tools) law may = plain_on (line.Tools host tools) law may
+  line_on (line.Limits host limits) law may = plain_on (line.Limits host limits) law may
+  line_on (line.Book at host class priority start len) law may = plain_on (line.Book at host class priority start len) law may
+  line_on (line.Post at host address body) law may = plain_on (line.Post at host address body) law may
+  line_on (line.Get at host path) law may = plain_on (line.Get at host path) law may
+  line_on (line.Delete at host address path) law may = plain_on (line.Delete at host address path) law may
+  line_on (line.Turn at host) law may = plain_on (line.Turn at host) law may
+  line_on (line.Crash at host stop) law may = plain_on (line.Crash at host stop) law may
+  line_on (line.Deliver at n) law may = plain_on (line.Deliver at n) law may
+  line_on (line.Repeat at n) law may = plain_on (line.Repeat at n) law may
+  line_on (line.Lose n) law may = plain_on (line.Lose n) law may

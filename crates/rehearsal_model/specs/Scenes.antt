@@ -1,0 +1,359 @@
+-- What a script sees where calls of disks may fail, and the worlds that this may be: what a fault left of a step is found out later.
+use Rattle.std.specs.Prelude.{◌&&◌, ◌+◌, ◌++◌, ◌-◌, ◌==◌, ◌∷◌, Bool, List, None, Option, Some, [], false, filter, if◌then◌else◌, length, map, max, nat_le, nat_lt, not, set, slice_index_or, true, ℕ}
+use Rattle.std.specs.List.{list_any}
+use Rattle.ps_disks.specs.declared.image.Image.{Image}
+use Rattle.ps_disks.specs.declared.image.Image.TheVariants.{Old}
+use Rattle.host_journal.specs.Crash.{is_new}
+use Rattle.host_model.specs.declared.input.Input.{Input}
+use Rattle.host_model.specs.declared.input.Input.TheVariants as input
+use Rattle.host_model.specs.declared.view.Page.TheVariants as page
+use Rattle.host_model.specs.declared.reply.Reply.{Reply}
+use Rattle.machine_seat.specs.Crashed.{loose_in}
+use Rattle.machine_seat.specs.Held.{Held, Loose, armed_at, configured, fault_at, syncs}
+use Rattle.psched_world.specs.Events.{Cause, brings}
+use Rattle.psched_world.specs.World.{Letter, Stage, World}
+use Rattle.psched_script.specs.declared.script.ScriptHost.{ScriptHost}
+use Rattle.psched_script.specs.declared.script.ScriptLine.{ScriptLine}
+use Rattle.psched_script.specs.declared.script.ScriptLine.TheVariants as line
+use Rattle.psched_script.specs.declared.script.Stop.{Stop}
+use Rattle.rehearsal_model.specs.Hosts.{first_config}
+use Rattle.rehearsal_model.specs.Moves.{Crash, Move, Outcomes, attempt, flying_after, joining, landed_with, moment_of_line, move_of, receiver, stops_after, trying}
+use Rattle.rehearsal_model.specs.Rehearsal.{Show, first_world, moved, retooled}
+use Rattle.rehearsal_model.specs.Seats.{calm_on, crashed_at, fault_in, is_before, new_place, opened_anew, stage_with, stepped}
+use Rattle.rehearsal_model.specs.Seen.{Seen, disarmed, landed, message, nobody, stop_at}
+
+pub record Scene : Type 0 where
+  -- the hosts, in the order of their declaration
+  pub seats : List (Held Stage)
+  -- the messages of the world, in the order in which they were sent
+  pub letters : List Letter
+  -- which of them are in flight, by their places among them, from 1 on, ascending
+  pub flying : List ℕ
+  -- the greatest moment of the moves so far; 0 at first
+  pub last : ℕ
+  -- the places of the hosts whose next step is to stop, and where it is to
+  pub stops : List (ℕ × Stop)
+  -- The numbers of the answers that a fault took the place of, ascending: messages of the script alone. And of those in flight.
+  pub broken : List ℕ
+  pub unheard : List ℕ
+
+-- a place without a host is read as one that never acts
+abbrev pub nobody_seat : Held Stage
+nobody_seat = calm_on (record { state = nobody; place = new_place })
+
+abbrev pub seat_in : List (Held Stage) → ℕ → Held Stage
+seat_in seats place = slice_index_or seats place nobody_seat
+
+abbrev pub seat_at : Scene → ℕ → Held Stage
+seat_at b place = seat_in b.seats place
+
+-- ---- what was loose is kept, or it isn't: that turns out for each host by its place
+abbrev pub Turns : Type 0
+Turns = ℕ → Bool
+
+abbrev pub loose_stage : Stage → Option (Loose Stage) → Stage
+loose_stage s None = s
+loose_stage s (Some l) = l.state
+
+abbrev pub chosen_stage : Bool → Held Stage → Stage
+chosen_stage kept h = if kept then h.state else loose_stage h.state h.loose
+
+-- of hosts of which the first has this place
+abbrev pub chosen_from : Turns → ℕ → List (Held Stage) → List Stage
+chosen_from turns place [] = []
+chosen_from turns place (h ∷ hs) = chosen_stage (turns place) h ∷ chosen_from turns (place + 1) hs
+
+-- what is seen as it turns out so
+abbrev pub seen_by : Turns → Scene → Seen
+seen_by turns b = record { stages = chosen_from turns 0 b.seats; letters = b.letters; flying = b.flying; last = b.last; stops = b.stops }
+
+-- as the disks read
+abbrev pub kept_all : Turns
+kept_all place = true
+
+abbrev pub as_read : Scene → Seen
+as_read b = seen_by kept_all b
+
+-- it turns out so for the host at the place
+abbrev pub but : Turns → ℕ → Bool → Turns
+but turns place kept = λ p. if p == place then kept else turns p
+
+-- ---- numbers of messages
+-- those of the world and those of the script alone are numbered together
+abbrev pub count_sent : Scene → ℕ
+count_sent b = length b.letters + length b.broken
+
+abbrev pub is_broken : Scene → ℕ → Bool
+is_broken b n = list_any (λ k. k == n) b.broken
+
+-- the place of the message of a number among those of the world
+abbrev pub letter_number : Scene → ℕ → ℕ
+letter_number b n = n - length (filter (λ k. nat_lt k n) b.broken)
+
+abbrev pub was_sent : Scene → ℕ → Bool
+was_sent b n = nat_le 1 n && nat_le n (count_sent b)
+
+abbrev pub flies : Scene → ℕ → Bool
+flies b n = if is_broken b n then list_any (λ k. k == n) b.unheard else list_any (λ k. k == letter_number b n) b.flying
+
+abbrev pub has_come : Scene → ℕ → Bool
+has_come b n = was_sent b n && not (flies b n)
+
+-- ---- steps
+-- of the host at a place, at a clock, by what it came, and what it was asked; and the message of the world that brought it
+pub record Step : Type 0 where
+  pub place : ℕ
+  pub clock : ℕ
+  pub cause : Cause
+  pub asked : Input
+  pub landing : Option ℕ
+
+abbrev pub step_by : List ScriptHost → ℕ → ℕ → Option Letter → Option Step
+step_by hosts n clock None = None
+step_by hosts n clock (Some l) = Some (record { place = receiver hosts l; clock = clock; cause = Cause.ByLetter (n - 1); asked = brings l l.reply; landing = Some n })
+
+-- the step that a move makes
+abbrev pub step_of : List ScriptHost → Seen → Move → Option Step
+step_of hosts b (Move.Asks place clock i) = Some (record { place = place; clock = clock; cause = Cause.ByClient i; asked = i; landing = None })
+step_of hosts b (Move.Tries place clock i) = Some (record { place = place; clock = clock; cause = Cause.ByInner i; asked = i; landing = None })
+step_of hosts b (Move.Turns place clock) = Some (record { place = place; clock = clock; cause = Cause.ByInner input.Turn; asked = input.Turn; landing = None })
+step_of hosts b (Move.Arrives n clock) = step_by hosts n clock (message b n)
+step_of hosts b _ = None
+
+-- an order is to be answered, a reply isn't
+abbrev pub is_unanswered : Option Reply → Bool
+is_unanswered None = true
+is_unanswered (Some said) = false
+
+abbrev pub is_order : Option Letter → Bool
+is_order None = false
+is_order (Some l) = is_unanswered l.reply
+
+abbrev pub brings_order : Seen → Move → Bool
+brings_order b (Move.Arrives n clock) = is_order (message b n)
+brings_order b _ = false
+
+abbrev pub crash_by : Step → Stop → Crash
+crash_by step stop = record { place = step.place; clock = step.clock; cause = step.cause; asked = step.asked; landing = step.landing; stop = stop }
+
+-- ---- worlds
+-- how far a rehearsal has come: what is seen, and the world that it is, as what is loose turns out
+pub record Play : Type 0 where
+  pub worlds : Turns → World
+  pub scene : Scene
+
+abbrev pub show_by : Turns → Play → Show
+show_by turns p = record { world = p.worlds turns; flying = p.scene.flying; last = p.scene.last; stops = p.scene.stops }
+
+-- A move, as what is loose turns out; and how what was loose before turned out then.
+pub record Fork : Type 0 where
+  pub from : Turns → Turns
+  pub move : Turns → Move
+
+abbrev pub worlds_by : List ScriptHost → Play → Fork → Turns → World
+worlds_by hosts p f turns = (moved hosts (show_by (f.from turns) p) 0 (f.move turns)).world
+
+-- what is loose stays so
+abbrev pub plainly : Move → Fork
+plainly move = record { from = λ turns. turns; move = λ turns. move }
+
+-- the disks of the host at the place were synced first: what was loose of them is kept
+abbrev pub surely : ℕ → Move → Fork
+surely place move = record { from = λ turns. but turns place true; move = λ turns. move }
+
+-- a stop by which no step is kept
+abbrev pub never : Stop
+never = record { call = 0; image = Old }
+
+-- The call of this number behind the syncs failed: in its fourth the step may be kept, behind it it is.
+abbrev pub keeps_broken : ℕ → Bool → Bool
+keeps_broken number kept = if number == 4 then kept else nat_lt 3 number
+
+abbrev pub broken_fork : Step → ℕ → Fork
+broken_fork step number = record { from = λ turns. but turns step.place true; move = λ turns. Move.Breaks (crash_by step never) (keeps_broken number (turns step.place)) }
+
+-- A sync failed: nothing happens, but that a message lands. The first sync may have made sure of what was loose.
+abbrev pub is_synced : ℕ → Option (Loose Stage) → Bool
+is_synced number None = false
+is_synced number (Some l) = nat_lt 1 number && not l.second
+
+abbrev pub landing_move : Option ℕ → Move
+landing_move None = Move.Rests
+landing_move (Some n) = Move.Lost n
+
+abbrev pub unsynced_fork : Step → ℕ → Option (Loose Stage) → Fork
+unsynced_fork step number loose = record { from = λ turns. but turns step.place (if is_synced number loose then true else turns step.place); move = λ turns. landing_move step.landing }
+
+abbrev pub fault_fork : Held Stage → Step → ℕ → Fork
+fault_fork h step number = if nat_lt (length (syncs h.ready)) number then broken_fork step (number - length (syncs h.ready)) else unsynced_fork step number h.loose
+
+-- the move, or a fault of its step in the call of this number
+abbrev pub step_fork : Held Stage → Step → Move → Option ℕ → Fork
+step_fork h step move None = surely step.place move
+step_fork h step move (Some number) = fault_fork h step number
+
+-- ---- a step that isn't to stop
+abbrev pub fault_of : Scene → Step → Option ℕ
+fault_of b step = fault_in (seat_at b step.place) step.clock step.asked
+
+abbrev pub unless_fault : Option ℕ → List Letter → List Letter
+unless_fault None letters = letters
+unless_fault (Some number) letters = []
+
+-- the number of the answer that a fault takes the place of
+abbrev pub lost_answer : Option ℕ → Bool → ℕ → List ℕ
+lost_answer None order number = []
+lost_answer (Some fault) order number = if order then number ∷ [] else []
+
+abbrev pub flying_then : Seen → Move → Step → List ℕ → Option ℕ → List ℕ
+flying_then b move step more None = more
+flying_then b move step more (Some number) = landed_with step.landing b.flying
+
+abbrev pub scene_stepped : List ScriptHost → Scene → Move → Step → Scene
+scene_stepped hosts b move step = record {
+  seats = set b.seats step.place (stepped (seat_at b step.place) step.clock step.asked);
+  letters = b.letters ++ unless_fault (fault_of b step) (joining hosts (as_read b) move);
+  flying = flying_then (as_read b) move step (flying_after hosts (as_read b) move) (fault_of b step);
+  last = b.last;
+  stops = b.stops;
+  broken = b.broken ++ lost_answer (fault_of b step) (brings_order (as_read b) move) (count_sent b + 1);
+  unheard = b.unheard ++ lost_answer (fault_of b step) (brings_order (as_read b) move) (count_sent b + 1);
+}
+
+abbrev pub play_stepped : List ScriptHost → Play → Move → Step → Play
+play_stepped hosts p move step = record {
+  worlds = worlds_by hosts p (step_fork (seat_at p.scene step.place) step move (fault_of p.scene step));
+  scene = scene_stepped hosts p.scene move step;
+}
+
+-- ---- a step that is to stop
+-- how what is loose turns out in an image
+abbrev pub is_kept_in : ℕ → Image → Option (Loose Stage) → Bool
+is_kept_in stop image None = true
+is_kept_in stop image (Some l) = is_new (loose_in stop l.second image)
+
+abbrev pub stop_fork : Held Stage → Step → Stop → Fork
+stop_fork h step stop =
+    if not h.ready && nat_le stop.call 2 then record { from = λ turns. but turns step.place (is_kept_in stop.call stop.image h.loose); move = λ turns. Move.Crashes (crash_by step never) }
+    else surely step.place (Move.Crashes (crash_by step (record { call = stop.call - length (syncs h.ready); image = stop.image })))
+
+-- a step that is made and not answered, or meets a fault
+abbrev pub unanswered_fork : Held Stage → Step → Option ℕ → Fork
+unanswered_fork h step None = surely step.place (Move.Breaks (crash_by step never) true)
+unanswered_fork h step (Some number) = fault_fork h step number
+
+-- what is loose turns out in the image, and the host is opened again
+abbrev pub reopen_fork : Held Stage → Step → Image → Fork
+reopen_fork h step image = record { from = λ turns. but turns step.place (is_kept_in 0 image h.loose); move = λ turns. Move.Reopens step.place step.clock }
+
+-- after such a step the message that brought it has landed
+abbrev pub scene_unanswered : Scene → Step → Scene
+scene_unanswered b step = record b {
+  seats = set b.seats step.place (stepped (seat_at b step.place) step.clock step.asked);
+  flying = landed_with step.landing b.flying;
+}
+
+abbrev pub play_unanswered : List ScriptHost → Play → Step → Play
+play_unanswered hosts p step = record {
+  worlds = worlds_by hosts p (unanswered_fork (seat_at p.scene step.place) step (fault_of p.scene step));
+  scene = scene_unanswered p.scene step;
+}
+
+abbrev pub scene_crashed : Scene → Step → Stop → Scene
+scene_crashed b step stop = record b {
+  seats = set b.seats step.place (crashed_at (seat_at b step.place) step.clock step.asked stop);
+  flying = landed_with step.landing b.flying;
+  stops = disarmed step.place b.stops;
+}
+
+abbrev pub worlds_crashed : List ScriptHost → Play → Step → Stop → Turns → World
+worlds_crashed hosts p step stop =
+    if is_before stop.call (fault_at (seat_at p.scene step.place))
+    then worlds_by hosts (play_unanswered hosts p step) (reopen_fork (stepped (seat_at p.scene step.place) step.clock step.asked) step stop.image)
+    else worlds_by hosts p (stop_fork (seat_at p.scene step.place) step stop)
+
+abbrev pub play_crashed : List ScriptHost → Play → Step → Stop → Play
+play_crashed hosts p step stop = record { worlds = worlds_crashed hosts p step stop; scene = scene_crashed p.scene step stop }
+
+-- ---- moves
+abbrev pub play_step : List ScriptHost → Play → Move → Step → Option Stop → Play
+play_step hosts p move step None = play_stepped hosts p move step
+play_step hosts p move step (Some stop) = play_crashed hosts p step stop
+
+-- moves that make no step
+abbrev pub scene_rested : Scene → Move → Scene
+scene_rested b (Move.Retools place tools) = record b { seats = set b.seats place (configured stage_with (retooled tools (seat_at b place).state.config) (seat_at b place)) }
+scene_rested b (Move.Arrives n clock) = record b { flying = landed n b.flying }
+scene_rested b (Move.Lost n) = record b { flying = landed n b.flying }
+scene_rested b (Move.Arms place stop) = record b { stops = stops_after (as_read b) (Move.Arms place stop) }
+scene_rested b _ = b
+
+abbrev pub play_by : List ScriptHost → Play → Move → Option Step → Play
+play_by hosts p move None = record { worlds = worlds_by hosts p (plainly move); scene = scene_rested p.scene move }
+play_by hosts p move (Some step) = play_step hosts p move step (stop_at (as_read p.scene) step.place)
+
+-- what a line does
+pub data Deed : Type 0 where
+  Does : (move : Move) → Deed
+  -- of each disk of the host at the place the call of this number is to fail, counted from 1 from now on; none for 0
+  Fails : (place call : ℕ) → Deed
+  -- an answer that a fault took the place of comes, or is lost
+  Hears : (number : ℕ) → Deed
+
+abbrev pub play_deed : List ScriptHost → Play → Deed → Play
+play_deed hosts p (Does move) = play_by hosts p move (step_of hosts (as_read p.scene) move)
+play_deed hosts p (Fails place call) = record p { scene = record p.scene { seats = set p.scene.seats place (armed_at (seat_at p.scene place) call) } }
+play_deed hosts p (Hears n) = record p { scene = record p.scene { unheard = landed n p.scene.unheard } }
+
+-- at a moment
+abbrev pub at_last : ℕ → Play → Play
+at_last m p = record p { scene = record p.scene { last = max p.scene.last m } }
+
+abbrev pub played : List ScriptHost → Play → ℕ → Deed → Play
+played hosts p m deed = at_last m (play_deed hosts p deed)
+
+-- ---- the first one
+abbrev pub first_scene : List ScriptHost → Scene
+first_scene hosts = record { seats = map (λ h. opened_anew (first_config hosts h)) hosts; letters = []; flying = []; last = 0; stops = []; broken = []; unheard = [] }
+
+-- all hosts of the script are opened at moment 0, before its first line
+abbrev pub first_play : List ScriptHost → Play
+first_play hosts = record { worlds = λ turns. first_world hosts; scene = first_scene hosts }
+
+-- ---- lines
+abbrev pub unless_broken : Scene → ℕ → Deed → Deed → Deed
+unless_broken b n other deed = if is_broken b n then other else deed
+
+abbrev pub deed_of : Outcomes → Scene → ScriptLine → Deed
+deed_of comes b (line.Deliver at n) = if flies b n then unless_broken b n (Hears n) (Does (Move.Arrives (letter_number b n) at)) else Does Move.Rests
+deed_of comes b (line.Repeat at n) = if has_come b n then unless_broken b n (Does Move.Rests) (Does (Move.Arrives (letter_number b n) at)) else Does Move.Rests
+deed_of comes b (line.Lose n) = if flies b n then unless_broken b n (Hears n) (Does (Move.Lost (letter_number b n))) else Does Move.Rests
+deed_of comes b l = Does (move_of comes (as_read b) l)
+
+-- somebody looks at the first page of a host
+abbrev pub looking : ℕ → ℕ → Move
+looking place clock = Move.Asks place clock (input.View page.Home)
+
+-- whether such a step is answered
+abbrev pub is_answered : Option Stop → Option ℕ → Bool
+is_answered None None = true
+is_answered stop fault = false
+
+abbrev pub looks : Scene → ℕ → ℕ → Bool
+looks b place clock = is_answered (stop_at (as_read b) place) (fault_in (seat_at b place) clock (input.View page.Home))
+
+-- After a fault a host that is to try an archive first finds out what stands.
+abbrev pub tried : Outcomes → List ScriptHost → Play → ℕ → ℕ → Play
+tried comes hosts p place clock = played hosts p clock (Does (trying comes place clock (attempt (as_read p.scene) place clock)))
+
+abbrev pub looked : List ScriptHost → Play → ℕ → ℕ → Play
+looked hosts p place clock = played hosts p clock (Does (looking place clock))
+
+abbrev pub archived : Outcomes → List ScriptHost → Play → ℕ → ℕ → Play
+archived comes hosts p place clock =
+    if (seat_at p.scene place).ready then tried comes hosts p place clock
+    else (if looks p.scene place clock then tried comes hosts (looked hosts p place clock) place clock else looked hosts p place clock)
+
+abbrev pub play_line : Outcomes → List ScriptHost → Play → ScriptLine → Play
+play_line comes hosts p (line.Archive at host) = archived comes hosts p host at
+play_line comes hosts p l = played hosts p (moment_of_line l) (deed_of comes p.scene l)
