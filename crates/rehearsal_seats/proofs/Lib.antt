@@ -1,1 +1,1 @@
-mod SeatLemmas
+pub mod SeatLemmas

@@ -1,5 +1,6 @@
 //! A host of a script as it stands, kept on two disks in memory.
 ghost use Rattle.std.specs.Prelude.{◌≡◌, ◌≤◌, IfOk, OnOk};
+ghost use Rattle.ps_disks.specs.Run.{IsArmed};
 ghost use Rattle.ps_time.specs.declared.moment.TheConstants.{MAX_MOMENT};
 ghost use Rattle.host_journal.specs.Pair.{pair_of};
 ghost use Rattle.host_model.specs.Book.{Book, empty_book};
@@ -164,8 +165,8 @@ impl Seat {
     }
 }
 
-// The configuration with other tools.
-fn with_tools(alloc: Global, config: &Config, tools: Items<Text>) -> Result<Config, Memory>
+/// The configuration with other tools.
+pub fn with_tools(alloc: Global, config: &Config, tools: Items<Text>) -> Result<Config, Memory>
     ensures { IfOk result (λ made. made ≡ retooled tools config.now) }
 {
     match config.copy(alloc) {
@@ -180,8 +181,11 @@ fn with_tools(alloc: Global, config: &Config, tools: Items<Text>) -> Result<Conf
     }
 }
 
-fn disk_of(alloc: Global, bytes: &[u8]) -> Result<MemoryDisk, Memory>
-    ensures { IfOk result (λ disk. ⟦<MemoryDisk as Disk>⟧.seen disk ≡ bytes.now) }
+/// A disk with these bytes, which met no fault and of which no call is to fail.
+pub fn disk_of(alloc: Global, bytes: &[u8]) -> Result<MemoryDisk, Memory>
+    ensures seen { IfOk result (λ disk. ⟦<MemoryDisk as Disk>⟧.seen disk ≡ bytes.now) }
+    ensures armed { IfOk result (λ disk. IsArmed disk 0) }
+    ensures faults { IfOk result (λ disk. disk.faults ≡ 0) }
 {
     Ok(MemoryDisk::new(alloc, bytes.to_vec(alloc)?, Vec::new(alloc)))
 }

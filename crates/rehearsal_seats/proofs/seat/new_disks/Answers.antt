@@ -12,7 +12,7 @@ pub returns : goal.returns
 returns c = λ config.
     let first : List ℕ = bytes_now c.in_ok-first.first.history in
     let second : List ℕ = bytes_now c.in_ok-second.second.history in
-    let one : first ≡ FRESH_FIRST = c.in_ok-first.ensures in
-    let two : second ≡ FRESH_SECOND = c.in_ok-second.ensures in
+    let one : first ≡ FRESH_FIRST = c.in_ok-first.ensures.seen in
+    let two : second ≡ FRESH_SECOND = c.in_ok-second.ensures.seen in
     subst (λ (x : List ℕ). StandsEither StandsNow StoodOnce (record { config = config; book = empty_book }) (pair_of x second)) (sym one)
     (subst (λ (x : List ℕ). StandsEither StandsNow StoodOnce (record { config = config; book = empty_book }) (pair_of FRESH_FIRST x)) (sym two) (fresh_stands config))
