@@ -1,0 +1,3 @@
+mod CrashLemmas
+mod OpenLemmas
+mod StepLemmas
