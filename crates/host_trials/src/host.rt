@@ -3,7 +3,6 @@ ghost use Rattle.std.specs.Prelude.{◌≡◌, ◌≤◌};
 ghost use Rattle.ps_time.specs.declared.moment.TheConstants.{MAX_MOMENT};
 ghost use Rattle.host_model.specs.Conditions.{IsInput};
 
-use crate::config::config;
 use crate::fault::TableFault;
 use host_journal::image::SnapshotImage;
 use host_keep::call::HostCall;
@@ -20,6 +19,7 @@ use ps_time::memory::Memory;
 use ps_time::moment::Moment;
 use std::alloc::Global;
 use std::marker::Model;
+use trial_config::config::config;
 
 /// The disks of a host, in their order.
 pub(crate) type Disks = (MemoryDisk, MemoryDisk);

@@ -1,7 +1,6 @@
 //! The host that is kept in a folder, opened.
 ghost use Rattle.host_model.specs.Conditions.{IsConfig};
 
-use crate::config::config;
 use crate::fault::TableFault;
 use host_keep::open::open;
 use host_model::config::Config;
@@ -12,6 +11,7 @@ use ps_files::folder_rack::FolderRack;
 use std::alloc::Global;
 use std::fs::File;
 use std::println;
+use trial_config::config::config;
 
 type Files = (FileDisk<File>, FileDisk<File>);
 

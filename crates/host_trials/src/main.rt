@@ -23,7 +23,6 @@
 
 mod answers;
 mod booking;
-mod config;
 mod fault;
 mod faults;
 mod given;

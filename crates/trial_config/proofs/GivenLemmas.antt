@@ -7,7 +7,7 @@ use Rattle.limit_apply.specs.Read.{IsKept}
 use Rattle.host_model.specs.Conditions.{IsConfig, IsPeer}
 use Rattle.host_model.specs.declared.config.Config.{Config}
 use Rattle.host_model.specs.declared.config.Peer.{Peer}
-use Rattle.host_trials.specs.Given.{the_peer, the_tools}
+use Rattle.trial_config.specs.Given.{the_peer, the_tools}
 
 abbrev config_with : Limits → List ℕ → List ℕ → List Peer → List (List ℕ) → Config
 config_with l name authority peers tools = record { number = 1; name = name; authority = authority; peers = peers; installed = tools; limits = l }

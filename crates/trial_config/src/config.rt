@@ -2,7 +2,7 @@
 ghost use Rattle.std.specs.Prelude.{◌≡◌, ◌∷◌, [], IfOk};
 ghost use Rattle.limit_apply.specs.Read.{IsKept};
 ghost use Rattle.host_model.specs.Conditions.{IsConfig};
-ghost use Rattle.host_trials.specs.Given.{the_peer, the_tools};
+ghost use Rattle.trial_config.specs.Given.{the_peer, the_tools};
 
 use host_model::config::{Config, Peer};
 use limit_apply::kept::law_one_kept;
@@ -13,7 +13,7 @@ use ps_time::text::Text;
 use std::alloc::Global;
 
 /// Host a with the number 1, the peer b with the number 2, the tool `sleep`, and limits that permit everything.
-pub(crate) fn config(alloc: Global) -> Result<Config, Memory>
+pub fn config(alloc: Global) -> Result<Config, Memory>
     ensures { IfOk result IsConfig }
 {
     config_with(alloc, limits(alloc)?)
