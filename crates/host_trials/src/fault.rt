@@ -3,6 +3,7 @@
 use ps_time::memory::Memory;
 use std::alloc::{AllocError, AllocFailed};
 use std::io;
+use trial_inputs::fault::LineFault;
 
 /// Why there is no table, or only a part of one.
 #[derive(Clone, Copy)]
@@ -19,6 +20,15 @@ pub(crate) enum TableFault {
 impl From<Memory> for TableFault {
     fn from(_fault: Memory) -> TableFault {
         TableFault::Memory
+    }
+}
+
+impl From<LineFault> for TableFault {
+    fn from(fault: LineFault) -> TableFault {
+        match fault {
+            LineFault::SaysNothing => TableFault::Line,
+            LineFault::Memory => TableFault::Memory,
+        }
     }
 }
 

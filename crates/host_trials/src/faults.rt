@@ -2,13 +2,13 @@
 ghost use Rattle.std.specs.Prelude.{◌≤◌};
 ghost use Rattle.ps_time.specs.declared.moment.TheConstants.{MAX_MOMENT};
 
-use crate::booking::{a_booking, later};
 use crate::fault::TableFault;
-use crate::given::{asked_of, clock_of};
 use crate::host::{Disks, KeptHost, Outcome};
-use crate::inputs::an_input;
 use ps_time::moment::Moment;
 use std::alloc::Global;
+use trial_inputs::booking::{a_booking, later};
+use trial_inputs::given::{asked_of, clock_of};
+use trial_inputs::inputs::an_input;
 
 /// A step of a script, and the steps before it.
 #[derive(Clone, Copy)]

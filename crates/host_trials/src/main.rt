@@ -1,6 +1,6 @@
 //! Tries a kept host. Without a word it opens one on new disks in memory and has it make steps, of which calls of the disks fail.
 //! Standard input has a line for each step: a name, a clock in seconds since 1970 UTC, and what the host is asked then, in the words
-//! of `inputs`. These lines are written:
+//! of `trial_inputs`. These lines are written:
 //!
 //! - `new` and `again`: the book's moment, and how many rows and epochs it has, of a host on new disks at 1000, and of what its disks
 //!   give at 1010;
@@ -21,13 +21,9 @@
 //! The status is 2 for a line that says nothing, and 1 without memory or streams, or where disks stand for no host.
 #![tactic(auto)]
 
-mod answers;
-mod booking;
 mod fault;
 mod faults;
-mod given;
 mod host;
-mod inputs;
 mod kept;
 mod openings;
 mod reopenings;

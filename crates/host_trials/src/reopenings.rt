@@ -1,12 +1,12 @@
 //! What faults and crashes leave of an opening that ends runs.
 
-use crate::booking::later;
 use crate::fault::TableFault;
 use crate::faults::{Books, Step, book_of, host_before};
-use crate::given::clock_of;
 use crate::host::{Disks, KeptHost};
 use ps_disks::image::Image;
 use std::alloc::Global;
+use trial_inputs::booking::later;
+use trial_inputs::given::clock_of;
 
 // The disks are opened once more so many seconds later.
 const AGAIN: u64 = 2;

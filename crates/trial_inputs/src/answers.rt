@@ -4,7 +4,7 @@ ghost use Rattle.ps_time.specs.Span.{Range};
 ghost use Rattle.ps_time.specs.declared.moment.TheConstants.{MAX_MOMENT};
 ghost use Rattle.host_model.specs.Conditions.{IsAnswer, IsFreeHeard, IsInput, IsResultHeard};
 
-use crate::fault::TableFault;
+use crate::fault::LineFault;
 use crate::given::{a_key, cut};
 use archive_retry::merge::is_result;
 use host_model::config::Config;
@@ -109,28 +109,28 @@ fn free_then(alloc: Global) -> Result<FreeAnswer, Memory>
     })
 }
 
-fn a_free_answer(alloc: Global) -> Result<FreeAnswer, TableFault>
+fn a_free_answer(alloc: Global) -> Result<FreeAnswer, LineFault>
     ensures heard { IfOk result IsFreeHeard }
 {
     let answer = free_then(alloc)?;
     if !is_free_answer(&answer) {
         drop(answer);
-        return Err(TableFault::Line);
+        return Err(LineFault::SaysNothing);
     }
     Ok(answer)
 }
 
-fn a_result(alloc: Global) -> Result<Text, TableFault>
+fn a_result(alloc: Global) -> Result<Text, LineFault>
     ensures { IfOk result IsResultHeard }
 {
     let text = Text::new(alloc, r#"{"schema":1,"succeeded":true}"#)?;
     if text.len() > MOST_RESULT_BYTES || !is_result(alloc, text.as_str())? {
-        return Err(TableFault::Line);
+        return Err(LineFault::SaysNothing);
     }
     Ok(text)
 }
 
-fn an_answer(alloc: Global, word: &str, clock: Moment) -> Result<PeerAnswer, TableFault>
+fn an_answer(alloc: Global, word: &str, clock: Moment) -> Result<PeerAnswer, LineFault>
     requires { clock ≤ MAX_MOMENT }
     ensures answer { IfOk result IsAnswer }
 {
@@ -139,7 +139,7 @@ fn an_answer(alloc: Global, word: &str, clock: Moment) -> Result<PeerAnswer, Tab
         "accepted" => Ok(PeerAnswer::Accepted(clock)),
         "confirmed" => Ok(PeerAnswer::Confirmed(clock)),
         "result" => Ok(PeerAnswer::Result(a_result(alloc)?)),
-        _ => Err(TableFault::Line),
+        _ => Err(LineFault::SaysNothing),
     }
 }
 
@@ -149,7 +149,7 @@ pub(crate) fn a_hearing(
     config: &Config,
     clock: Moment,
     rest: &str,
-) -> Result<Input, TableFault>
+) -> Result<Input, LineFault>
     requires { clock ≤ MAX_MOMENT }
     ensures bounds { IfOk result (IsInput config.now) }
 {
@@ -160,7 +160,7 @@ pub(crate) fn a_hearing(
         Ok(order) => Ok(Input::Heard { order, answer }),
         Err(_) => {
             drop(answer);
-            Err(TableFault::Memory)
+            Err(LineFault::Memory)
         }
     }
 }

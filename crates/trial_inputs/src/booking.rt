@@ -9,14 +9,14 @@ use ps_time::class::Class;
 use ps_time::moment::{MAX_MOMENT, Moment};
 
 /// A moment so much later, as far as there is one.
-pub(crate) fn later(moment: Moment, seconds: u64) -> Moment
+pub fn later(moment: Moment, seconds: u64) -> Moment
     ensures { result ≤ MAX_MOMENT }
 {
     moment.saturating_add(seconds).min(MAX_MOMENT)
 }
 
 /// A run of ten seconds that conflicts with no other.
-pub(crate) fn a_booking(start: Moment) -> Input
+pub fn a_booking(start: Moment) -> Input
     requires { start ≤ MAX_MOMENT }
     ensures bounds { (c : Known) → IsInput c result }
 {

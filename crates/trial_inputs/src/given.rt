@@ -4,7 +4,7 @@ ghost use Rattle.limit_apply.specs.Read.{IsKept};
 ghost use Rattle.plugin_core.specs.Bounds.{IsTest};
 ghost use Rattle.ps_time.specs.declared.moment.TheConstants.{MAX_MOMENT};
 
-use crate::fault::TableFault;
+use crate::fault::LineFault;
 use limit_apply::kept::law_one_kept;
 use limit_apply::limits::Limits;
 use plugin_core::read_test::read_test;
@@ -31,9 +31,9 @@ static NOBODY: &str =
     r#"{"identifiers":[{"name":"all","type":"always"}],"classifiers":[{"name":"all","identifiers":["all"]}],"limits":[{"name":"nothing","type":"pass-fail","data":{"pass":false}}],"applications":[{"classifier":"all","apply":[{"require":"all","limits":["nothing"]}]}]}"#;
 
 /// A text is none of its kind. Why isn't looked at: the drop of a fault is one call here, whatever its variants.
-pub(crate) fn line_fault<E: Drop>(fault: E) -> TableFault {
+pub(crate) fn line_fault<E: Drop>(fault: E) -> LineFault {
     drop(fault);
-    TableFault::Line
+    LineFault::SaysNothing
 }
 
 /// What stands before the first space and behind it; all of a text without one stands before.
@@ -45,44 +45,44 @@ pub(crate) fn cut(text: &str) -> (&str, &str) {
 }
 
 /// The name of the step of a line.
-pub(crate) fn name_of(line: &str) -> &str {
+pub fn name_of(line: &str) -> &str {
     cut(line).0
 }
 
 /// Its clock, in seconds since 1970 UTC.
-pub(crate) fn clock_of(line: &str) -> Result<Moment, TableFault>
+pub fn clock_of(line: &str) -> Result<Moment, LineFault>
     ensures { IfOk result (λ clock. clock ≤ MAX_MOMENT) }
 {
     a_moment(cut(cut(line).1).0)
 }
 
 /// What is asked then.
-pub(crate) fn asked_of(line: &str) -> &str {
+pub fn asked_of(line: &str) -> &str {
     cut(cut(line).1).1
 }
 
 /// A moment in seconds since 1970 UTC.
-pub(crate) fn a_moment(text: &str) -> Result<Moment, TableFault>
+pub(crate) fn a_moment(text: &str) -> Result<Moment, LineFault>
     ensures { IfOk result (λ moment. moment ≤ MAX_MOMENT) }
 {
     match text.parse::<u64>() {
         Ok(moment) if moment <= MAX_MOMENT => Ok(moment),
-        _ => Err(TableFault::Line),
+        _ => Err(LineFault::SaysNothing),
     }
 }
 
 /// A serial or a number.
-pub(crate) fn a_number(text: &str) -> Result<u32, TableFault> {
+pub(crate) fn a_number(text: &str) -> Result<u32, LineFault> {
     match text.parse::<u32>() {
         Ok(number) => Ok(number),
-        Err(_) => Err(TableFault::Line),
+        Err(_) => Err(LineFault::SaysNothing),
     }
 }
 
-fn a_small_number(text: &str) -> Result<u16, TableFault> {
+fn a_small_number(text: &str) -> Result<u16, LineFault> {
     match text.parse::<u16>() {
         Ok(number) => Ok(number),
-        Err(_) => Err(TableFault::Line),
+        Err(_) => Err(LineFault::SaysNothing),
     }
 }
 
@@ -95,7 +95,7 @@ fn cut_at_point(text: &str) -> (&str, &str) {
 }
 
 /// A key as its lead, task, number and attempt with points between.
-pub(crate) fn a_key(text: &str) -> Result<RunKey, TableFault> {
+pub(crate) fn a_key(text: &str) -> Result<RunKey, LineFault> {
     let (lead, rest) = cut_at_point(text);
     let (task, rest) = cut_at_point(rest);
     let (number, attempt) = cut_at_point(rest);
@@ -108,14 +108,14 @@ pub(crate) fn a_key(text: &str) -> Result<RunKey, TableFault> {
 }
 
 /// A name or an address.
-pub(crate) fn a_text(alloc: Global, text: &str) -> Result<Text, TableFault>
+pub(crate) fn a_text(alloc: Global, text: &str) -> Result<Text, LineFault>
     ensures text { IfOk result (λ made. made ≡ text.now) }
 {
     Ok(Text::new(alloc, text)?)
 }
 
 /// The tree of a text.
-pub(crate) fn a_tree(alloc: Global, text: &str) -> Result<Value, TableFault> {
+pub(crate) fn a_tree(alloc: Global, text: &str) -> Result<Value, LineFault> {
     match read_tree(alloc, text.as_bytes()) {
         Ok(value) => Ok(value),
         Err(fault) => Err(line_fault(fault)),
@@ -123,7 +123,7 @@ pub(crate) fn a_tree(alloc: Global, text: &str) -> Result<Value, TableFault> {
 }
 
 /// The test of the runs of host b.
-pub(crate) fn a_test(alloc: Global) -> Result<TestSpec, TableFault>
+pub(crate) fn a_test(alloc: Global) -> Result<TestSpec, LineFault>
     ensures { IfOk result IsTest }
 {
     match read_test(alloc, a_tree(alloc, TEST)?) {
@@ -142,17 +142,17 @@ pub(crate) fn task_text(name: &str) -> &'static str {
 }
 
 /// Limits that permit nothing, or everything.
-pub(crate) fn limits_of(alloc: Global, name: &str) -> Result<Limits, TableFault>
+pub(crate) fn limits_of(alloc: Global, name: &str) -> Result<Limits, LineFault>
     ensures { IfOk result IsKept }
 {
     match name {
         "nobody" => no_limits(alloc),
         "everybody" => open_limits(alloc),
-        _ => Err(TableFault::Line),
+        _ => Err(LineFault::SaysNothing),
     }
 }
 
-fn open_limits(alloc: Global) -> Result<Limits, TableFault>
+fn open_limits(alloc: Global) -> Result<Limits, LineFault>
     ensures { IfOk result IsKept }
 {
     let limits = Limits::open(alloc)?;
@@ -160,7 +160,7 @@ fn open_limits(alloc: Global) -> Result<Limits, TableFault>
     Ok(limits)
 }
 
-fn no_limits(alloc: Global) -> Result<Limits, TableFault>
+fn no_limits(alloc: Global) -> Result<Limits, LineFault>
     ensures { IfOk result IsKept }
 {
     match Limits::from_text(alloc, NOBODY.as_bytes()) {

@@ -12,7 +12,7 @@ ghost use Rattle.host_model.specs.Propose.{lead_name};
 
 use crate::answers::a_hearing;
 use crate::booking::a_booking;
-use crate::fault::TableFault;
+use crate::fault::LineFault;
 use crate::given::{
     a_key, a_moment, a_number, a_test, a_text, a_tree, cut, limits_of, line_fault, task_text,
 };
@@ -35,19 +35,19 @@ const PEER: u16 = 2;
 
 static REQUESTER: &str = "10.0.0.9";
 
-fn a_run(config: &Config, rest: &str) -> Result<Input, TableFault>
+fn a_run(config: &Config, rest: &str) -> Result<Input, LineFault>
     ensures bounds { IfOk result (IsInput config.now) }
 {
     Ok(a_booking(a_moment(rest)?))
 }
 
-fn new_limits(alloc: Global, config: &Config, rest: &str) -> Result<Input, TableFault>
+fn new_limits(alloc: Global, config: &Config, rest: &str) -> Result<Input, LineFault>
     ensures bounds { IfOk result (IsInput config.now) }
 {
     Ok(Input::Limits(limits_of(alloc, rest)?))
 }
 
-fn a_post(alloc: Global, config: &Config, clock: Moment, rest: &str) -> Result<Input, TableFault>
+fn a_post(alloc: Global, config: &Config, clock: Moment, rest: &str) -> Result<Input, LineFault>
     requires { clock ≤ MAX_MOMENT }
     ensures bounds { IfOk result (IsInput config.now) }
 {
@@ -64,7 +64,7 @@ fn a_post(alloc: Global, config: &Config, clock: Moment, rest: &str) -> Result<I
     }
 }
 
-fn a_canceling(alloc: Global, config: &Config, rest: &str) -> Result<Input, TableFault>
+fn a_canceling(alloc: Global, config: &Config, rest: &str) -> Result<Input, LineFault>
     ensures bounds { IfOk result (IsInput config.now) }
 {
     let task = a_number(rest)?;
@@ -72,7 +72,7 @@ fn a_canceling(alloc: Global, config: &Config, rest: &str) -> Result<Input, Tabl
     Ok(Input::Cancel { task, requester })
 }
 
-fn a_question(alloc: Global, config: &Config, rest: &str) -> Result<Input, TableFault>
+fn a_question(alloc: Global, config: &Config, rest: &str) -> Result<Input, LineFault>
     ensures bounds { IfOk result (IsInput config.now) }
 {
     law_test_text();
@@ -95,7 +95,7 @@ fn a_question(alloc: Global, config: &Config, rest: &str) -> Result<Input, Table
 }
 
 // The name of the lead of a key.
-fn server(alloc: Global, config: &Config, key: RunKey) -> Result<Text, TableFault>
+fn server(alloc: Global, config: &Config, key: RunKey) -> Result<Text, LineFault>
     ensures name { IfOk result (λ server. IfSome (lead_name config.now 2 key) (λ lead. server ≡ lead)) }
 {
     match lead_name(config, PEER, key) {
@@ -104,7 +104,7 @@ fn server(alloc: Global, config: &Config, key: RunKey) -> Result<Text, TableFaul
     }
 }
 
-fn an_asker(alloc: Global, config: &Config, key: RunKey) -> Result<Asker, TableFault>
+fn an_asker(alloc: Global, config: &Config, key: RunKey) -> Result<Asker, LineFault>
     ensures server { IfOk result (λ asker. IfSome (lead_name config.now 2 key) (λ lead. asker.server ≡ lead)) }
 {
     let server = server(alloc, config, key)?;
@@ -112,7 +112,7 @@ fn an_asker(alloc: Global, config: &Config, key: RunKey) -> Result<Asker, TableF
     Ok(Asker { requester, server })
 }
 
-fn a_proposal(alloc: Global, config: &Config, rest: &str) -> Result<Input, TableFault>
+fn a_proposal(alloc: Global, config: &Config, rest: &str) -> Result<Input, LineFault>
     ensures bounds { IfOk result (IsInput config.now) }
 {
     law_test_text();
@@ -135,7 +135,7 @@ fn a_proposal(alloc: Global, config: &Config, rest: &str) -> Result<Input, Table
     })
 }
 
-fn a_message(config: &Config, word: &str, rest: &str) -> Result<Input, TableFault>
+fn a_message(config: &Config, word: &str, rest: &str) -> Result<Input, LineFault>
     ensures bounds { IfOk result (IsInput config.now) }
 {
     let key = a_key(rest)?;
@@ -148,17 +148,17 @@ fn a_message(config: &Config, word: &str, rest: &str) -> Result<Input, TableFaul
             good: true,
             retry: None,
         }),
-        _ => Err(TableFault::Line),
+        _ => Err(LineFault::SaysNothing),
     }
 }
 
 /// What a host is asked by a word and what stands behind it, at a clock in seconds since 1970 UTC.
-pub(crate) fn an_input(
+pub fn an_input(
     alloc: Global,
     config: &Config,
     clock: Moment,
     asked: &str,
-) -> Result<Input, TableFault>
+) -> Result<Input, LineFault>
     requires { clock ≤ MAX_MOMENT }
     ensures bounds { IfOk result (IsInput config.now) }
 {
