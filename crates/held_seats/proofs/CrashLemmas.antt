@@ -1,6 +1,6 @@
 -- What a crash leaves of a kept host is what the definition of its seat says.
-use Rattle.std.specs.Prelude.{◌⊎◌, IfOk, ◌-◌, ◌&&◌, ◌||◌, ◌<◌, ◌≤◌, ◌^◌, IfSome, nat_le, nat_lt, not, option_map, if◌then◌else◌}
-use Rattle.std.proofs.Common.{◌≡◌, ◌∙◌, ◌∷◌, ◌+◌, ap, arith, inl, inr, refl, subst, sym, Bool, false, true, List, [], length, None, Option, Some, Result, Ok, ℕ}
+use Rattle.std.specs.Prelude.{IfOk, ◌-◌, ◌&&◌, ◌<◌, ◌≤◌, ◌^◌, nat_le, nat_lt, not, option_map, if◌then◌else◌}
+use Rattle.std.proofs.Common.{◌≡◌, ◌∙◌, ◌+◌, ap, arith, inl, inr, refl, subst, sym, Bool, false, true, List, length, None, Option, Some, Result, ℕ}
 use Rattle.std.proofs.lemmas.Bool.Decides.{nat_tests}
 use Rattle.ps_disks.specs.declared.image.Image.{Image}
 use Rattle.host_journal.specs.Crash.{is_new, opens_head}
@@ -13,8 +13,7 @@ use Rattle.host_journal.specs.declared.reading.DiskPlace.{DiskPlace}
 use Rattle.host_keep.specs.Standing.{Answers, Follows, Seen, Standing, StandsNow, after}
 use Rattle.host_keep.specs.declared.call.HostCall.{HostCall}
 use Rattle.host_keep.specs.declared.call.HostStep.{HostStep}
-use Rattle.machine_keep.specs.Course.{IsSnapshotOf}
-use Rattle.machine_keep.specs.Crash.{IsPutOff, IsSnapshotFor, keeps_step}
+use Rattle.machine_keep.specs.Crash.{IsPutOff, keeps_step}
 use Rattle.machine_keep.specs.Faulted.{seen_on}
 use Rattle.machine_keep.specs.Kept.{after_step, caught}
 use Rattle.machine_seat.specs.Crashed.{IsSnapshotDue, StandsAt, Stops, loose_in, place_stopped, place_unsynced, state_unsynced}

@@ -1,6 +1,6 @@
 -- What disks are opened as: the stage for which they stand, at their place.
 use Rattle.std.specs.Prelude.{◌⊎◌, IfOk, OnOk}
-use Rattle.std.proofs.Common.{◌≡◌, ◌∙◌, ◌∷◌, ◌++◌, ◌+◌, ◌<◌, ap, append_assoc, arith, inl, inr, refl, subst, sym, Bool, false, true, List, [], length, None, Option, Some, Result, Ok, Err, ℕ}
+use Rattle.std.proofs.Common.{◌≡◌, ◌∙◌, ◌∷◌, ◌++◌, ap, append_assoc, arith, inl, inr, refl, subst, sym, Bool, false, true, List, [], length, None, Option, Some, Result, Ok, Err, ℕ}
 use Rattle.ps_disks.specs.declared.rack.TheConstants.{FRESH_FIRST, FRESH_SECOND}
 use Rattle.host_journal.specs.Pair.{pair_of}
 use Rattle.host_journal.specs.declared.reading.Counted.{Counted}
@@ -19,11 +19,10 @@ use Rattle.host_model.specs.declared.config.Config.{Config}
 use Rattle.host_model.specs.declared.input.Input.TheVariants.{Open}
 use Rattle.host_keep.specs.Stands.{IsSnapshot, StandsAs}
 use Rattle.machine_keep.specs.Kept.{StandsEither, StandsFor}
-use Rattle.machine_seat.specs.Crashed.{StandsAt}
 use Rattle.machine_seat.specs.Held.{Held, Place, fault_at, place_at, with_snapshot}
 use Rattle.psched_world.specs.World.{Stage}
 use Rattle.rehearsal_seats.proofs.SeatLemmas.{OneBook, same_book}
-use Rattle.rehearsal_model.specs.Seats.{Left, calls_for, calm_on, done, new_left, new_place, opened_on, snapshot_length, stepped, stepped_by, among, written_at}
+use Rattle.rehearsal_model.specs.Seats.{Left, calls_for, calm_on, new_left, new_place, opened_on, snapshot_length, stepped, stepped_by, among, written_at}
 use Rattle.held_seats.specs.Staged.{IsLeft, stage_of, staged, standing_of}
 use Rattle.held_seats.proofs.StepLemmas.{snapshot_is}
 

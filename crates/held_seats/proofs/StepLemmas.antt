@@ -1,6 +1,6 @@
 -- What a step makes of a kept host is what the definition of its seat says: the bytes of its record and of its snapshot are theirs.
 use Rattle.std.specs.Prelude.{◌⊎◌, ◌-◌, ◌==◌, ◌&&◌, ◌<◌, ◌≤◌, ◌^◌, IfSome, nat_le, nat_lt, not, option_map, take, if◌then◌else◌}
-use Rattle.std.proofs.Common.{◌≡◌, ◌∙◌, ◌∷◌, ◌+◌, ap, arith, inl, inr, refl, subst, sym, Bool, false, true, List, [], length, None, Option, Some, Result, ℕ}
+use Rattle.std.proofs.Common.{◌≡◌, ◌∙◌, ◌∷◌, ◌+◌, ap, arith, inl, inr, refl, subst, sym, Bool, false, true, List, [], length, None, Option, Some, ℕ}
 use Rattle.std.proofs.lemmas.Bool.Decides.{nat_tests}
 use Rattle.std.proofs.lemmas.List.{length-map}
 use Rattle.host_book.specs.Ready.{changes_of}
@@ -8,7 +8,7 @@ use Rattle.host_book.specs.declared.ready.Ready.{Ready}
 use Rattle.host_codec.specs.Books.{book}
 use Rattle.value_bytes.specs.Changes.{changes}
 use Rattle.host_keep.specs.Laws.{book_answered, config_answered}
-use Rattle.host_keep.specs.Standing.{Answers, Follows, Makes, Standing, StandsNow, after, changes_in}
+use Rattle.host_keep.specs.Standing.{Answers, Follows, Standing, StandsNow, after, changes_in}
 use Rattle.host_keep.specs.declared.call.HostCall.{HostCall}
 use Rattle.host_keep.specs.declared.call.HostStep.{HostStep}
 use Rattle.host_model.specs.Book.{Book}
@@ -17,13 +17,11 @@ use Rattle.host_model.specs.declared.change.Change.{Change}
 use Rattle.host_model.specs.declared.change.Changes.{Changes}
 use Rattle.host_model.specs.declared.reply.Reply.{Reply}
 use Rattle.machine_keep.specs.Course.{IsSnapshotOf}
-use Rattle.machine_keep.specs.Crash.{IsPutOff, IsSnapshotFor}
 use Rattle.machine_keep.specs.Kept.{after_step}
-use Rattle.machine_seat.specs.Crashed.{IsSnapshotDue}
 use Rattle.machine_seat.specs.Held.{Held, Loose, Place, calls_of, fault_at, is_many_at, on_first, on_second, place_after, schedule, syncs, with_record, with_snapshot}
 use Rattle.machine_seat.specs.Seated.{Broken, Done, HasSnapshot, IsBeyond, Unsynced, bytes_in, loose_broken, loose_still, place_broken, state_broken}
 use Rattle.psched_world.specs.World.{Stage}
-use Rattle.rehearsal_model.specs.Seats.{Written, among, answered, broken_with, bytes_of, calls_for, can_snap, done, done_with, fault_in, faulted, record_by, record_length, recorded_by, reply_unless, snapped_by, snapshot_length, stepped, stepped_by, unless_none, unsynced, written_at}
+use Rattle.rehearsal_model.specs.Seats.{Written, among, answered, broken_with, bytes_of, calls_for, can_snap, done_with, fault_in, faulted, record_by, record_length, recorded_by, reply_unless, snapped_by, snapshot_length, stepped, stepped_by, unless_none, unsynced, written_at}
 use Rattle.rehearsal_model.specs.Seen.{acted}
 use Rattle.held_seats.specs.Staged.{loosened, stage_of, staged}
 

@@ -1,5 +1,5 @@
 -- What is held of a kept host, as rehearsals see it.
-use Rattle.std.specs.Prelude.{List, Option, Result, option_map}
+use Rattle.std.specs.Prelude.{Result, option_map}
 use Rattle.host_journal.specs.declared.reading.Counted.{Counted}
 use Rattle.host_journal.specs.declared.reading.DiskPlace.{DiskPlace}
 use Rattle.host_keep.specs.Standing.{Standing, StandsNow}

@@ -1,4 +1,3 @@
-use Rattle.std.specs.Prelude.{IfOk}
 use Rattle.std.proofs.Common.{◌≡◌, ◌∙◌, Ok, ap, inl, inr}
 use Rattle.host_keep.specs.declared.call.HostCall.{HostCall}
 use Rattle.rehearsal_model.proofs.SceneLemmas.{config_stepped}

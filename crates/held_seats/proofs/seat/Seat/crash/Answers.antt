@@ -1,7 +1,7 @@
 use Rattle.std.proofs.Common.{◌≡◌, ◌∙◌, List, subst, sym, ℕ}
 use Rattle.host_journal.specs.Pair.{pair_of}
 use Rattle.ps_disks.specs.History.{bytes_now}
-use Rattle.rehearsal_model.specs.Seats.{Left, crashed_at, left_of, opened_on}
+use Rattle.rehearsal_model.specs.Seats.{Left, crashed_at, left_of}
 use Rattle.held_seats.specs.Staged.{IsLeft}
 use Rattle.held_seats.proofs.CrashLemmas.{config_left}
 use Rattle.held_seats.proofs.OpenLemmas.{ok_maps}
