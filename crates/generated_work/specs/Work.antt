@@ -1,13 +1,11 @@
--- Generated work: the moves that the draws lead to, over whatever makes moves and can be looked at.
+-- Generated work: the deeds that the draws lead to, over whatever does them and can be looked at.
 use Rattle.std.specs.Prelude.{◌+◌, ◌*◌, ◌++◌, ◌∷◌, Bool, List, [], codes, false, map, suc, true, zero, ℕ}
 use Rattle.std.specs.Fmt.{decimal}
 use Rattle.psched_script.specs.declared.script.ScriptHost.{ScriptHost}
 use Rattle.psched_world.specs.World.{World}
-use Rattle.rehearsal_model.specs.After.{moved_seen}
 use Rattle.rehearsal_model.specs.Moves.{Move, asking}
-use Rattle.rehearsal_model.specs.Rehearsal.{Show, first_show, moved, seen}
 use Rattle.rehearsal_model.specs.Requests.{post}
-use Rattle.rehearsal_model.specs.Seen.{Seen, config_at}
+use Rattle.rehearsal_model.specs.Scenes.{Deed, Play, Scene, Turns, config_of, first_play, played, scene_played}
 use Rattle.generated_work.specs.Draws.{drawn, is_crash, is_loss, next_seed}
 use Rattle.generated_work.specs.Posts.{body_of, partner_of, post_of, seed_after_post}
 use Rattle.generated_work.specs.declared.post.Post.{Post}
@@ -23,30 +21,30 @@ host_numbers = 1 ∷ 2 ∷ 3 ∷ 4 ∷ 5 ∷ 6 ∷ 7 ∷ 8 ∷ []
 unfoldable pub work_hosts : List ScriptHost
 work_hosts = map host_of host_numbers
 
--- ---- what makes the moves
--- what is seen of it, and what it is after a move at a moment
+-- ---- what does the deeds
+-- what is seen of it, and what it is after a deed at a moment
 pub record Player (S : Type 0) : Type 0 where
-  pub look : S → Seen
-  pub make : S → ℕ → Move → S
+  pub look : S → Scene
+  pub make : S → ℕ → Deed → S
 
 -- the hosts with all that ever was
-abbrev pub plays : List ScriptHost → Player Show
-plays hosts = record { look = seen hosts; make = moved hosts }
+abbrev pub plays : List ScriptHost → Player Play
+plays hosts = record { look = λ p. p.scene; make = played hosts }
 
 -- what is seen of them alone, which is enough
-abbrev pub shows : List ScriptHost → Player Seen
-shows hosts = record { look = λ b. b; make = moved_seen hosts }
+abbrev pub shows : List ScriptHost → Player Scene
+shows hosts = record { look = λ b. b; make = scene_played hosts }
 
 -- ---- a message
 -- the host at the place crashes, and is opened again
 abbrev pub crashed : {S : Type 0} → Player S → Bool → ℕ → ℕ → S → S
 crashed p false place clock s = s
-crashed p true place clock s = p.make s clock (Move.Reopens place clock)
+crashed p true place clock s = p.make s clock (Deed.Reopens place clock)
 
 -- the message is lost or arrives
 abbrev pub met : {S : Type 0} → Player S → Bool → ℕ → ℕ → S → S
-met p false number clock s = p.make s clock (Move.Arrives number clock)
-met p true number clock s = p.make s clock (Move.Lost number)
+met p false number clock s = p.make s clock (Deed.Does (Move.Arrives number clock))
+met p true number clock s = p.make s clock (Deed.Does (Move.Lost number))
 
 -- one more, where the test holds
 abbrev pub noted : Bool → ℕ → List ℕ → List ℕ
@@ -76,7 +74,7 @@ flown p place clock st = walked p place clock (p.look st.0).flying st
 -- ---- a second
 -- the turns of the host at the place and of its partner
 abbrev pub turned : {S : Type 0} → Player S → ℕ → ℕ → S → S
-turned p place clock s = p.make (p.make s clock (Move.Turns place clock)) clock (Move.Turns (partner_of place) clock)
+turned p place clock s = p.make (p.make s clock (Deed.Does (Move.Turns place clock))) clock (Deed.Does (Move.Turns (partner_of place) clock))
 
 -- the replies that arise are in flight when the orders have arrived; they bring no more messages
 unfoldable pub second : {S : Type 0} → Player S → ℕ → ℕ → S × Tally → S × Tally
@@ -96,11 +94,11 @@ abbrev pub moment_of_post : ℕ → ℕ
 moment_of_post i = first_moment + 10 * i
 
 -- somebody on the host itself posts a task
-abbrev pub posting : Seen → ℕ → Post → Move
-posting b clock q = asking q.place clock (post (config_at b q.place) (codes "127.0.0.1") (body_of q) clock)
+abbrev pub posting : Scene → ℕ → Post → Move
+posting b clock q = asking q.place clock (post (config_of b q.place) (codes "127.0.0.1") (body_of q) clock)
 
 unfoldable pub posted : {S : Type 0} → Player S → ℕ → Post → S → S
-posted p clock q s = p.make s clock (posting (p.look s) clock q)
+posted p clock q s = p.make s clock (Deed.Does (posting (p.look s) clock q))
 
 -- and six seconds go by
 abbrev pub lived : {S : Type 0} → Player S → ℕ → Post → S → Tally → S × Tally
@@ -119,8 +117,9 @@ worked p zero s = (s, first_tally)
 worked p (suc n) s = job p n (worked p n s)
 
 -- what so many posts come to
-unfoldable pub work : ℕ → Show × Tally
-work count = worked (plays work_hosts) count (first_show work_hosts)
+unfoldable pub work : ℕ → Play × Tally
+work count = worked (plays work_hosts) count (first_play work_hosts)
 
-abbrev pub work_of : ℕ → World
-work_of count = (work count).0.world
+-- its world, as what is loose turns out
+abbrev pub work_of : ℕ → Turns → World
+work_of count = (work count).0.worlds

@@ -1,6 +1,7 @@
 //! Generated work, from the first post to the summary.
 ghost use Rattle.std.specs.Prelude.{◌≡◌, ◌≤◌, IfOk, OnOk};
 ghost use Rattle.psched_world.specs.Laws.{Safe};
+ghost use Rattle.rehearsal_model.specs.Scenes.{Turns};
 ghost use Rattle.generated_work.specs.Summary.{summary_of};
 ghost use Rattle.generated_work.specs.Work.{work_of};
 
@@ -12,7 +13,7 @@ use ps_time::memory::Memory;
 use ps_time::text::Text;
 use psched_rehearse::rehearse::open_hosts;
 use psched_rehearse::state::rehearsal::Rehearsal;
-use rehearsal_model::law::{law_first, law_rehearsed};
+use rehearsal_model::law::law_played;
 use std::alloc::Global;
 
 /// Posts so many drawn tasks to eight hosts, runs these for a while behind each, with losses and crashes, and tells what came of it.
@@ -21,11 +22,10 @@ use std::alloc::Global;
 pub fn generate(alloc: Global, count: u32) -> Result<Text, Memory>
     requires { count ≤ 2000 }
     ensures summary { IfOk result (λ text. text ≡ summary_of count) }
-    ensures safe { OnOk result (Safe (work_of count)) }
+    ensures safe { (turns : Turns) → OnOk result (Safe (work_of count turns)) }
 {
     law_hosts();
-    law_first();
-    law_rehearsed();
+    law_played();
     let hosts = work_hosts(alloc)?;
     let all = hosts.as_slice();
     let seats = open_hosts(alloc, all)?;

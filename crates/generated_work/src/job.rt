@@ -1,9 +1,8 @@
 //! One post after another, and the seconds behind each.
 ghost use Rattle.std.specs.Prelude.{◌≡◌, ◌<◌, ◌≤◌, ◌+◌, OnOk};
 ghost use Rattle.ps_time.specs.declared.moment.TheConstants.{MAX_MOMENT};
-ghost use Rattle.rehearsal_model.specs.After.{first_seen};
-ghost use Rattle.rehearsal_model.specs.Reaching.{MayMove};
-ghost use Rattle.rehearsal_model.specs.Rehearsal.{first_show};
+ghost use Rattle.rehearsal_model.specs.Plays.{MayMake};
+ghost use Rattle.rehearsal_model.specs.Scenes.{first_play, first_scene};
 ghost use Rattle.generated_work.specs.Posts.{post_of};
 ghost use Rattle.generated_work.specs.Shown.{Alike, IsShown};
 ghost use Rattle.generated_work.specs.Work.{first_tally, job, moment_of_post, plays, posting, second, seconds, shows, turned, work_hosts, worked};
@@ -91,7 +90,7 @@ fn run_post(
     requires shown { IsShown hosts.now now.old }
     requires number { number < 2000 }
     ensures work { OnOk result ((now.new, tally.new) ≡ job (shows hosts.now) number (now.old, tally.old)) }
-    ensures may { OnOk result (MayMove now.old (posting now.old (moment_of_post number) (post_of tally.old.seed))) }
+    ensures may { OnOk result (MayMake now.old (posting now.old (moment_of_post number) (post_of tally.old.seed))) }
 {
     let clock = FIRST + 10 * number as u64;
     let drawn = draw_post(tally);
@@ -108,10 +107,10 @@ pub fn run_posts(
     count: u32,
 ) -> Result<(), Memory>
     requires hosts { hosts.now ≡ work_hosts }
-    requires now { now.old ≡ first_seen hosts.now }
+    requires now { now.old ≡ first_scene hosts.now }
     requires tally { tally.old ≡ first_tally }
     requires count { count ≤ 2000 }
-    ensures { OnOk result (Alike hosts.now (worked (plays hosts.now) count (first_show hosts.now)) (now.new, tally.new)) }
+    ensures { OnOk result (Alike hosts.now (worked (plays hosts.now) count (first_play hosts.now)) (now.new, tally.new)) }
 {
     for number in 0..count {
         run_post(alloc, hosts, now, tally, number)?;

@@ -1,7 +1,6 @@
 //! Messages in flight: a draw tells of each what becomes of it.
-ghost use Rattle.std.specs.Prelude.{◌≡◌, ◌<◌, ◌≤◌, All, IsTrue, OnOk, length, true};
+ghost use Rattle.std.specs.Prelude.{◌≡◌, ◌<◌, ◌≤◌, OnOk};
 ghost use Rattle.ps_time.specs.declared.moment.TheConstants.{MAX_MOMENT};
-ghost use Rattle.rehearsal_model.specs.Seen.{is_sent};
 ghost use Rattle.generated_work.specs.Draws.{is_crash, is_loss};
 ghost use Rattle.generated_work.specs.Shown.{IsShown};
 ghost use Rattle.generated_work.specs.Work.{crashed, flown, handled, met, shows, walked};
@@ -56,7 +55,6 @@ fn meet(
     is_loss: bool,
 ) -> Result<(), Memory>
     requires shown { IsShown hosts.now now.old }
-    requires sent { is_sent now.old number ≡ true }
     requires clock { clock ≤ MAX_MOMENT }
     ensures { OnOk result (now.new ≡ met (shows hosts.now) is_loss number clock now.old) }
 {
@@ -81,7 +79,6 @@ fn handle(
     requires shown { IsShown hosts.now now.old }
     requires place { place < 8 }
     requires clock { clock ≤ MAX_MOMENT }
-    requires sent { is_sent now.old number ≡ true }
     ensures { OnOk result ((now.new, tally.new) ≡ handled (shows hosts.now) place clock number (now.old, tally.old)) }
 {
     let drawn = tally.draw();
@@ -105,7 +102,6 @@ fn walk(
     requires shown { IsShown hosts.now now.old }
     requires place { place < 8 }
     requires clock { clock ≤ MAX_MOMENT }
-    requires sent { All (λ n. IsTrue (is_sent now.old n)) numbers.now }
     ensures { OnOk result ((now.new, tally.new) ≡ walked (shows hosts.now) place clock numbers.now (now.old, tally.old)) }
 {
     for number in numbers {

@@ -1,15 +1,14 @@
-//! Moves of the hosts, each at a moment.
-ghost use Rattle.std.specs.Prelude.{◌≡◌, ◌<◌, ◌≤◌, All, IfOk, List, OnOk, codes, true};
+//! What the hosts do and what happens to them, each at a moment.
+ghost use Rattle.std.specs.Prelude.{◌≡◌, ◌<◌, ◌≤◌, All, IfOk, List, OnOk, codes};
 ghost use Rattle.ps_time.specs.declared.moment.TheConstants.{MAX_MOMENT};
 ghost use Rattle.host_model.specs.Conditions.{IsInput};
 ghost use Rattle.psched_script.specs.declared.script.ScriptHost.{ScriptHost};
 ghost use Rattle.psched_rehearse.specs.Playing.{IsPlaying};
-ghost use Rattle.rehearsal_model.specs.After.{moved_seen};
-ghost use Rattle.rehearsal_model.specs.Moves.{Move.Arrives, Move.Lost, Move.Reopens, Move.Turns, asking};
-ghost use Rattle.rehearsal_model.specs.Reaching.{IsScriptPeer, MayMove};
+ghost use Rattle.rehearsal_model.specs.Moves.{Move.Arrives, Move.Lost, Move.Turns, asking};
+ghost use Rattle.rehearsal_model.specs.Plays.{MayMake};
+ghost use Rattle.rehearsal_model.specs.Reaching.{IsScriptPeer};
 ghost use Rattle.rehearsal_model.specs.Requests.{post as reading};
-ghost use Rattle.rehearsal_model.specs.Seen.{config_at, is_sent};
-ghost use Rattle.psched_rehearse.specs.Moved.{with_move};
+ghost use Rattle.rehearsal_model.specs.Scenes.{Deed.Does, Deed.Reopens, config_of, scene_deed, scene_played};
 ghost use Rattle.psched_rehearse.specs.Ready.{IsReady};
 ghost use Rattle.generated_work.specs.Posts.{body_of};
 ghost use Rattle.generated_work.specs.Work.{posted, posting, shows};
@@ -18,6 +17,7 @@ use crate::post::{Post, body_of};
 use ps_time::memory::Memory;
 use ps_time::moment::Moment;
 use psched_rehearse::arrive::receive;
+use psched_rehearse::ask::ask;
 use psched_rehearse::requests::request::{self, Asked};
 use psched_rehearse::state::rehearsal::Rehearsal;
 use psched_rehearse::state::turn::turn;
@@ -32,11 +32,11 @@ pub fn take_turn(
     clock: Moment,
 ) -> Result<(), Memory>
     requires ready { IsReady now.old place clock }
-    requires peers { All IsScriptPeer (config_at now.old place).peers }
-    ensures { (hosts : List ScriptHost) → OnOk result (now.new ≡ moved_seen hosts now.old clock (Turns place clock)) }
+    requires peers { All IsScriptPeer (config_of now.old place).peers }
+    ensures { (hosts : List ScriptHost) → OnOk result (now.new ≡ scene_played hosts now.old clock (Does (Turns place clock))) }
 {
-    let reply = turn(alloc, now, place, clock)?;
-    drop(reply);
+    let came = turn(alloc, now, place, clock)?;
+    drop(came);
     now.advance(clock);
     Ok(())
 }
@@ -44,22 +44,22 @@ pub fn take_turn(
 /// The host at a place crashes, and is opened again.
 pub fn crash(alloc: Global, now: &mut Rehearsal, place: usize, clock: Moment) -> Result<(), Memory>
     requires { IsReady now.old place clock }
-    ensures { (hosts : List ScriptHost) → OnOk result (now.new ≡ moved_seen hosts now.old clock (Reopens place clock)) }
+    ensures { (hosts : List ScriptHost) → OnOk result (now.new ≡ scene_played hosts now.old clock (Reopens place clock)) }
 {
     now.reopen(alloc, place, clock)?;
     now.advance(clock);
     Ok(())
 }
 
-/// A message is lost.
+/// The message at a place among those of the hosts, from 1 on, is lost.
 pub fn lose(now: &mut Rehearsal, number: u64, clock: Moment)
-    ensures { (hosts : List ScriptHost) → now.new ≡ moved_seen hosts now.old clock (Lost number) }
+    ensures { (hosts : List ScriptHost) → now.new ≡ scene_played hosts now.old clock (Does (Lost number)) }
 {
     now.land(number);
     now.advance(clock);
 }
 
-/// A message arrives.
+/// The message at a place among those of the hosts, from 1 on, arrives.
 pub fn arrive(
     alloc: Global,
     hosts: &[ScriptHost],
@@ -68,17 +68,16 @@ pub fn arrive(
     clock: Moment,
 ) -> Result<(), Memory>
     requires playing { IsPlaying hosts.now now.old }
-    requires sent { is_sent now.old number ≡ true }
     requires clock { clock ≤ MAX_MOMENT }
-    ensures { OnOk result (now.new ≡ moved_seen hosts.now now.old clock (Arrives number clock)) }
+    ensures { OnOk result (now.new ≡ scene_played hosts.now now.old clock (Does (Arrives number clock))) }
 {
-    receive(alloc, hosts, now, number, clock)?;
+    let _arrival = receive(alloc, hosts, now, number, clock)?;
     now.advance(clock);
     Ok(())
 }
 
 // Nothing is asked where the request was refused as it was read.
-fn ask(
+fn ask_unless_refused(
     alloc: Global,
     now: &mut Rehearsal,
     place: usize,
@@ -86,14 +85,14 @@ fn ask(
     asked: Asked,
 ) -> Result<(), Memory>
     requires ready { IsReady now.old place clock }
-    requires input { IfOk asked (IsInput (config_at now.old place)) }
-    ensures seen { (hosts : List ScriptHost) → OnOk result (now.new ≡ with_move hosts now.old (asking place clock asked)) }
-    ensures may { MayMove now.old (asking place clock asked) }
+    requires input { IfOk asked (IsInput (config_of now.old place)) }
+    ensures scene { (hosts : List ScriptHost) → OnOk result (now.new ≡ scene_deed hosts now.old (Does (asking place clock asked))) }
+    ensures may { MayMake now.old (asking place clock asked) }
 {
     match asked {
         Ok(input) => {
-            let reply = now.ask(alloc, place, clock, input)?;
-            drop(reply);
+            let came = ask(alloc, now, place, clock, input)?;
+            drop(came);
             Ok(())
         }
         Err(response) => {
@@ -113,8 +112,8 @@ fn read_text(
     clock: Moment,
 ) -> Result<Asked, Memory>
     requires { IsReady now.now place clock }
-    ensures value { IfOk result (λ asked. asked ≡ reading (config_at now.now place) address.now body.now clock) }
-    ensures input { IfOk result (λ asked. IfOk asked (IsInput (config_at now.now place))) }
+    ensures value { IfOk result (λ asked. asked ≡ reading (config_of now.now place) address.now body.now clock) }
+    ensures input { IfOk result (λ asked. IfOk asked (IsInput (config_of now.now place))) }
 {
     request::post(alloc, now.seat(place).config(), address, body, clock)
 }
@@ -123,8 +122,8 @@ fn read_text(
 fn read_post(alloc: Global, now: &Rehearsal, post: &Post, clock: Moment) -> Result<Asked, Memory>
     requires ready { IsReady now.now post.now.place clock }
     requires place { post.now.place < 8 }
-    ensures value { IfOk result (λ asked. asked ≡ reading (config_at now.now post.now.place) (codes "127.0.0.1") (body_of post.now) clock) }
-    ensures input { IfOk result (λ asked. IfOk asked (IsInput (config_at now.now post.now.place))) }
+    ensures value { IfOk result (λ asked. asked ≡ reading (config_of now.now post.now.place) (codes "127.0.0.1") (body_of post.now) clock) }
+    ensures input { IfOk result (λ asked. IfOk asked (IsInput (config_of now.now post.now.place))) }
 {
     let body = body_of(alloc, post)?;
     let address = "127.0.0.1";
@@ -134,11 +133,11 @@ fn read_post(alloc: Global, now: &Rehearsal, post: &Post, clock: Moment) -> Resu
 fn ask_for(alloc: Global, now: &mut Rehearsal, post: &Post, clock: Moment) -> Result<(), Memory>
     requires ready { IsReady now.old post.now.place clock }
     requires place { post.now.place < 8 }
-    ensures seen { (hosts : List ScriptHost) → OnOk result (now.new ≡ with_move hosts now.old (posting now.old clock post.now)) }
-    ensures may { OnOk result (MayMove now.old (posting now.old clock post.now)) }
+    ensures scene { (hosts : List ScriptHost) → OnOk result (now.new ≡ scene_deed hosts now.old (Does (posting now.old clock post.now))) }
+    ensures may { OnOk result (MayMake now.old (posting now.old clock post.now)) }
 {
     let asked = read_post(alloc, now, post, clock)?;
-    ask(alloc, now, post.place, clock, asked)
+    ask_unless_refused(alloc, now, post.place, clock, asked)
 }
 
 /// Somebody on a host posts a task to it.
@@ -146,8 +145,8 @@ fn ask_for(alloc: Global, now: &mut Rehearsal, post: &Post, clock: Moment) -> Re
 pub fn post(alloc: Global, now: &mut Rehearsal, post: &Post, clock: Moment) -> Result<(), Memory>
     requires ready { IsReady now.old post.now.place clock }
     requires place { post.now.place < 8 }
-    ensures seen { (hosts : List ScriptHost) → OnOk result (now.new ≡ posted (shows hosts) clock post.now now.old) }
-    ensures may { OnOk result (MayMove now.old (posting now.old clock post.now)) }
+    ensures scene { (hosts : List ScriptHost) → OnOk result (now.new ≡ posted (shows hosts) clock post.now now.old) }
+    ensures may { OnOk result (MayMake now.old (posting now.old clock post.now)) }
 {
     ask_for(alloc, now, post, clock)?;
     now.advance(clock);

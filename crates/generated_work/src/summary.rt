@@ -1,8 +1,9 @@
 //! The summary of the work.
-ghost use Rattle.std.specs.Prelude.{◌≡◌, ◌++◌, ◌≤◌, All, IfOk, OnOk, length, map};
+ghost use Rattle.std.specs.Prelude.{◌≡◌, ◌++◌, ◌≤◌, All, IfOk, OnOk, length, map, true};
 ghost use Rattle.std.specs.String.{string_bytes};
 ghost use Rattle.ps_time.specs.declared.moment.TheConstants.{MAX_MOMENT};
 ghost use Rattle.run_states.specs.Life.{HasMoments, settled_rows, state_of};
+ghost use Rattle.rehearsal_model.specs.Plays.{IsCalm};
 ghost use Rattle.generated_work.specs.Summary.{count_line, count_named, counts_text, stage_states, state_line, states_of, states_text, states_told, summary_text};
 
 use crate::tally::Tally;
@@ -49,15 +50,17 @@ fn add_states(states: &mut Vec<State>, rows: LentRows<'_>, moment: Moment) -> Re
 }
 
 fn add_seat(states: &mut Vec<State>, seat: &Seat, moment: Moment) -> Result<(), Memory>
-    requires { moment ≤ MAX_MOMENT }
-    ensures { OnOk result (states.new.items ≡ states.old.items ++ stage_states moment seat.now) }
+    requires ready { seat.now.ready ≡ true }
+    requires moment { moment ≤ MAX_MOMENT }
+    ensures { OnOk result (states.new.items ≡ states.old.items ++ stage_states moment seat.now.state) }
 {
     add_states(states, seat.book().rows().in_order(), moment)
 }
 
 // The states of all hosts' runs, at the last moment.
 fn states_of(alloc: Global, now: &Rehearsal) -> Result<Vec<State>, Memory>
-    requires { now.now.last ≤ MAX_MOMENT }
+    requires calm { All IsCalm now.now.seats }
+    requires moment { now.now.last ≤ MAX_MOMENT }
     ensures { IfOk result (λ states. states.items ≡ states_of now.now) }
 {
     let moment = now.last();
@@ -118,7 +121,8 @@ fn add_state_counts(text: &mut String, states: &[State]) -> Result<(), Memory>
 
 /// What is told of the work of so many posts.
 pub fn summarize(alloc: Global, count: u32, now: &Rehearsal, tally: &Tally) -> Result<Text, Memory>
-    requires { now.now.last ≤ MAX_MOMENT }
+    requires calm { All IsCalm now.now.seats }
+    requires moment { now.now.last ≤ MAX_MOMENT }
     ensures { IfOk result (λ text. text ≡ summary_text count now.now tally.now) }
 {
     let states = states_of(alloc, now)?;

@@ -2,6 +2,7 @@
 use Rattle.std.specs.Prelude.{IfOk, ◌-◌, ◌&&◌, ◌<◌, ◌≤◌, ◌^◌, nat_le, nat_lt, not, option_map, if◌then◌else◌}
 use Rattle.std.proofs.Common.{◌≡◌, ◌∙◌, ◌+◌, ap, arith, inl, inr, refl, subst, sym, Bool, false, true, List, length, None, Option, Some, Result, ℕ}
 use Rattle.std.proofs.lemmas.Bool.Decides.{nat_tests}
+use Rattle.std.proofs.lemmas.Result.{IfOk-weaker}
 use Rattle.ps_disks.specs.declared.image.Image.{Image}
 use Rattle.host_journal.specs.Crash.{is_new, opens_head}
 use Rattle.host_journal.specs.Pair.{pair_of}
@@ -30,7 +31,6 @@ use Rattle.rehearsal_model.specs.Seen.{acted}
 use Rattle.held_seats.specs.Staged.{IsLeft, loosened, stage_of, staged, standing_of}
 use Rattle.rehearsal_model.proofs.MoveLemmas.{cut_config}
 use Rattle.rehearsal_model.proofs.SceneLemmas.{broken_seat, calm_seat, config_chosen, config_stepped, unsynced_left_is, unsynced_seat}
-use Rattle.held_seats.proofs.OpenLemmas.{ok_maps}
 use Rattle.held_seats.proofs.StepLemmas.{bytes_kept, later_is, record_is, size_kept, snapped_few, snapped_is, snapped_some, snapshot_is}
 
 -- ---- what is loose
@@ -158,15 +158,15 @@ module _ {E : Type 0} (h : Held Standing) (call : HostCall) (stop : Stop) (resul
 
   late_so : (h.ready ≡ false → 2 < stop.call) → Late (armed_at h 0) → Wanted
   late_so high late =
-      ok_maps (λ d. Stops StandsNow bytes_kept Answers Follows after (armed_at h 0) call (stop.call - length (syncs h.ready)) stop.image (pair_at d)) (λ d. IsLeft (left_stopped (staged h) call.clock call.input stop) (pair_at d))
+      IfOk-weaker result (λ d. Stops StandsNow bytes_kept Answers Follows after (armed_at h 0) call (stop.call - length (syncs h.ready)) stop.image (pair_at d)) (λ d. IsLeft (left_stopped (staged h) call.clock call.input stop) (pair_at d))
       (λ d stops. subst (λ (x : Left). IsLeft x (pair_at d)) (stopped_late (staged h) call.clock call.input stop high) (behind_left (armed_at h 0) call (stop.call - length (syncs h.ready)) stop.image (pair_at d) stops))
-      result (late high)
+      (late high)
 
   early_so : h.ready ≡ false → stop.call ≤ 2 → Early (armed_at h 0) → Wanted
   early_so unready low early =
-      ok_maps (λ d. StandsAt StandsNow (state_unsynced h.state h.loose stop.call stop.image) (place_unsynced h.place h.loose stop.call stop.image) (pair_at d)) (λ d. IsLeft (left_stopped (staged h) call.clock call.input stop) (pair_at d))
+      IfOk-weaker result (λ d. StandsAt StandsNow (state_unsynced h.state h.loose stop.call stop.image) (place_unsynced h.place h.loose stop.call stop.image) (pair_at d)) (λ d. IsLeft (left_stopped (staged h) call.clock call.input stop) (pair_at d))
       (λ d stands. subst (λ (x : Left). IsLeft x (pair_at d)) (stopped_early (staged h) call.clock call.input stop unready low) (unsynced_left h stop.call stop.image (pair_at d) stands))
-      result (early unready low)
+      (early unready low)
 
   -- of a seat of which no call is to fail any more
   pub crash_stopped : (a : Held Standing) → a ≡ armed_at h 0 → Early a → Late a → Wanted

@@ -1,59 +1,42 @@
 -- What disks are opened as: the stage for which they stand, at their place.
 use Rattle.std.specs.Prelude.{◌⊎◌, IfOk, OnOk}
-use Rattle.std.proofs.Common.{◌≡◌, ◌∙◌, ◌∷◌, ◌++◌, ap, append_assoc, arith, inl, inr, refl, subst, sym, Bool, false, true, List, [], length, None, Option, Some, Result, Ok, Err, ℕ}
+use Rattle.std.proofs.Common.{◌≡◌, ◌∙◌, ◌∷◌, ap, inl, inr, refl, subst, sym, Bool, false, true, List, [], length, None, Result, Ok, Err, ℕ}
 use Rattle.ps_disks.specs.declared.rack.TheConstants.{FRESH_FIRST, FRESH_SECOND}
 use Rattle.host_journal.specs.Pair.{pair_of}
 use Rattle.host_journal.specs.declared.reading.Counted.{Counted}
 use Rattle.host_journal.specs.declared.reading.DiskPlace.{DiskPlace}
-use Rattle.value_bytes.proofs.WholeLemmas.{one_code}
-use Rattle.value_bytes.specs.Codec.{◌&◌, list, number_32, number_64}
-use Rattle.value_bytes.specs.NumberLaws.{number_64_is}
-use Rattle.value_bytes.specs.Rows.{row}
-use Rattle.value_bytes.specs.Tasks.{task_row}
-use Rattle.host_codec.specs.Books.{back, back_of, book, front, front_of}
 use Rattle.host_keep.specs.Standing.{Standing, StandsNow, StoodOnce}
-use Rattle.host_model.specs.Lawful.{Lawful}
 use Rattle.host_model.proofs.LawfulBook.{empty_lawful}
 use Rattle.host_model.specs.Book.{Book, empty_book}
 use Rattle.host_model.specs.declared.config.Config.{Config}
 use Rattle.host_model.specs.declared.input.Input.TheVariants.{Open}
-use Rattle.host_keep.specs.Stands.{IsSnapshot, StandsAs}
+use Rattle.host_keep.specs.Stands.{StandsAs, StandsFor as BookStands}
+use Rattle.kept_host.proofs.OneBookLemmas.{apart}
 use Rattle.machine_keep.specs.Kept.{StandsEither, StandsFor}
-use Rattle.machine_seat.specs.Held.{Held, Place, fault_at, place_at, with_snapshot}
+use Rattle.machine_seat.specs.Held.{Held, Place, place_at, with_snapshot}
 use Rattle.psched_world.specs.World.{Stage}
-use Rattle.rehearsal_seats.proofs.SeatLemmas.{OneBook, same_book}
-use Rattle.rehearsal_model.specs.Seats.{Left, calls_for, calm_on, new_left, new_place, opened_on, snapshot_length, stepped, stepped_by, among, written_at}
+use Rattle.rehearsal_model.specs.Seats.{Left, calm_on, new_left, new_place, opened_on, snapshot_length, stepped}
+use Rattle.rehearsal_model.proofs.CalmLemmas.{stepped_done}
 use Rattle.held_seats.specs.Staged.{IsLeft, stage_of, staged, standing_of}
 use Rattle.held_seats.proofs.StepLemmas.{snapshot_is}
 
--- ---- a list stands for a book in one form alone: a snapshot begins with a number above each moment, or with a moment
-abbrev the_first : ℕ
-the_first = 18_446_744_073_709_551_615
-
--- what is behind that number
-behind_first : Book → List ℕ
-behind_first b = number_32.code 2 ++ (front & back).code (front_of b, back_of b)
-
-second_begins : (bytes : List ℕ) (b : Book) → bytes ≡ book.code b → bytes ≡ number_64.code the_first ++ behind_first b
-unfolding behind_first
-second_begins bytes b is = is ∙ append_assoc (number_64.code the_first) (number_32.code 2) ((front & back).code (front_of b, back_of b))
-
-no_bytes : (rest : List ℕ) → [] ≡ number_64.code the_first ++ rest → ⊥
-no_bytes rest is =
-    let none : None ≡ Some (the_first, rest) = ap number_64.read is ∙ number_64_is.again the_first rest (omega arith) in
-    cc
-
-apart : (self : ℕ) (bytes : List ℕ) (a b : Book) → IsSnapshot true bytes a → IsSnapshot false bytes b → Lawful self b → ⊥
-apart self [] a b second first lawful = no_bytes (behind_first a) (second_begins [] a second.1)
-apart self (n ∷ bytes) a b second first lawful =
-    let both : number_64.code the_first ++ behind_first a ≡ number_64.code b.moment ++ (list task_row & list row).code (b.tasks, b.rows) = sym (second_begins (n ∷ bytes) a second.1) ∙ first.1 in
-    let moment : the_first ≡ b.moment = (one_code number_64 number_64_is the_first b.moment (behind_first a) ((list task_row & list row).code (b.tasks, b.rows)) (omega arith) first.0.parts.0 both).0 in
-    let low = lawful.moment in
-    omega arith
-
+-- ---- a list stands for a book in one form alone
 forms_apart : (self : ℕ) (list : List (List ℕ)) (a b : Book) → StandsAs true self list a → StandsAs false self list b → ⊥
 forms_apart self [] a b x y = x
 forms_apart self (snapshot ∷ records) a b x y = apart self snapshot x.from y.from x.is y.is y.lawful
+
+-- ---- the book for which two disks stand
+-- a list stands for one book alone
+abbrev OneBook : Type 0
+OneBook = (self : ℕ) (list : List (List ℕ)) (a b : Book) → BookStands self list a → BookStands self list b → a ≡ b
+
+book_stands : (self : ℕ) (list : List (List ℕ)) (b : Book) → StandsAs true self list b ⊎ StandsAs false self list b → BookStands self list b
+book_stands self [] b stands = elim stands [ inl x ↦ absurd x | inr x ↦ absurd x ]
+book_stands self (snapshot ∷ records) b stands = stands
+
+same_book : OneBook → (c : Config) (pair : Result Counted DiskPlace) (a b : Book) → StandsEither StandsNow StoodOnce (record { config = c; book = a }) pair → StandsEither StandsNow StoodOnce (record { config = c; book = b }) pair → a ≡ b
+same_book one c (Ok k) a b x y = one c.number k.list a b (book_stands c.number k.list a x) (book_stands c.number k.list b y)
+same_book one c (Err place) a b x y = elim x [ inl e ↦ absurd e | inr e ↦ absurd e ]
 
 not_both : (c d : Config) → c ≡ d → (a b : Book) (pair : Result Counted DiskPlace) → StandsFor StandsNow (record { config = c; book = a }) pair → StandsFor StoodOnce (record { config = d; book = b }) pair → ⊥
 not_both c d same a b (Ok k) x y = forms_apart c.number k.list a b x (subst (λ (e : Config). StandsAs false e.number k.list b) (sym same) y)
@@ -128,15 +111,8 @@ module _ (one : OneBook) (config : Config) (pair : Result Counted DiskPlace) (h 
             at_of (Err place) = new_place
 
 -- ---- its first step
-none_to_fail : (left : Left) → fault_at (calm_on left) ≡ None
-none_to_fail left = by left.place.second
-  where
-    by : (b : Bool) → fault_at (calm_on (record { state = left.state; place = record left.place { second = b } })) ≡ None
-    by false = refl
-    by true = refl
-
 pub first_step : (left : Left) (clock : ℕ) → stepped (calm_on left) clock Open ≡ opened_on left clock
-first_step left clock = ap (λ (o : Option ℕ). stepped_by (calm_on left) clock Open (among (calls_for (calm_on left) (written_at (calm_on left) clock Open)) o)) (none_to_fail left)
+first_step left clock = stepped_done (calm_on left) refl refl clock Open
 
 -- ---- where a call ended well
 pub on_ok : {T E : Type 0} {P : Type 0} (r : Result T E) (x : T) → r ≡ Ok x → P → OnOk r P
@@ -144,7 +120,3 @@ on_ok {T} {E} {P} r x is p = subst (λ (s : Result T E). OnOk s P) (sym is) p
 
 pub if_ok : {T E : Type 0} (P : T → Type 0) (r : Result T E) (x : T) → r ≡ Ok x → P x → IfOk r P
 if_ok {T} {E} P r x is p = subst (λ (s : Result T E). IfOk s P) (sym is) p
-
-pub ok_maps : {T E : Type 0} (P Q : T → Type 0) → ((x : T) → P x → Q x) → (r : Result T E) → IfOk r P → IfOk r Q
-ok_maps P Q f (Ok x) p = f x p
-ok_maps P Q f (Err e) p = tt

@@ -1,6 +1,7 @@
 -- What a step makes of a kept host is what the definition of its seat says: the bytes of its record and of its snapshot are theirs.
 use Rattle.std.specs.Prelude.{◌⊎◌, ◌-◌, ◌==◌, ◌&&◌, ◌<◌, ◌≤◌, ◌^◌, IfSome, nat_le, nat_lt, not, option_map, take, if◌then◌else◌}
 use Rattle.std.proofs.Common.{◌≡◌, ◌∙◌, ◌∷◌, ◌+◌, ap, arith, inl, inr, refl, subst, sym, Bool, false, true, List, [], length, None, Option, Some, ℕ}
+use Rattle.std.proofs.lemmas.Bool.{cases_lt}
 use Rattle.std.proofs.lemmas.Bool.Decides.{nat_tests}
 use Rattle.std.proofs.lemmas.List.{length-map}
 use Rattle.host_book.specs.Ready.{changes_of}
@@ -138,13 +139,6 @@ four_counted : (ready : Bool) (n : ℕ) (s : Option ℕ) → length (syncs ready
 four_counted ready n None = omega arith
 four_counted ready n (Some m) = omega arith
 
-cases_le : (a b : ℕ) → (a ≤ b) ⊎ (b < a)
-cases_le a b = by (nat_le a b) refl
-  where
-    by : (t : Bool) → nat_le a b ≡ t → (a ≤ b) ⊎ (b < a)
-    by true is = inl (grind (arith, nat_tests, is))
-    by false is = inr (grind (arith, nat_tests, is))
-
 module _ (old : Held Standing) (call : HostCall) where
   abbrev pub h : Held Stage
   h = staged old
@@ -229,20 +223,20 @@ module _ (old : Held Standing) (call : HostCall) where
         let two : length (syncs old.ready) ≡ 2 = ap (λ (b : Bool). length (syncs b)) is.unready in
         omega (arith, is.most, two, syncs_counted old.ready w.record_bytes w.snapshot_bytes)
 
-    pub unsynced_fails : fault_in h call.clock call.input ≡ Some is.number
+    unsynced_fails : fault_in h call.clock call.input ≡ Some is.number
     unsynced_fails = ap (among (calls_for h w)) is.place ∙ one_among (calls_for h w) is.number early_call
 
     no_step : nat_lt (length (syncs old.ready)) is.number ≡ false
     no_step = let two : length (syncs old.ready) ≡ 2 = ap (λ (b : Bool). length (syncs b)) is.unready in let most = is.most in grind (arith, nat_tests, two, most)
 
-    pub unsynced_so : staged new ≡ stepped h call.clock call.input
+    unsynced_so : staged new ≡ stepped h call.clock call.input
     unsynced_so =
         ap staged is.became
         ∙ (ap (λ (l : Option (Loose Stage)). record { state = h.state; place = h.place; ready = false; loose = l; first = 0; second = 0 }) (still_loose is.number old.loose)
         ∙ (sym (ap (λ (b : Bool). if b then broken_with h (is.number - length (syncs h.ready)) later w else unsynced h is.number) no_step)
         ∙ sym (fails_so is.number unsynced_fails)))
 
-    pub unsynced_silent : None ≡ answered h call.clock call.input
+    unsynced_silent : None ≡ answered h call.clock call.input
     unsynced_silent = nothing_said is.number unsynced_fails
 
   -- a call behind the syncs failed
@@ -265,16 +259,16 @@ module _ (old : Held Standing) (call : HostCall) where
         ∙ snapped_is is.reply (Some is.step) is.answered is.may)
 
     enough : syncs_made + is.number ≤ calls_for h w
-    enough = elim (cases_le is.number 4) [
-      | inl low ↦ omega (arith, low, subst (λ (o : Option ℕ). syncs_made + 4 ≤ calls_of old.ready o w.snapshot_bytes) recorded_one (four_counted old.ready (size_kept is.step) w.snapshot_bytes))
-      | inr high ↦ (
+    enough = elim (cases_lt 4 is.number) [
+      | inr low ↦ omega (arith, low, subst (λ (o : Option ℕ). syncs_made + 4 ≤ calls_of old.ready o w.snapshot_bytes) recorded_one (four_counted old.ready (size_kept is.step) w.snapshot_bytes))
+      | inl high ↦ (
           let all : syncs_made + 11 ≤ calls_of old.ready w.record_bytes w.snapshot_bytes =
           subst (λ (o : Option ℕ). syncs_made + 11 ≤ calls_of old.ready o w.snapshot_bytes) recorded_one
           (subst (λ (o : Option ℕ). syncs_made + 11 ≤ calls_of old.ready (Some (size_kept is.step)) o) (snapped_one high) (omega arith)) in
           omega (arith, all, is.most))
     ]
 
-    pub broken_fails : fault_in h call.clock call.input ≡ Some (syncs_made + is.number)
+    broken_fails : fault_in h call.clock call.input ≡ Some (syncs_made + is.number)
     broken_fails = ap (among (calls_for h w)) is.place ∙ one_among (calls_for h w) (syncs_made + is.number) enough
 
     is_step : nat_lt (length (syncs h.ready)) (syncs_made + is.number) ≡ true
@@ -306,12 +300,19 @@ module _ (old : Held Standing) (call : HostCall) where
         ∙ (ap (λ (x : Place). record { state = state_broken is.number h.state (stage_of (after old.state is.step)); place = x; ready = false; loose = loose_broken is.number h.place h.state (stage_of (after old.state is.step)) (bytes_of w.record_bytes); first = 0; second = 0 }) same_place
         ∙ broken_as (stage_of (after old.state is.step)) later_one)))
 
-    pub broken_so : staged new ≡ stepped h call.clock call.input
+    broken_so : staged new ≡ stepped h call.clock call.input
     broken_so =
         staged_broken
         ∙ (sym (ap (λ (b : Bool). if b then broken_with h (syncs_made + is.number - length (syncs h.ready)) later w else unsynced h (syncs_made + is.number)) is_step
         ∙ ap (λ (n : ℕ). broken_with h n later w) same_number)
         ∙ sym (fails_so (syncs_made + is.number) broken_fails))
 
-    pub broken_silent : None ≡ answered h call.clock call.input
+    broken_silent : None ≡ answered h call.clock call.input
     broken_silent = nothing_said (syncs_made + is.number) broken_fails
+
+  -- either
+  pub faulted_so : (new : Held Standing) → Unsynced old new ⊎ Broken StandsNow bytes_kept Answers Follows after old new call → (staged new ≡ stepped h call.clock call.input) × (None ≡ answered h call.clock call.input)
+  faulted_so new is = elim is [
+    | inl unsynced ↦ (unsynced_so new unsynced, unsynced_silent new unsynced)
+    | inr broken ↦ (broken_so new broken, broken_silent new broken)
+  ]

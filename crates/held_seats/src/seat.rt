@@ -5,14 +5,14 @@ ghost use Rattle.ps_disks.specs.declared.rack.TheConstants.{FRESH_FIRST as fresh
 ghost use Rattle.ps_time.specs.declared.moment.TheConstants.{MAX_MOMENT};
 ghost use Rattle.host_journal.specs.Pair.{pair_of};
 ghost use Rattle.host_model.specs.Conditions.{IsConfig, IsInput};
-ghost use Rattle.host_keep.specs.Standing.{Seen, StandsNow, after};
-ghost use Rattle.machine_keep.specs.Kept.{StandsFor};
+ghost use Rattle.host_keep.specs.Standing.{Seen, after};
 ghost use Rattle.machine_seat.specs.Held.{armed_at, configured};
 ghost use Rattle.machine_seat.specs.IsHeld.{held};
 ghost use Rattle.rehearsal_model.specs.Plays.{IsSeat};
 ghost use Rattle.rehearsal_model.specs.Rehearsal.{retooled};
 ghost use Rattle.rehearsal_model.specs.Seats.{Left, answered, calm_on, crashed_at, is_before, left_faulted, left_of, left_stopped, new_left, opened_anew, opened_on, stage_with, stepped};
-ghost use Rattle.held_seats.specs.Staged.{IsLeft, staged, standing_of};
+ghost use Rattle.held_seats.specs.Kept.{IsKeptOn};
+ghost use Rattle.held_seats.specs.Staged.{IsLeft, staged};
 
 use host_keep::book::HostBook;
 use host_keep::call::HostCall;
@@ -31,9 +31,9 @@ use ps_time::memory::Memory;
 use ps_time::moment::Moment;
 use ps_time::text::Text;
 use psched_script::script::Stop;
-use rehearsal_seats::seat::{disk_of, with_tools};
 use std::alloc::Global;
 use std::marker::Model;
+use std::mem;
 
 /// A host with its configuration. All that it does is kept before it answers.
 pub struct Seat {
@@ -216,7 +216,7 @@ impl Seat {
 
     /// The disks, which as they read stand for the host's book.
     pub fn into_disks(self) -> Result<(MemoryDisk, MemoryDisk), Memory>
-        ensures { IfOk result (λ disks. StandsFor StandsNow (standing_of self.state) (pair_of (⟦<MemoryDisk as Disk>⟧.seen disks.0) (⟦<MemoryDisk as Disk>⟧.seen disks.1))) }
+        ensures { IfOk result (λ disks. IsKeptOn self.state disks.0 disks.1) }
     {
         let Seat { seat } = self;
         seat.into_disks()
@@ -230,6 +230,31 @@ impl Seat {
         let config = with_tools(alloc, self.config(), tools)?;
         self.seat.configure(config)
     }
+}
+
+// The configuration with other tools.
+fn with_tools(alloc: Global, config: &Config, tools: Items<Text>) -> Result<Config, Memory>
+    ensures { IfOk result (λ made. made ≡ retooled tools config.now) }
+{
+    match config.copy(alloc) {
+        Ok(mut made) => {
+            drop(mem::replace(&mut made.installed, tools));
+            Ok(made)
+        }
+        Err(fault) => {
+            drop(tools);
+            Err(fault)
+        }
+    }
+}
+
+// A disk with these bytes, which met no fault and of which no call is to fail.
+fn disk_of(alloc: Global, bytes: &[u8]) -> Result<MemoryDisk, Memory>
+    ensures seen { IfOk result (λ disk. ⟦<MemoryDisk as Disk>⟧.seen disk ≡ bytes.now) }
+    ensures armed { IfOk result (λ disk. IsArmed disk 0) }
+    ensures faults { IfOk result (λ disk. disk.faults ≡ 0) }
+{
+    Ok(MemoryDisk::new(alloc, bytes.to_vec(alloc)?, Vec::new(alloc)))
 }
 
 // The call that is to fail comes before the stop.

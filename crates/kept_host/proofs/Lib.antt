@@ -1,2 +1,2 @@
 pub mod ListLemmas
-mod OneBookLemmas
+pub mod OneBookLemmas

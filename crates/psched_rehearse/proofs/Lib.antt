@@ -1,3 +1,4 @@
 mod LineLemmas
 pub mod PlayLemmas
-mod StopLemmas
+mod SettleLemmas
+mod TurnLemmas

@@ -1,29 +1,24 @@
--- What a line does to what is seen.
-use Rattle.std.specs.Prelude.{if◌then◌else◌}
-use Rattle.std.proofs.Common.{◌≡◌, ◌<◌, ℕ, Bool, true, false, List, ap, length}
+-- What a line does.
+use Rattle.std.proofs.Common.{◌≡◌, ◌∙◌, List, ap, refl, subst, sym, true, ℕ, ℤ}
 use Rattle.std.specs.List.{list_all}
+use Rattle.ps_time.specs.declared.class.Class.{Class}
 use Rattle.plugin_core.specs.ReadTest.{all_differ}
 use Rattle.task_spec.specs.ReadTask.{is_tool}
 use Rattle.host_model.specs.Conditions.{IsConfig}
 use Rattle.host_model.specs.declared.config.Config.{Config}
 use Rattle.host_model.specs.declared.input.Input.{Input}
-use Rattle.rehearsal_model.specs.Moves.{Move}
-use Rattle.rehearsal_model.specs.Reaching.{MayMove}
+use Rattle.host_model.specs.declared.input.Input.TheVariants as input
+use Rattle.psched_script.specs.declared.script.ScriptHost.{ScriptHost}
+use Rattle.psched_script.specs.declared.script.ScriptLine.{ScriptLine}
+use Rattle.psched_script.specs.declared.script.ScriptLine.TheVariants as line
+use Rattle.rehearsal_model.specs.Moves.{Outcomes, moment_of_line}
+use Rattle.rehearsal_model.specs.Plays.{MayArchive, MayLine}
 use Rattle.rehearsal_model.specs.Rehearsal.{retooled}
-use Rattle.rehearsal_model.specs.Seen.{Seen, config_at}
-use Rattle.rehearsal_moves.specs.Moved.{with_step}
-use Rattle.rehearsal_moves.proofs.MoveLemmas.{stage_stepped}
+use Rattle.report_text.specs.Line.{booking_text}
+use Rattle.rehearsal_model.specs.Scenes.{Scene, at_last, came_at, deed_of, scene_archived, scene_deed, scene_line}
+use Rattle.rehearsal_model.specs.Telling.{came_said, line_said, unavailable}
 
--- ---- the configuration stays
-pub config_stepped : (b : Seen) (place clock : ℕ) (i : Input) → place < length b.stages → config_at (with_step b place clock i) place ≡ config_at b place
-config_stepped b place clock i lt = ap (λ s. s.config) (stage_stepped b place clock i lt)
-
--- ---- one of two moves
-pub may_either : (b : Seen) (t : Bool) (x y : Move) → MayMove b x → MayMove b y → MayMove b (if t then x else y)
-may_either b true x y may other = may
-may_either b false x y may other = other
-
--- ---- other tools
+-- other tools
 pub config_retooled : (c : Config) (tools : List (List ℕ)) → IsConfig c → list_all is_tool tools ≡ true → all_differ tools ≡ true → IsConfig (retooled tools c)
 config_retooled c tools is known different = record {
   name = is.name;
@@ -35,3 +30,42 @@ config_retooled c tools is known different = record {
   different = different;
   limits = is.limits;
 }
+
+-- ---- what is there afterwards, at the moment of the line
+module _ (comes : Outcomes) (hosts : List ScriptHost) (b : Scene) where
+  plainly : (l : ScriptLine) → ((at host : ℕ) → l ≡ line.Archive at host → ⊥) → at_last (moment_of_line l) (scene_deed hosts b (deed_of comes b l)) ≡ scene_line comes hosts b l
+  plainly (line.Archive at host) other = absurd (other at host refl)
+  plainly (line.Host place) other = refl
+  plainly (line.Tools host tools) other = refl
+  plainly (line.Limits host limits) other = refl
+  plainly (line.Book at host class priority start len) other = refl
+  plainly (line.Post at host address body) other = refl
+  plainly (line.Get at host path) other = refl
+  plainly (line.Delete at host address path) other = refl
+  plainly (line.Turn at host) other = refl
+  plainly (line.Crash at host stop) other = refl
+  plainly (line.Fail at host call) other = refl
+  plainly (line.Deliver at n) other = refl
+  plainly (line.Repeat at n) other = refl
+  plainly (line.Lose n) other = refl
+
+  module _ (l : ScriptLine) (now next : Scene) (next_is : next ≡ at_last (moment_of_line l) now) where
+    pub line_done : ((at host : ℕ) → l ≡ line.Archive at host → ⊥) → now ≡ scene_deed hosts b (deed_of comes b l) → next ≡ scene_line comes hosts b l
+    line_done other done =
+        let then_is : next ≡ at_last (moment_of_line l) (scene_deed hosts b (deed_of comes b l)) = next_is ∙ ap (λ (x : Scene). at_last (moment_of_line l) x) done in
+        then_is ∙ plainly l other
+
+    -- one that has a host try an archive
+    pub line_archived : (at host : ℕ) → l ≡ line.Archive at host → at_last at now ≡ scene_archived comes hosts b host at → next ≡ scene_line comes hosts b l
+    line_archived at host is done =
+        let then_is : next ≡ at_last at now = next_is ∙ ap (λ (x : ScriptLine). at_last (moment_of_line x) now) is in
+        let line_is : scene_archived comes hosts b host at ≡ scene_line comes hosts b l = ap (scene_line comes hosts b) (sym is) in
+        then_is ∙ (done ∙ line_is)
+
+  pub line_may : (l : ScriptLine) (at host : ℕ) → l ≡ line.Archive at host → MayArchive comes hosts b host at → MayLine comes hosts b l
+  line_may l at host is may = subst (λ (x : ScriptLine). MayLine comes hosts b x) (sym is) may
+
+  -- ---- what a booking is told
+  pub booking_said : (l : ScriptLine) (at host : ℕ) (class : Class) (priority : ℤ) (start len : ℕ) → l ≡ line.Book at host class priority start len
+      → (i : Input) → i ≡ input.Book class priority start len → came_said (came_at b host at i) unavailable booking_text ≡ line_said comes hosts b l
+  booking_said l at host class priority start len is i i_is = ap (λ (x : Input). came_said (came_at b host at x) unavailable booking_text) i_is ∙ ap (line_said comes hosts b) (sym is)

@@ -1,48 +1,56 @@
 -- A rehearsal, line by line: what is known of it before each line, and what was reported so far.
-use Rattle.std.specs.Prelude.{IsTrue}
-use Rattle.std.specs.List.{AllByRecursion, list_any}
-use Rattle.std.proofs.Common.{◌≡◌, ◌<◌, ◌++◌, ◌∙◌, ◌∷◌, ◌==◌, ◌||◌, ℕ, Bool, List, [], true, false, Some, ap, append_assoc, arith, get_or, length, refl, subst, sym}
-use Rattle.std.proofs.lemmas.Bool.Decides.{nat_tests}
-use Rattle.std.proofs.lemmas.List.{length-map}
-use Rattle.std.proofs.lemmas.List.Elements.{recursion_from_All}
+use Rattle.std.proofs.Common.{◌≡◌, ◌≤◌, ◌<◌, ◌++◌, ◌∙◌, ◌∷◌, [], ℕ, List, All, Some, ap, append_assoc, get_or, length, refl, subst, sym}
+use Rattle.std.proofs.lemmas.List.{append-nil}
+use Rattle.std.proofs.lemmas.List.Elements.{All-from_get_or}
 use Rattle.std.proofs.lemmas.Option.{slice_get-get_or}
-use Rattle.host_model.specs.Conditions.{IsConfig}
+use Rattle.ps_time.specs.Numbers.{greatest_moment}
+use Rattle.host_model.specs.Conditions.{IsConfig, IsInput}
+use Rattle.host_model.specs.Lawful.{Lawful}
+use Rattle.api_heard.specs.Replied.{IsReplyTo}
+use Rattle.api_law.specs.Widths.{HasWidths}
 use Rattle.psched_script.specs.Lawful.{AreLawfulHosts, IsLawfulLine}
 use Rattle.psched_script.specs.declared.script.Numbered.{Numbered}
 use Rattle.psched_script.specs.declared.script.ScriptHost.{ScriptHost}
+use Rattle.machine_seat.specs.Held.{Held}
+use Rattle.psched_world.specs.Events.{brings}
+use Rattle.psched_world.specs.Laws.{Safe}
+use Rattle.psched_world.specs.World.{Letter, Stage}
 use Rattle.report_text.specs.Line.{line_text}
-use Rattle.rehearsal_model.specs.After.{seen_after}
-use Rattle.rehearsal_model.specs.Moves.{Outcomes, move_of}
-use Rattle.rehearsal_model.specs.Reaching.{MayMove, Reaches}
-use Rattle.rehearsal_model.specs.Rehearsal.{Show, after, after_all, report_from, seen, told}
-use Rattle.rehearsal_model.specs.Seen.{Seen, is_sent}
 use Rattle.rehearsal_model.specs.Hosts.{first_config}
+use Rattle.rehearsal_model.specs.Moves.{Outcomes, receiver, reply_to}
+use Rattle.rehearsal_model.specs.Plays.{IsPlay, MayLine}
+use Rattle.rehearsal_model.specs.Reaching.{IsKnown, IsScriptPeer, Reaches}
+use Rattle.rehearsal_model.specs.Rehearsal.{Show, seen}
+use Rattle.rehearsal_model.specs.Scenes.{Play, Scene, as_read, first_play, first_scene, Turns, kept_all, nobody_seat, play_line, play_lines, scene_line, scene_lines, seat_at, show_by}
+use Rattle.rehearsal_model.specs.Seen.{Seen, message, stage_at}
+use Rattle.rehearsal_model.specs.Telling.{line_said, lines_said}
+use Rattle.rehearsal_model.proofs.DeedLemmas.{first_on, line_on}
 use Rattle.rehearsal_model.proofs.HostLemmas.{right_first}
-use Rattle.rehearsal_model.proofs.LineLemmas.{line_reaches, line_seen}
-use Rattle.rehearsal_model.proofs.ReachLemmas.{brings_input, comes_known, config_is, receiver_within, replied_so, script_peers}
+use Rattle.rehearsal_model.proofs.ReachLemmas.{book_lawful, brings_input, comes_known, config_is, receiver_within, replied_so, script_peers}
+use Rattle.rehearsal_model.proofs.SceneLemmas.{stage_chosen}
 use Rattle.rehearsal_moves.specs.Playing.{IsPlaying}
 
--- a number for which a test holds is among those of which P holds
-among : (P : ℕ → Type 0) (ns : List ℕ) (n : ℕ) → AllByRecursion P ns → list_any (λ f. f == n) ns ≡ true → P n
-among P [] n all e = absurd cc
-among P (m ∷ ns) n all e = go (m == n) refl e (among P ns n all.1)
-  where
-    go : (b : Bool) → (m == n) ≡ b → (b || list_any (λ f. f == n) ns) ≡ true → (list_any (λ f. f == n) ns ≡ true → P n) → P n
-    go true is found later = let same : m ≡ n = grind (arith, nat_tests, is) in subst P same all.0
-    go false is found later = later found
-
-pub playing : (hosts : List ScriptHost) → AreLawfulHosts hosts → (s : Show) → Reaches hosts s → IsPlaying hosts (seen hosts s)
-playing hosts lawful s reach =
-    let long : length (seen hosts s).stages ≡ length hosts = length-map hosts (λ (h : ScriptHost). (s.world.hosts h.number).now) in
+pub playing : (hosts : List ScriptHost) → AreLawfulHosts hosts → (p : Play) → IsPlay hosts p → IsPlaying hosts p.scene
+playing hosts lawful p is =
+    let b : Scene = p.scene in
+    let s : Show = show_by kept_all p in
+    let reach : Reaches hosts s = is.reaches kept_all in
+    let sees : seen hosts s ≡ as_read b = is.sees kept_all in
+    let stage : (place : ℕ) → stage_at (seen hosts s) place ≡ (seat_at b place).state = λ place. ap (λ (x : Seen). stage_at x place) sees ∙ stage_chosen kept_all b place in
+    let sent : (n : ℕ) (l : Letter) → message (as_read b) n ≡ Some l → message (seen hosts s) n ≡ Some l = λ n l e. ap (λ (x : Seen). message x n) sees ∙ e in
     record {
-      places = long;
-      configs = λ place within. config_is hosts lawful s reach place (subst (λ n. place < n) long within);
-      receivers = λ n l sent. receiver_within hosts lawful s reach n l sent;
-      asks = λ n l sent. brings_input hosts lawful s reach n l sent;
-      known = λ n l sent none. comes_known hosts lawful s reach n l sent none;
-      replies = λ n l clock sent none low widths. replied_so hosts lawful s reach n l sent none clock low widths;
-      peers = λ place within. script_peers hosts lawful s reach place (subst (λ n. place < n) long within);
-      flying = λ n e. among (λ k. IsTrue (is_sent (seen hosts s) k)) s.flying n (recursion_from_All (λ k. IsTrue (is_sent (seen hosts s) k)) s.flying reach.flying) e;
+      places = is.long;
+      hosts_are = λ place within. (
+        subst (λ (x : Stage). IsConfig x.config) (stage place) (config_is hosts lawful s reach place (subst (λ n. place < n) is.long within)),
+        subst (λ (x : Stage). Lawful x.config.number x.book) (stage place) (book_lawful hosts lawful s reach place (subst (λ n. place < n) is.long within)),
+      );
+      receivers = λ n l e. receiver_within hosts lawful s reach n l (sent n l e);
+      asks = λ n l e. subst (λ (x : Stage). IsInput x.config (brings l l.reply)) (stage (receiver hosts l)) (brings_input hosts lawful s reach n l (sent n l e));
+      known = λ n l e none. subst (λ (x : Stage). IsKnown x.config l) (stage (receiver hosts l)) (comes_known hosts lawful s reach n l (sent n l e) none);
+      replies = λ n l clock e none low widths.
+          subst (λ (x : Seen). IsReplyTo l.order.body (reply_to hosts x clock l)) sees
+          (replied_so hosts lawful s reach n l (sent n l e) none clock low (subst (λ (x : Seen). HasWidths (reply_to hosts x clock l)) (sym sees) widths));
+      peers = λ place within. subst (λ (x : Stage). All IsScriptPeer x.config.peers) (stage place) (script_peers hosts lawful s reach place (subst (λ n. place < n) is.long within));
       last = reach.last;
     }
 
@@ -50,31 +58,63 @@ playing hosts lawful s reach =
 pub right_config : (hosts : List ScriptHost) → AreLawfulHosts hosts → (place : ℕ) (h : ScriptHost) → place < length hosts → h ≡ get_or hosts place h → IsConfig (first_config hosts h)
 right_config hosts lawful place h within is = (right_first hosts lawful place h (slice_get-get_or hosts place h within ∙ ap Some (sym is))).config
 
--- how far a rehearsal has come: some world is seen so, and with what is left to run all is reported
-pub record HasCome (comes : Outcomes) (hosts : List ScriptHost) (first : Show) (lines left : List Numbered) (old report : List ℕ) (b : Seen) : Type 0 where
-  pub show : Show
-  pub reaches : Reaches hosts show
-  pub seen_so : seen hosts show ≡ b
-  pub reported : old ++ report_from comes hosts first lines ≡ report ++ report_from comes hosts show left
-  pub ends : after_all comes hosts first lines ≡ after_all comes hosts show left
+-- how far a rehearsal has come: worlds are seen so, and with what is left to run all is reported
+pub record HasCome (comes : Outcomes) (hosts : List ScriptHost) (lines left : List Numbered) (old report : List ℕ) (b : Scene) : Type 0 where
+  pub play : Play
+  pub is : IsPlay hosts play
+  pub scene_so : play.scene ≡ b
+  pub reported : old ++ lines_said comes hosts (first_scene hosts) lines ≡ report ++ lines_said comes hosts b left
+  pub ends : play_lines comes hosts (first_play hosts) lines ≡ play_lines comes hosts play left
+  pub scenes : scene_lines comes hosts (first_scene hosts) lines ≡ scene_lines comes hosts b left
+
+-- before the first one
+pub begun : (comes : Outcomes) (hosts : List ScriptHost) → AreLawfulHosts hosts → (lines : List Numbered) (old : List ℕ) (b : Scene) → b ≡ first_scene hosts → HasCome comes hosts lines lines old old b
+begun comes hosts lawful lines old b is = record {
+  play = first_play hosts;
+  is = first_on hosts lawful;
+  scene_so = sym is;
+  reported = ap (λ x. old ++ lines_said comes hosts x lines) (sym is);
+  ends = refl;
+  scenes = ap (λ x. scene_lines comes hosts x lines) (sym is);
+}
 
 -- one line more
-module _ (comes : Outcomes) (hosts : List ScriptHost) (lawful : AreLawfulHosts hosts) (first : Show) (lines left : List Numbered) (old report : List ℕ) (b : Seen) (l : Numbered) where
-  pub one_more : HasCome comes hosts first lines (l ∷ left) old report b → IsLawfulLine (length hosts) l.line → MayMove b (move_of comes b l.line)
-      → (report_after : List ℕ) → report_after ≡ report ++ line_text l.number (told comes hosts b l.line)
-      → (b_after : Seen) → b_after ≡ seen_after comes hosts b l.line
-      → HasCome comes hosts first lines left old report_after b_after
-  one_more come is may report_after says b_after sees =
-      let s = come.show in
-      let may_then : MayMove (seen hosts s) (move_of comes (seen hosts s) l.line) = subst (λ (x : Seen). MayMove x (move_of comes x l.line)) (sym come.seen_so) may in
+module _ (comes : Outcomes) (hosts : List ScriptHost) (lawful : AreLawfulHosts hosts) (lines left : List Numbered) (old report : List ℕ) (b : Scene) (l : Numbered) where
+  pub one_more : HasCome comes hosts lines (l ∷ left) old report b → IsLawfulLine (length hosts) l.line → MayLine comes hosts b l.line
+      → (report_after : List ℕ) → report_after ≡ report ++ line_text l.number (line_said comes hosts b l.line)
+      → (b_after : Scene) → b_after ≡ scene_line comes hosts b l.line
+      → HasCome comes hosts lines left old report_after b_after
+  one_more come law may report_after says b_after sees =
+      let p : Play = come.play in
       record {
-        show = after comes hosts s l.line;
-        reaches = line_reaches hosts lawful s come.reaches comes l.line is may_then;
-        seen_so = line_seen hosts lawful s come.reaches comes l.line is ∙ (ap (λ x. seen_after comes hosts x l.line) come.seen_so ∙ sym sees);
+        play = play_line comes hosts p l.line;
+        is = line_on comes hosts lawful p come.is l.line law (subst (λ (x : Scene). MayLine comes hosts x l.line) (sym come.scene_so) may);
+        scene_so = ap (λ (x : Scene). scene_line comes hosts x l.line) come.scene_so ∙ sym sees;
         reported =
             come.reported
-            ∙ (ap (λ x. report ++ (line_text l.number (told comes hosts x l.line) ++ report_from comes hosts (after comes hosts s l.line) left)) come.seen_so
-            ∙ (sym (append_assoc report (line_text l.number (told comes hosts b l.line)) (report_from comes hosts (after comes hosts s l.line) left))
-            ∙ ap (λ x. x ++ report_from comes hosts (after comes hosts s l.line) left) (sym says)));
+            ∙ (sym (append_assoc report (line_text l.number (line_said comes hosts b l.line)) (lines_said comes hosts (scene_line comes hosts b l.line) left))
+            ∙ (ap (λ x. x ++ lines_said comes hosts (scene_line comes hosts b l.line) left) (sym says)
+            ∙ ap (λ x. report_after ++ lines_said comes hosts x left) (sym sees)));
         ends = come.ends;
+        scenes = come.scenes ∙ ap (λ x. scene_lines comes hosts x left) (sym sees);
       }
+
+-- where none is left
+abbrev HasConfig : Held Stage → Type 0
+HasConfig h = IsConfig h.state.config
+
+module _ (comes : Outcomes) (hosts : List ScriptHost) (lawful : AreLawfulHosts hosts) (lines : List Numbered) (old report : List ℕ) (b : Scene) (come : HasCome comes hosts lines [] old report b) where
+  pub all_told : report ≡ old ++ lines_said comes hosts (first_scene hosts) lines
+  all_told = sym (come.reported ∙ append-nil report)
+
+  pub worlds_safe : ((p : Play) (turns : Turns) → AreLawfulHosts hosts → IsPlay hosts p → Safe (p.worlds turns)) → (turns : Turns) → Safe ((play_lines comes hosts (first_play hosts) lines).worlds turns)
+  worlds_safe law turns = subst (λ (p : Play). Safe (p.worlds turns)) (sym come.ends) (law come.play turns lawful come.is)
+
+  is_playing : IsPlaying hosts b
+  is_playing = subst (IsPlaying hosts) come.scene_so (playing hosts lawful come.play come.is)
+
+  pub all_configs : All (λ (h : Held Stage). IsConfig h.state.config) b.seats
+  all_configs = All-from_get_or HasConfig b.seats nobody_seat (λ place within. (is_playing.hosts_are place within).0)
+
+  pub last_low : b.last ≤ greatest_moment
+  last_low = is_playing.last

@@ -3,7 +3,6 @@
 
 pub mod line;
 pub mod rehearse;
-mod stopping;
 
-/// Messages that arrive, the requests that lines of a script make, and the hosts of a rehearsal as they stand.
-pub use rehearsal_moves::{arrive, requests, state};
+/// Messages that arrive, what hosts are asked, the requests that lines of a script make, and the hosts of a rehearsal as they stand.
+pub use rehearsal_moves::{arrive, ask, requests, state};

@@ -1,19 +1,18 @@
 //! A line of a script is run on the hosts as they stand, and reported.
 ghost use Rattle.std.specs.Prelude.{◌≡◌, ◌++◌, ◌<◌, All, List, OnOk, codes, false, length, true};
+ghost use Rattle.host_model.specs.Conditions.{IsConfig};
 ghost use Rattle.psched_script.specs.Lawful.{IsLawfulLine};
 ghost use Rattle.psched_script.specs.declared.script.ScriptHost.{ScriptHost};
 ghost use Rattle.report_text.specs.Line.{line_text};
-ghost use Rattle.rehearsal_model.specs.After.{seen_after};
-ghost use Rattle.host_model.specs.Conditions.{IsConfig};
-ghost use Rattle.rehearsal_model.specs.Moves.{Move.Turns, Outcomes, move_of, stopped};
-ghost use Rattle.rehearsal_model.specs.Reaching.{IsScriptPeer, MayMove};
-ghost use Rattle.rehearsal_model.specs.Rehearsal.{plainly_told, retooled, told, turn_told};
-ghost use Rattle.rehearsal_model.specs.Seen.{config_at};
-ghost use Rattle.rehearsal_moves.specs.Moved.{with_move, with_stop, with_tools};
+ghost use Rattle.rehearsal_model.specs.Moves.{Move.Arms, Move.Retools, Move.Turns, Outcomes, moment_of_line};
+ghost use Rattle.rehearsal_model.specs.Plays.{MayLine};
+ghost use Rattle.rehearsal_model.specs.Reaching.{IsScriptPeer};
+ghost use Rattle.rehearsal_model.specs.Rehearsal.{retooled};
+ghost use Rattle.rehearsal_model.specs.Scenes.{Deed.Does, Deed.Fails, at_last, config_of, deed_of, scene_deed, scene_line};
+ghost use Rattle.rehearsal_model.specs.Telling.{line_said, turn_said};
 ghost use Rattle.rehearsal_moves.specs.Ready.{IsReady};
-ghost use Rattle.rehearsal_moves.specs.Playing.{AreConfigs, IsPlaying, is_archive, is_asked, is_at_path};
+ghost use Rattle.rehearsal_moves.specs.Playing.{AreLawful, IsPlaying, is_archive, is_asked, is_at_path, is_of_message};
 
-use crate::stopping::stopped_step;
 use archivers::by_name::Archivers;
 use ps_time::items::Items;
 use ps_time::memory::Memory;
@@ -22,12 +21,12 @@ use ps_time::text::Text;
 use psched_script::script::{Numbered, ScriptHost, ScriptLine, Stop};
 use rehearsal_moves::archive::archive;
 use rehearsal_moves::arrive::{deliver, lose, repeat};
-use rehearsal_moves::ask::{book, booking, limit};
+use rehearsal_moves::ask::{CRASHED, DISK_FAULT, book, booking, limit};
 use rehearsal_moves::request::{delete, get, post};
+use rehearsal_moves::state::came::Came;
 use rehearsal_moves::state::rehearsal::Rehearsal;
 use rehearsal_moves::state::tell::add_letters;
 use rehearsal_moves::state::turn::turn;
-use rehearsal_moves::stopped::crash;
 use report_text::line::{add_ok, add_said};
 use report_text::message::begin_turn;
 use report_text::report::ReportText;
@@ -41,10 +40,10 @@ fn retool(
     line: u64,
     report: &mut ReportText,
 ) -> Result<(), Memory>
-    requires place { place < length now.old.stages }
-    requires config { IsConfig (retooled tools.now (config_at now.old place)) }
+    requires place { place < length now.old.seats }
+    requires config { IsConfig (retooled tools.now (config_of now.old place)) }
     ensures report { OnOk result (report.new ≡ report.old ++ line_text line (codes "ok")) }
-    ensures seen { OnOk result (now.new ≡ with_tools now.old place tools.now) }
+    ensures scene { (hosts : List ScriptHost) → OnOk result (now.new ≡ scene_deed hosts now.old (Does (Retools place tools.now))) }
 {
     let tools = tools.copy(alloc)?;
     now.retool(alloc, place, tools)?;
@@ -60,9 +59,25 @@ fn arm(
     report: &mut ReportText,
 ) -> Result<(), Memory>
     ensures report { OnOk result (report.new ≡ report.old ++ line_text line (codes "armed")) }
-    ensures seen { OnOk result (now.new ≡ with_stop now.old place stop) }
+    ensures scene { (hosts : List ScriptHost) → OnOk result (now.new ≡ scene_deed hosts now.old (Does (Arms place stop))) }
 {
     now.arm(place, stop)?;
+    add_said(report, line, "armed")
+}
+
+/// Of each disk of the host at a place the call of this number is to fail.
+fn fail(
+    now: &mut Rehearsal,
+    place: usize,
+    call: u64,
+    line: u64,
+    report: &mut ReportText,
+) -> Result<(), Memory>
+    requires { place < length now.old.seats }
+    ensures report { OnOk result (report.new ≡ report.old ++ line_text line (codes "armed")) }
+    ensures scene { (hosts : List ScriptHost) → OnOk result (now.new ≡ scene_deed hosts now.old (Fails place call)) }
+{
+    now.fail_at(place, call);
     add_said(report, line, "armed")
 }
 
@@ -77,16 +92,22 @@ fn take_turn(
     report: &mut ReportText,
 ) -> Result<(), Memory>
     requires ready { IsReady now.old place clock }
-    requires peers { All IsScriptPeer (config_at now.old place).peers }
-    ensures report { OnOk result (report.new ≡ report.old ++ line_text line (turn_told hosts.now now.old place clock)) }
-    ensures seen { OnOk result (now.new ≡ with_move hosts.now now.old (Turns place clock)) }
+    requires peers { All IsScriptPeer (config_of now.old place).peers }
+    ensures report { OnOk result (report.new ≡ report.old ++ line_text line (turn_said hosts.now now.old place clock)) }
+    ensures scene { OnOk result (now.new ≡ scene_deed hosts.now now.old (Does (Turns place clock))) }
 {
     let before = now.messages().len();
-    let reply = turn(alloc, now, place, clock)?;
-    let begun = begin_turn(report, line, &reply);
-    drop(reply);
-    begun?;
-    add_letters(report, hosts, now.messages(), before)
+    let broken = now.count_broken();
+    match turn(alloc, now, place, clock)? {
+        Came::Answered(reply) => {
+            let begun = begin_turn(report, line, &reply);
+            drop(reply);
+            begun?;
+            add_letters(report, hosts, now.messages(), before, broken)
+        }
+        Came::Faulted => add_said(report, line, DISK_FAULT),
+        Came::Crashed => add_said(report, line, CRASHED),
+    }
 }
 
 // A line that speaks of what stands at a path.
@@ -98,11 +119,11 @@ fn run_at_path(
     report: &mut ReportText,
 ) -> Result<(), Memory>
     requires kind { is_at_path event.now ≡ true }
-    requires lawful { IsLawfulLine (length now.old.stages) event.now }
-    requires configs { AreConfigs now.old }
-    ensures report { (comes : Outcomes) (hosts : List ScriptHost) → OnOk result (report.new ≡ report.old ++ line_text line (plainly_told comes hosts now.old event.now)) }
-    ensures seen { (comes : Outcomes) (hosts : List ScriptHost) → OnOk result (now.new ≡ with_move hosts now.old (move_of comes now.old event.now)) }
-    ensures may { (comes : Outcomes) → OnOk result (MayMove now.old (move_of comes now.old event.now)) }
+    requires lawful { IsLawfulLine (length now.old.seats) event.now }
+    requires hosts { AreLawful now.old }
+    ensures report { (comes : Outcomes) (hosts : List ScriptHost) → OnOk result (report.new ≡ report.old ++ line_text line (line_said comes hosts now.old event.now)) }
+    ensures scene { (comes : Outcomes) (hosts : List ScriptHost) → OnOk result (now.new ≡ scene_deed hosts now.old (deed_of comes now.old event.now)) }
+    ensures may { (comes : Outcomes) (hosts : List ScriptHost) → OnOk result (MayLine comes hosts now.old event.now) }
 {
     match event {
         ScriptLine::Get { at, host, path } => {
@@ -131,11 +152,11 @@ fn run_asked(
     report: &mut ReportText,
 ) -> Result<(), Memory>
     requires kind { is_asked event.now ≡ true }
-    requires lawful { IsLawfulLine (length now.old.stages) event.now }
-    requires configs { AreConfigs now.old }
-    ensures report { (comes : Outcomes) (hosts : List ScriptHost) → OnOk result (report.new ≡ report.old ++ line_text line (plainly_told comes hosts now.old event.now)) }
-    ensures seen { (comes : Outcomes) (hosts : List ScriptHost) → OnOk result (now.new ≡ with_move hosts now.old (move_of comes now.old event.now)) }
-    ensures may { (comes : Outcomes) → OnOk result (MayMove now.old (move_of comes now.old event.now)) }
+    requires lawful { IsLawfulLine (length now.old.seats) event.now }
+    requires hosts { AreLawful now.old }
+    ensures report { (comes : Outcomes) (hosts : List ScriptHost) → OnOk result (report.new ≡ report.old ++ line_text line (line_said comes hosts now.old event.now)) }
+    ensures scene { (comes : Outcomes) (hosts : List ScriptHost) → OnOk result (now.new ≡ scene_deed hosts now.old (deed_of comes now.old event.now)) }
+    ensures may { (comes : Outcomes) (hosts : List ScriptHost) → OnOk result (MayLine comes hosts now.old event.now) }
 {
     match event {
         ScriptLine::Book {
@@ -162,7 +183,35 @@ fn run_asked(
     }
 }
 
-// What a line asks for happens, and no step of it stops. The line has no host try an archive.
+// A line that speaks of a message.
+fn run_message(
+    alloc: Global,
+    hosts: &[ScriptHost],
+    now: &mut Rehearsal,
+    event: &ScriptLine,
+    line: u64,
+    report: &mut ReportText,
+) -> Result<(), Memory>
+    requires kind { is_of_message event.now ≡ true }
+    requires playing { IsPlaying hosts.now now.old }
+    requires lawful { IsLawfulLine (length hosts.now) event.now }
+    ensures report { (comes : Outcomes) → OnOk result (report.new ≡ report.old ++ line_text line (line_said comes hosts.now now.old event.now)) }
+    ensures scene { (comes : Outcomes) → OnOk result (now.new ≡ scene_deed hosts.now now.old (deed_of comes now.old event.now)) }
+    ensures may { (comes : Outcomes) → MayLine comes hosts.now now.old event.now }
+{
+    match event {
+        ScriptLine::Deliver { at, message } => deliver(
+            alloc, hosts, now, *message, *at, line, report,
+        ),
+        ScriptLine::Repeat { at, message } => repeat(
+            alloc, hosts, now, *message, *at, line, report,
+        ),
+        ScriptLine::Lose { message } => lose(now, *message, line, report),
+        _ => Ok(()),
+    }
+}
+
+// What a line asks for happens. The line has no host try an archive.
 fn run_event(
     alloc: Global,
     hosts: &[ScriptHost],
@@ -174,9 +223,9 @@ fn run_event(
     requires kind { is_archive event.now ≡ false }
     requires playing { IsPlaying hosts.now now.old }
     requires lawful { IsLawfulLine (length hosts.now) event.now }
-    ensures report { (comes : Outcomes) → OnOk result (report.new ≡ report.old ++ line_text line (plainly_told comes hosts.now now.old event.now)) }
-    ensures seen { (comes : Outcomes) → OnOk result (now.new ≡ with_move hosts.now now.old (move_of comes now.old event.now)) }
-    ensures may { (comes : Outcomes) → OnOk result (MayMove now.old (move_of comes now.old event.now)) }
+    ensures report { (comes : Outcomes) → OnOk result (report.new ≡ report.old ++ line_text line (line_said comes hosts.now now.old event.now)) }
+    ensures scene { (comes : Outcomes) → OnOk result (now.new ≡ scene_deed hosts.now now.old (deed_of comes now.old event.now)) }
+    ensures may { (comes : Outcomes) → OnOk result (MayLine comes hosts.now now.old event.now) }
 {
     match event {
         ScriptLine::Host { .. } => add_ok(report, line),
@@ -184,61 +233,11 @@ fn run_event(
         ScriptLine::Limits { host, limits } => limit(alloc, now, *host, limits, line, report),
         ScriptLine::Turn { at, host } => take_turn(alloc, hosts, now, *host, *at, line, report),
         ScriptLine::Crash { at: _, host, stop } => arm(now, *host, *stop, line, report),
-        ScriptLine::Deliver { at, message } => deliver(
-            alloc, hosts, now, *message, *at, line, report,
-        ),
-        ScriptLine::Repeat { at, message } => repeat(
-            alloc, hosts, now, *message, *at, line, report,
-        ),
-        ScriptLine::Lose { message } => lose(now, *message, line, report),
+        ScriptLine::Fail { at: _, host, call } => fail(now, *host, *call, line, report),
+        ScriptLine::Deliver { .. } | ScriptLine::Repeat { .. } | ScriptLine::Lose { .. } => {
+            run_message(alloc, hosts, now, event, line, report)
+        }
         _ => run_asked(alloc, now, event, line, report),
-    }
-}
-
-// What a line asks for happens, or its step stops. The line has no host try an archive.
-fn run_or_crash(
-    alloc: Global,
-    hosts: &[ScriptHost],
-    now: &mut Rehearsal,
-    event: &ScriptLine,
-    line: u64,
-    report: &mut ReportText,
-) -> Result<(), Memory>
-    requires kind { is_archive event.now ≡ false }
-    requires playing { IsPlaying hosts.now now.old }
-    requires lawful { IsLawfulLine (length hosts.now) event.now }
-    ensures report { (comes : Outcomes) → OnOk result (report.new ≡ report.old ++ line_text line (told comes hosts.now now.old event.now)) }
-    ensures seen { (comes : Outcomes) → OnOk result (now.new ≡ with_move hosts.now now.old (stopped hosts.now now.old (move_of comes now.old event.now))) }
-    ensures may { (comes : Outcomes) → OnOk result (MayMove now.old (move_of comes now.old event.now)) }
-{
-    match stopped_step(alloc, hosts, now, event)? {
-        Some(step) => crash(alloc, now, step, line, report),
-        None => run_event(alloc, hosts, now, event, line, report),
-    }
-}
-
-// An attempt is made, where the line asks for one, or what else it asks for happens; or its step stops.
-fn try_or_run<A: Archivers>(
-    alloc: Global,
-    hosts: &[ScriptHost],
-    archivers: &mut A,
-    now: &mut Rehearsal,
-    event: &ScriptLine,
-    line: u64,
-    report: &mut ReportText,
-) -> Result<(), Memory>
-    requires playing { IsPlaying hosts.now now.old }
-    requires lawful { IsLawfulLine (length hosts.now) event.now }
-    ensures report { OnOk result (report.new ≡ report.old ++ line_text line (told (A.comes archivers.old) hosts.now now.old event.now)) }
-    ensures seen { OnOk result (now.new ≡ with_move hosts.now now.old (stopped hosts.now now.old (move_of (A.comes archivers.old) now.old event.now))) }
-    ensures may { OnOk result (MayMove now.old (move_of (A.comes archivers.old) now.old event.now)) }
-    ensures stays { A.comes archivers.new ≡ A.comes archivers.old }
-{
-    match event {
-        ScriptLine::Archive { at, host } => archive(
-            alloc, archivers, now, *host, *at, line, report,
-        ),
-        _ => run_or_crash(alloc, hosts, now, event, line, report),
     }
 }
 
@@ -253,13 +252,20 @@ pub fn run_line<A: Archivers>(
 ) -> Result<(), Memory>
     requires playing { IsPlaying hosts.now now.old }
     requires lawful { IsLawfulLine (length hosts.now) numbered.now.line }
-    ensures report { OnOk result (report.new ≡ report.old ++ line_text numbered.now.number (told (A.comes archivers.old) hosts.now now.old numbered.now.line)) }
-    ensures seen { OnOk result (now.new ≡ seen_after (A.comes archivers.old) hosts.now now.old numbered.now.line) }
-    ensures may { OnOk result (MayMove now.old (move_of (A.comes archivers.old) now.old numbered.now.line)) }
+    ensures report { OnOk result (report.new ≡ report.old ++ line_text numbered.now.number (line_said (A.comes archivers.old) hosts.now now.old numbered.now.line)) }
+    ensures scene { OnOk result (now.new ≡ scene_line (A.comes archivers.old) hosts.now now.old numbered.now.line) }
+    ensures may { OnOk result (MayLine (A.comes archivers.old) hosts.now now.old numbered.now.line) }
     ensures stays { A.comes archivers.new ≡ A.comes archivers.old }
 {
     let line = numbered.number;
-    try_or_run(alloc, hosts, archivers, now, &numbered.line, line, report)?;
+    match &numbered.line {
+        ScriptLine::Archive { at, host } => {
+            archive(alloc, archivers, now, *host, *at, line, report)?;
+        }
+        event => {
+            run_event(alloc, hosts, now, event, line, report)?;
+        }
+    }
     now.advance(numbered.line.moment().unwrap_or(0));
     Ok(())
 }

@@ -1,20 +1,26 @@
 //! Rehearsals: the hosts of a script are run line by line, and what they do is reported.
-ghost use Rattle.std.specs.Prelude.{◌≡◌, ◌++◌, ◌≤◌, IfOk, OnOk, map};
+ghost use Rattle.std.specs.Prelude.{◌≡◌, ◌++◌, ◌≤◌, All, IfOk, OnOk, flat_map, map, true};
 ghost use Rattle.ps_time.specs.declared.moment.TheConstants.{MAX_MOMENT};
+ghost use Rattle.host_model.specs.Conditions.{IsConfig};
 ghost use Rattle.psched_script.specs.Lawful.{AreLawfulHosts, IsLawful};
 ghost use Rattle.psched_world.specs.Laws.{Safe};
-ghost use Rattle.rehearsal_model.specs.After.{first_seen, opened_stage};
-ghost use Rattle.rehearsal_model.specs.Reaching.{Reaches};
-ghost use Rattle.rehearsal_model.specs.Rehearsal.{first_show, last_show, report_from, report_of, seen, tables, world_of};
-ghost use Rattle.rehearsal_moves.specs.Kept.{AreKeptOn};
+ghost use Rattle.rehearsal_model.specs.Hosts.{first_config};
+ghost use Rattle.rehearsal_model.specs.Rehearsal.{stage_table};
+ghost use Rattle.rehearsal_model.specs.Scenes.{Turns, first_scene, last_scene, world_of};
+ghost use Rattle.rehearsal_model.specs.Seats.{opened_anew};
+ghost use Rattle.rehearsal_model.specs.Telling.{lines_said, report_of};
+ghost use Rattle.rehearsal_moves.specs.Kept.{AreKeptOn, IsKeptOn};
 
 use crate::line::run_line;
 use archivers::by_name::Archivers;
+use host_model::input::Input;
+use host_model::view::Page;
 use ps_disks::memory_disk::MemoryDisk;
 use ps_time::items::Items;
 use ps_time::memory::Memory;
+use ps_time::moment::Moment;
 use psched_script::script::{Script, ScriptHost};
-use rehearsal_model::law::{law_config, law_first, law_line, law_message, law_rehearsed};
+use rehearsal_model::law::{law_config, law_message, law_played};
 use rehearsal_moves::state::hosts::first_config;
 use rehearsal_moves::state::rehearsal::Rehearsal;
 use rehearsal_moves::state::seat::Seat;
@@ -25,7 +31,7 @@ use std::alloc::Global;
 /// The hosts of a script, opened at moment 0.
 pub fn open_hosts(alloc: Global, hosts: &[ScriptHost]) -> Result<Vec<Seat>, Memory>
     requires { AreLawfulHosts hosts.now }
-    ensures { IfOk result (λ seats. seats.items ≡ map (opened_stage hosts.now) hosts.now) }
+    ensures { IfOk result (λ seats. seats.items ≡ map (λ host. opened_anew (first_config hosts.now host)) hosts.now) }
 {
     let mut seats = Vec::new(alloc);
     for host in hosts {
@@ -43,16 +49,17 @@ fn run_lines<A: Archivers>(
     report: &mut ReportText,
 ) -> Result<(), Memory>
     requires lawful { IsLawful script.now }
-    requires first { now.old ≡ first_seen script.now.hosts }
-    ensures report { OnOk result (report.new ≡ report.old ++ report_from (A.comes archivers.old) script.now.hosts (first_show script.now.hosts) script.now.lines) }
-    ensures seen { OnOk result (now.new ≡ seen script.now.hosts (last_show (A.comes archivers.old) script.now)) }
-    ensures reaches { OnOk result (Reaches script.now.hosts (last_show (A.comes archivers.old) script.now)) }
+    requires first { now.old ≡ first_scene script.now.hosts }
+    ensures report { OnOk result (report.new ≡ report.old ++ lines_said (A.comes archivers.old) script.now.hosts (first_scene script.now.hosts) script.now.lines) }
+    ensures scene { OnOk result (now.new ≡ last_scene (A.comes archivers.old) script.now) }
+    ensures safe { (turns : Turns) → OnOk result (Safe (world_of (A.comes archivers.old) script.now turns)) }
+    ensures configs { OnOk result (All (λ seat. IsConfig seat.state.config) now.new.seats) }
+    ensures moment { OnOk result (now.new.last ≤ MAX_MOMENT) }
     ensures stays { A.comes archivers.new ≡ A.comes archivers.old }
 {
-    law_first();
-    law_line();
     law_config();
     law_message();
+    law_played();
     let hosts = script.hosts.as_slice();
     for numbered in script.lines.as_slice() {
         run_line(alloc, hosts, archivers, now, numbered, report)?;
@@ -60,17 +67,35 @@ fn run_lines<A: Archivers>(
     Ok(())
 }
 
-// The table of each host, at the greatest moment of the lines.
-fn add_tables(alloc: Global, now: &Rehearsal, report: &mut ReportText) -> Result<(), Memory>
-    requires { now.now.last ≤ MAX_MOMENT }
-    ensures { OnOk result (report.new ≡ report.old ++ tables now.now) }
+// The host once it knows what stands. After a fault of a disk it finds that out by looking at its first page.
+fn settle(alloc: Global, seat: Seat, clock: Moment) -> Result<Seat, Memory>
+    requires config { IsConfig seat.state.config }
+    requires clock { clock ≤ MAX_MOMENT }
+    ensures ready { IfOk result (λ settled. settled.ready ≡ true) }
+    ensures state { IfOk result (λ settled. settled.state ≡ seat.state) }
 {
-    let moment = now.last();
-    for seat in now.seats() {
-        let name = seat.config().name.as_str();
-        add_table(alloc, report, name, seat.book().rows().in_order(), moment)?;
+    if seat.is_ready() {
+        return Ok(seat);
     }
-    Ok(())
+    let mut seat = seat;
+    seat.fail_at(0);
+    let reply = seat.act(alloc, clock, Input::View(Page::Home))?;
+    drop(reply);
+    Ok(seat)
+}
+
+fn add_host_table(
+    alloc: Global,
+    seat: &Seat,
+    moment: Moment,
+    report: &mut ReportText,
+) -> Result<(), Memory>
+    requires ready { seat.now.ready ≡ true }
+    requires moment { moment ≤ MAX_MOMENT }
+    ensures { OnOk result (report.new ≡ report.old ++ stage_table moment seat.now.state) }
+{
+    let name = seat.config().name.as_str();
+    add_table(alloc, report, name, seat.book().rows().in_order(), moment)
 }
 
 /// The disks of a host, in their order.
@@ -84,12 +109,42 @@ pub struct Rehearsed {
     pub disks: Vec<Disks>,
 }
 
-fn disks_of(alloc: Global, seats: Vec<Seat>) -> Result<Vec<Disks>, Memory>
-    ensures { IfOk result (λ disks. AreKeptOn seats.items disks.items) }
+// The table of a host at a moment, in seconds since 1970 UTC, and its disks.
+fn finish(
+    alloc: Global,
+    seat: Seat,
+    moment: Moment,
+    report: &mut ReportText,
+) -> Result<Disks, Memory>
+    requires config { IsConfig seat.state.config }
+    requires moment { moment ≤ MAX_MOMENT }
+    ensures report { OnOk result (report.new ≡ report.old ++ stage_table moment seat.state) }
+    ensures kept { IfOk result (λ disks. IsKeptOn seat.state disks.0 disks.1) }
+{
+    let seat = settle(alloc, seat, moment)?;
+    match add_host_table(alloc, &seat, moment, report) {
+        Ok(()) => seat.into_disks(),
+        Err(fault) => {
+            drop(seat);
+            Err(fault)
+        }
+    }
+}
+
+fn finish_all(
+    alloc: Global,
+    seats: Vec<Seat>,
+    moment: Moment,
+    report: &mut ReportText,
+) -> Result<Vec<Disks>, Memory>
+    requires configs { All (λ seat. IsConfig seat.state.config) seats.items }
+    requires moment { moment ≤ MAX_MOMENT }
+    ensures report { OnOk result (report.new ≡ report.old ++ flat_map (λ seat. stage_table moment seat.state) seats.items) }
+    ensures kept { IfOk result (λ disks. AreKeptOn seats.items disks.items) }
 {
     let mut disks = Vec::new(alloc);
     for seat in seats {
-        disks.push(seat.into_disks()?)?;
+        disks.push(finish(alloc, seat, moment, report)?)?;
     }
     Ok(disks)
 }
@@ -104,17 +159,17 @@ pub fn run_script<A: Archivers>(
     requires { IsLawful script.now }
     ensures report { IfOk result (λ made. made.report ≡ report_of (A.comes archivers.old) script.now) }
     // What each host did is kept.
-    ensures kept { IfOk result (λ made. AreKeptOn (seen script.now.hosts (last_show (A.comes archivers.old) script.now)).stages made.disks.items) }
-    ensures safe { OnOk result (Safe (world_of (A.comes archivers.old) script.now)) }
+    ensures kept { IfOk result (λ made. AreKeptOn (last_scene (A.comes archivers.old) script.now).seats made.disks.items) }
+    // Whichever way it turns out what faults of disks left.
+    ensures safe { (turns : Turns) → OnOk result (Safe (world_of (A.comes archivers.old) script.now turns)) }
     ensures stays { A.comes archivers.new ≡ A.comes archivers.old }
 {
-    law_rehearsed();
     let seats = open_hosts(alloc, script.hosts.as_slice())?;
     let mut now = Rehearsal::new(alloc, seats)?;
     let mut report = ReportText::new(alloc);
     run_lines(alloc, script, archivers, &mut now, &mut report)?;
-    add_tables(alloc, &now, &mut report)?;
-    let disks = disks_of(alloc, now.into_seats())?;
+    let moment = now.last();
+    let disks = finish_all(alloc, now.into_seats(), moment, &mut report)?;
     Ok(Rehearsed {
         report: report.into_bytes(),
         disks,
@@ -129,7 +184,7 @@ pub fn rehearse<A: Archivers>(
 ) -> Result<Items<u8>, Memory>
     requires { IsLawful script.now }
     ensures report { IfOk result (λ report. report ≡ report_of (A.comes archivers.old) script.now) }
-    ensures safe { OnOk result (Safe (world_of (A.comes archivers.old) script.now)) }
+    ensures safe { (turns : Turns) → OnOk result (Safe (world_of (A.comes archivers.old) script.now turns)) }
     ensures stays { A.comes archivers.new ≡ A.comes archivers.old }
 {
     let Rehearsed { report, disks } = run_script(alloc, script, archivers)?;

@@ -15,7 +15,7 @@ use Rattle.plugin_core.specs.ReadTest.{all_differ}
 use Rattle.task_spec.specs.ReadTask.{is_tool}
 use Rattle.psched_script.specs.Kind.{kind_of}
 use Rattle.psched_script.specs.Lawful.{IsLawfulHost, IsLawfulLine, FollowsHosts, hosts_after, HasKeptLimits}
-use Rattle.psched_script.specs.Line.{need, check, place_of, is_repeated, host_named, host_at, host_asked, rest, limits_of, host_line, tools_line, limits_line, book_line, post_line, get_line, delete_line, turn_line, archive_line, crash_line, deliver_line, repeat_line, lose_line, line_by_kind}
+use Rattle.psched_script.specs.Line.{need, check, place_of, is_repeated, host_named, host_at, host_asked, rest, limits_of, host_line, tools_line, limits_line, book_line, post_line, get_line, delete_line, turn_line, archive_line, crash_line, fail_line, deliver_line, repeat_line, lose_line, line_by_kind}
 use Rattle.psched_script.specs.Script.{is_skipped, fields_of, line_of}
 use Rattle.psched_script.specs.Words.{within, number_of, moment_of, numeral_of, image_of, priority_of, is_address, tools_of}
 use Rattle.psched_script.specs.declared.kind.Kind.{Kind}
@@ -26,7 +26,7 @@ use Rattle.psched_script.specs.declared.script.Reason.{Reason}
 use Rattle.psched_script.specs.declared.script.Reason.TheVariants.{NotUtf8, UnknownWord, BadNumber, BadName, NoSuchHost, RepeatedHost, TooManyHosts, BadClass, BadTool, BadLimits, BadImage}
 use Rattle.psched_script.specs.declared.script.ScriptHost.{ScriptHost}
 use Rattle.psched_script.specs.declared.script.ScriptLine.{ScriptLine}
-use Rattle.psched_script.specs.declared.script.ScriptLine.TheVariants.{Tools, Limits, Book, Post, Get, Delete, Turn, Archive, Crash, Deliver, Repeat, Lose}
+use Rattle.psched_script.specs.declared.script.ScriptLine.TheVariants.{Tools, Limits, Book, Post, Get, Delete, Turn, Archive, Crash, Fail, Deliver, Repeat, Lose}
 
 -- ---- what holds of each value that a step goes on with holds of the whole
 need_keeps : {A B : Type 0} (P : B → Type 0) (o : Option A) (reason : Reason) (next : A → Result B Reason) → ((a : A) → o ≡ Some a → IfOk (next a) P) → IfOk (need o reason next) P
@@ -235,6 +235,14 @@ module _ (hosts : List ScriptHost) where
       record { law = (moment_bound at t t_is, h_is); follows = h_is; stays = refl }))))
   crash_fits _ = tt
 
+  fail_fits : (fields : List (List ℕ)) → IfOk (fail_line hosts fields) Fits
+  fail_fits (at ∷ name ∷ word ∷ call ∷ []) =
+      need_keeps Fits (moment_of at) BadNumber _ (λ t t_is.
+      need_keeps Fits (numeral_of call) BadNumber _ (λ k k_is.
+      then_keeps (IsHost hosts) Fits (host_named hosts name) (λ h. Ok (Event (Fail t h k))) (named_fits hosts name) (λ h h_is _.
+      record { law = (moment_bound at t t_is, h_is); follows = h_is; stays = refl })))
+  fail_fits _ = tt
+
   deliver_fits : (fields : List (List ℕ)) → IfOk (deliver_line fields) Fits
   deliver_fits (at ∷ word ∷ message ∷ []) =
       need_keeps Fits (moment_of at) BadNumber _ (λ t t_is.
@@ -267,10 +275,10 @@ module _ (hosts : List ScriptHost) where
   kind_fits kind.Turn fields = turn_fits fields
   kind_fits kind.Archive fields = archive_fits fields
   kind_fits kind.Crash fields = crash_fits fields
+  kind_fits kind.Fail fields = fail_fits fields
   kind_fits kind.Deliver fields = deliver_fits fields
   kind_fits kind.Repeat fields = repeat_fits fields
   kind_fits kind.Lose fields = lose_fits fields
-  kind_fits kind.Later fields = tt
 
   pub line_fits : (bytes : List ℕ) → IfOk (line_of hosts bytes) Fits
   unfolding line_of

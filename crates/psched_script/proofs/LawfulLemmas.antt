@@ -17,7 +17,7 @@ use Rattle.psched_script.specs.declared.script.Reason.{Reason}
 use Rattle.psched_script.specs.declared.script.Script.{Script}
 use Rattle.psched_script.specs.declared.script.ScriptHost.{ScriptHost}
 use Rattle.psched_script.specs.declared.script.ScriptLine.{ScriptLine}
-use Rattle.psched_script.specs.declared.script.ScriptLine.TheVariants.{Host, Tools, Limits, Book, Post, Get, Delete, Turn, Archive, Crash, Deliver, Repeat, Lose}
+use Rattle.psched_script.specs.declared.script.ScriptLine.TheVariants.{Host, Tools, Limits, Book, Post, Get, Delete, Turn, Archive, Crash, Fail, Deliver, Repeat, Lose}
 use Rattle.psched_script.proofs.FitLemmas.{Fits, FitsHosts, line_fits}
 
 -- one more item that differs from each
@@ -62,6 +62,7 @@ line_more m n more (Delete at host address path) law = (law.0, omega arith, law.
 line_more m n more (Turn at host) law = (law.0, omega arith)
 line_more m n more (Archive at host) law = (law.0, omega arith)
 line_more m n more (Crash at host stop) law = (law.0, omega arith)
+line_more m n more (Fail at host call) law = (law.0, omega arith)
 line_more m n more (Deliver at message) law = law
 line_more m n more (Repeat at message) law = law
 line_more m n more (Lose message) law = tt

@@ -12,7 +12,7 @@ use Rattle.psched_script.specs.declared.script.Reason.{Reason}
 use Rattle.psched_script.specs.declared.script.Reason.TheVariants.{NotUtf8, UnknownWord, WrongNumberOfFields, BadNumber, BadName, NoSuchHost, RepeatedHost, BadClass, BadTool, BadImage}
 use Rattle.psched_script.specs.declared.script.ScriptFault.TheVariants.{Refused}
 use Rattle.psched_script.specs.declared.script.ScriptHost.{ScriptHost}
-use Rattle.psched_script.specs.declared.script.ScriptLine.TheVariants.{Host, Tools, Limits, Book, Post, Get, Delete, Turn, Archive, Crash, Deliver, Repeat, Lose}
+use Rattle.psched_script.specs.declared.script.ScriptLine.TheVariants.{Host, Tools, Limits, Book, Post, Get, Delete, Turn, Archive, Crash, Fail, Deliver, Repeat, Lose}
 use Rattle.psched_script.proofs.OnLiterals.{script_on_literals}
 
 abbrev declared : List ScriptHost
@@ -39,10 +39,11 @@ read_lines :
     × (says (codes "5 a archive") ≡ Ok (Event (Archive 5 0)))
     × (says (codes "5 deliver 7") ≡ Ok (Event (Deliver 5 7)))
     × (says (codes "5 a crash 4 torn") ≡ Ok (Event (Crash 5 0 (record { call = 4; image = Torn }))))
+    × (says (codes "5 a fail 4") ≡ Ok (Event (Fail 5 0 4)))
     × (says (codes "5 repeat 0") ≡ Ok (Event (Repeat 5 0)))
     × (says (codes "lose 9999999999") ≡ Ok (Event (Lose 9999999999)))
 unfolding script_on_literals
-read_lines = (refl, refl, refl, refl, refl, refl, refl, refl, refl, refl, refl, refl, refl, refl, refl, refl, refl, refl)
+read_lines = (refl, refl, refl, refl, refl, refl, refl, refl, refl, refl, refl, refl, refl, refl, refl, refl, refl, refl, refl)
 
 -- the limits are the rest of the line
 read_limits : says (codes "limits a " ++ open_text) ≡ Ok (Event (Limits 0 open_config))
@@ -53,23 +54,26 @@ refused_lines :
     (says (35 ∷ 255 ∷ []) ≡ Err NotUtf8)
     × (says (codes "5 a") ≡ Err UnknownWord)
     × (says (codes "5 a turns") ≡ Err UnknownWord)
-    × (says (codes "5 a fail 1") ≡ Err UnknownWord)
-    × (says (codes "5 deliver fail") ≡ Err UnknownWord)
+    × (says (codes "5 a fails 1") ≡ Err UnknownWord)
+    × (says (codes "5 deliver fail") ≡ Err WrongNumberOfFields)
     × (says (codes "x A book loud") ≡ Err WrongNumberOfFields)
     × (says (codes "tools a sleep snooze") ≡ Err WrongNumberOfFields)
     × (says (codes "limits a") ≡ Err WrongNumberOfFields)
     × (says (codes "5 a post 10.0.0.1") ≡ Err WrongNumberOfFields)
+    × (says (codes "x B fail 1 old") ≡ Err WrongNumberOfFields)
     × (says (codes "5 deliver") ≡ Err WrongNumberOfFields)
     × (says (codes "x a turn") ≡ Err BadNumber)
     × (says (codes "host B 0") ≡ Err BadNumber)
     × (says (codes "4102444801 A get /x") ≡ Err BadNumber)
     × (says (codes "5 repeat 00000000001") ≡ Err BadNumber)
     × (says (codes "lose -1") ≡ Err BadNumber)
+    × (says (codes "5 b fail -1") ≡ Err BadNumber)
     × (says (codes "host B 1") ≡ Err BadName)
     × (says (codes "tools A ping") ≡ Err BadName)
     × (says (codes "5  archive") ≡ Err BadName)
     × (says (codes "5 b book loud 0 100 10") ≡ Err NoSuchHost)
     × (says (codes "limits b {") ≡ Err NoSuchHost)
+    × (says (codes "5 b fail 1") ≡ Err NoSuchHost)
     × (says (codes "host b 2") ≡ Err RepeatedHost)
     × (says (codes "5 a book loud 0 100 10") ≡ Err BadClass)
     × (says (codes "tools a ") ≡ Err BadTool)
@@ -77,7 +81,7 @@ refused_lines :
     × (says (codes "tools a sleep,snooze,sleep") ≡ Err BadTool)
     × (says (codes "5 a crash 4 older") ≡ Err BadImage)
 unfolding script_on_literals
-refused_lines = (refl, refl, refl, refl, refl, refl, refl, refl, refl, refl, refl, refl, refl, refl, refl, refl, refl, refl, refl, refl, refl, refl, refl, refl, refl, refl)
+refused_lines = (refl, refl, refl, refl, refl, refl, refl, refl, refl, refl, refl, refl, refl, refl, refl, refl, refl, refl, refl, refl, refl, refl, refl, refl, refl, refl, refl, refl, refl)
 
 read_script : script_of (codes "# one\nhost a 1\n\n0 a turn\nlose 1") ≡ Ok (record {
   hosts = record { name = codes "a"; number = 1 } ∷ [];

@@ -3,7 +3,7 @@ use Rattle.std.specs.Prelude.{ℕ, List, [], slice_index_or, Option, Some, None,
 use Rattle.std.specs.Option.{option_or}
 use Rattle.std.specs.Str.{bytes_eq}
 use Rattle.psched_script.specs.declared.kind.Kind.{Kind}
-use Rattle.psched_script.specs.declared.kind.Kind.TheVariants.{Host, Tools, Limits, Book, Post, Get, Delete, Turn, Archive, Crash, Deliver, Repeat, Lose, Later}
+use Rattle.psched_script.specs.declared.kind.Kind.TheVariants.{Host, Tools, Limits, Book, Post, Get, Delete, Turn, Archive, Crash, Fail, Deliver, Repeat, Lose}
 
 abbrev pub kind_by_first : List ℕ → Option Kind
 kind_by_first word =
@@ -28,7 +28,7 @@ kind_by_third word =
     else if bytes_eq word (codes "turn") then Some Turn
     else if bytes_eq word (codes "archive") then Some Archive
     else if bytes_eq word (codes "crash") then Some Crash
-    else if bytes_eq word (codes "fail") then Some Later
+    else if bytes_eq word (codes "fail") then Some Fail
     else None
 
 -- by the first field, or else the third, or else the second

@@ -11,7 +11,7 @@ use Rattle.psched_script.specs.declared.lines.Content.{Content}
 use Rattle.psched_script.specs.declared.lines.Content.TheVariants.{Event}
 use Rattle.psched_script.specs.declared.script.ScriptHost.{ScriptHost}
 use Rattle.psched_script.specs.declared.script.ScriptLine.{ScriptLine}
-use Rattle.psched_script.specs.declared.script.ScriptLine.TheVariants.{Host, Tools, Limits, Book, Post, Get, Delete, Turn, Archive, Crash, Deliver, Repeat, Lose}
+use Rattle.psched_script.specs.declared.script.ScriptLine.TheVariants.{Host, Tools, Limits, Book, Post, Get, Delete, Turn, Archive, Crash, Fail, Deliver, Repeat, Lose}
 use Rattle.psched_script.specs.declared.script.Numbered.{Numbered}
 use Rattle.psched_script.specs.declared.script.Script.{Script}
 
@@ -44,6 +44,7 @@ IsLawfulLine hosts (Delete at host address path) = (at ≤ greatest_moment) × (
 IsLawfulLine hosts (Turn at host) = (at ≤ greatest_moment) × (host < hosts)
 IsLawfulLine hosts (Archive at host) = (at ≤ greatest_moment) × (host < hosts)
 IsLawfulLine hosts (Crash at host stop) = (at ≤ greatest_moment) × (host < hosts)
+IsLawfulLine hosts (Fail at host call) = (at ≤ greatest_moment) × (host < hosts)
 IsLawfulLine hosts (Deliver at message) = at ≤ greatest_moment
 IsLawfulLine hosts (Repeat at message) = at ≤ greatest_moment
 IsLawfulLine hosts (Lose message) = Unit {0}

@@ -15,7 +15,7 @@ use Rattle.psched_script.specs.declared.kind.Kind.TheVariants as kind
 use Rattle.psched_script.specs.declared.lines.Content.{Content}
 use Rattle.psched_script.specs.declared.lines.Content.TheVariants.{NewHost, Event}
 use Rattle.psched_script.specs.declared.script.ScriptHost.{ScriptHost}
-use Rattle.psched_script.specs.declared.script.ScriptLine.TheVariants.{Tools, Limits, Book, Post, Get, Delete, Turn, Archive, Crash, Deliver, Repeat, Lose}
+use Rattle.psched_script.specs.declared.script.ScriptLine.TheVariants.{Tools, Limits, Book, Post, Get, Delete, Turn, Archive, Crash, Fail, Deliver, Repeat, Lose}
 use Rattle.psched_script.specs.declared.script.Reason.{Reason}
 use Rattle.psched_script.specs.declared.script.Reason.TheVariants.{UnknownWord, WrongNumberOfFields, BadNumber, BadName, NoSuchHost, RepeatedHost, TooManyHosts, BadClass, BadTool, BadLimits, BadImage}
 
@@ -143,6 +143,15 @@ crash_line hosts (at ∷ name ∷ word ∷ call ∷ image ∷ []) =
     Ok (Event (Crash t h (record { call = k; image = i })))))))
 crash_line hosts _ = Err WrongNumberOfFields
 
+-- `T NAME fail K`
+abbrev pub fail_line : List ScriptHost → List (List ℕ) → Result Content Reason
+fail_line hosts (at ∷ name ∷ word ∷ call ∷ []) =
+    need (moment_of at) BadNumber (λ t.
+    need (numeral_of call) BadNumber (λ k.
+    then_with (host_named hosts name) (λ h.
+    Ok (Event (Fail t h k)))))
+fail_line hosts _ = Err WrongNumberOfFields
+
 -- `T deliver N`
 abbrev pub deliver_line : List (List ℕ) → Result Content Reason
 deliver_line (at ∷ word ∷ message ∷ []) =
@@ -171,7 +180,7 @@ line_by_kind hosts kind.Delete fields = delete_line hosts fields
 line_by_kind hosts kind.Turn fields = turn_line hosts fields
 line_by_kind hosts kind.Archive fields = archive_line hosts fields
 line_by_kind hosts kind.Crash fields = crash_line hosts fields
+line_by_kind hosts kind.Fail fields = fail_line hosts fields
 line_by_kind hosts kind.Deliver fields = deliver_line fields
 line_by_kind hosts kind.Repeat fields = repeat_line fields
 line_by_kind hosts kind.Lose fields = lose_line fields
-line_by_kind hosts kind.Later fields = Err UnknownWord

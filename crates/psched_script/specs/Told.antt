@@ -1,7 +1,7 @@
 -- What every kind of line may tell: a moment, and a host.
 use Rattle.std.specs.Prelude.{ℕ, Option, Some, None}
 use Rattle.psched_script.specs.declared.script.ScriptLine.{ScriptLine}
-use Rattle.psched_script.specs.declared.script.ScriptLine.TheVariants.{Host, Tools, Limits, Book, Post, Get, Delete, Turn, Archive, Crash, Deliver, Repeat, Lose}
+use Rattle.psched_script.specs.declared.script.ScriptLine.TheVariants.{Host, Tools, Limits, Book, Post, Get, Delete, Turn, Archive, Crash, Fail, Deliver, Repeat, Lose}
 
 -- when it happens
 abbrev pub moment_told : ScriptLine → Option ℕ
@@ -15,6 +15,7 @@ moment_told (Delete at host address path) = Some at
 moment_told (Turn at host) = Some at
 moment_told (Archive at host) = Some at
 moment_told (Crash at host stop) = Some at
+moment_told (Fail at host call) = Some at
 moment_told (Deliver at message) = Some at
 moment_told (Repeat at message) = Some at
 moment_told (Lose message) = None
@@ -31,6 +32,7 @@ host_told (Delete at host address path) = Some host
 host_told (Turn at host) = Some host
 host_told (Archive at host) = Some host
 host_told (Crash at host stop) = Some host
+host_told (Fail at host call) = Some host
 host_told (Deliver at message) = None
 host_told (Repeat at message) = None
 host_told (Lose message) = None

@@ -17,11 +17,10 @@ pub enum Kind {
     Turn,
     Archive,
     Crash,
+    Fail,
     Deliver,
     Repeat,
     Lose,
-    /// Its word is for a kind that comes later.
-    Later,
 }
 
 fn kind_by_first(word: &str) -> Option<Kind>
@@ -57,7 +56,7 @@ fn kind_by_third(word: &str) -> Option<Kind>
         "turn" => Some(Kind::Turn),
         "archive" => Some(Kind::Archive),
         "crash" => Some(Kind::Crash),
-        "fail" => Some(Kind::Later),
+        "fail" => Some(Kind::Fail),
         _ => None,
     }
 }

@@ -1,6 +1,6 @@
 //! The lines of each kind. Where memory may be wanting it is the outer error, and a reason the inner one.
 ghost use Rattle.std.specs.Prelude.{◌≡◌, ◌≤◌, IfOk, drop, length};
-ghost use Rattle.psched_script.specs.Line.{host_line, tools_line, limits_line, book_line, post_line, get_line, delete_line, turn_line, archive_line, crash_line, deliver_line, repeat_line, lose_line, line_by_kind, limits_of};
+ghost use Rattle.psched_script.specs.Line.{host_line, tools_line, limits_line, book_line, post_line, get_line, delete_line, turn_line, archive_line, crash_line, fail_line, deliver_line, repeat_line, lose_line, line_by_kind, limits_of};
 
 use crate::fields::Fields;
 use crate::hosts::{is_used, read_asked, read_name, read_place};
@@ -208,6 +208,18 @@ fn read_crash_line(hosts: &[ScriptHost], fields: &Fields<'_>) -> Result<Content,
     Ok(Content::Event(ScriptLine::Crash { at, host, stop }))
 }
 
+fn read_fail_line(hosts: &[ScriptHost], fields: &Fields<'_>) -> Result<Content, Reason>
+    ensures { result ≡ fail_line hosts.now fields.now }
+{
+    if fields.len() != 4 {
+        return Err(Reason::WrongNumberOfFields);
+    }
+    let at = read_moment(fields.at(0)).ok_or(Reason::BadNumber)?;
+    let call = read_numeral(fields.at(3)).ok_or(Reason::BadNumber)?;
+    let host = read_name(hosts, fields.at(1))?;
+    Ok(Content::Event(ScriptLine::Fail { at, host, call }))
+}
+
 fn read_deliver_line(fields: &Fields<'_>) -> Result<Content, Reason>
     ensures { result ≡ deliver_line fields.now }
 {
@@ -261,9 +273,9 @@ pub fn read_by_kind(
         Kind::Turn => Ok(read_turn_line(hosts, fields)),
         Kind::Archive => Ok(read_archive_line(hosts, fields)),
         Kind::Crash => Ok(read_crash_line(hosts, fields)),
+        Kind::Fail => Ok(read_fail_line(hosts, fields)),
         Kind::Deliver => Ok(read_deliver_line(fields)),
         Kind::Repeat => Ok(read_repeat_line(fields)),
         Kind::Lose => Ok(read_lose_line(fields)),
-        Kind::Later => Ok(Err(Reason::UnknownWord)),
     }
 }

@@ -97,6 +97,13 @@ pub enum ScriptLine {
         host: usize,
         stop: Stop,
     },
+    /// `T NAME fail K`: of each of the host's disks, the K-th write, cut or sync from now on is to fail; none for 0. The first
+    /// fault disarms both.
+    Fail {
+        at: Moment,
+        host: usize,
+        call: u64,
+    },
     /// `T deliver N`: a message comes.
     Deliver {
         at: Moment,
@@ -152,6 +159,11 @@ impl Drop for ScriptLine {
                 host: _,
                 stop: _,
             } => {}
+            ScriptLine::Fail {
+                at: _,
+                host: _,
+                call: _,
+            } => {}
             ScriptLine::Deliver { at: _, message: _ } => {}
             ScriptLine::Repeat { at: _, message: _ } => {}
             ScriptLine::Lose { message: _ } => {}
@@ -178,6 +190,7 @@ impl ScriptLine {
             ScriptLine::Turn { at, .. } => Some(*at),
             ScriptLine::Archive { at, .. } => Some(*at),
             ScriptLine::Crash { at, .. } => Some(*at),
+            ScriptLine::Fail { at, .. } => Some(*at),
             ScriptLine::Deliver { at, .. } => Some(*at),
             ScriptLine::Repeat { at, .. } => Some(*at),
         }

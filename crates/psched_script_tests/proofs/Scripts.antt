@@ -17,7 +17,7 @@ use Rattle.psched_script.specs.declared.script.Script.{Script}
 use Rattle.psched_script.specs.declared.script.ScriptFault.{ScriptFault}
 use Rattle.psched_script.specs.declared.script.ScriptHost.{ScriptHost}
 use Rattle.psched_script.specs.declared.script.ScriptLine.{ScriptLine}
-use Rattle.psched_script.specs.declared.script.ScriptLine.TheVariants.{Archive, Book, Crash, Delete, Deliver, Get, Host, Limits, Lose, Post, Repeat, Tools, Turn}
+use Rattle.psched_script.specs.declared.script.ScriptLine.TheVariants.{Archive, Book, Crash, Delete, Deliver, Fail, Get, Host, Limits, Lose, Post, Repeat, Tools, Turn}
 use Rattle.psched_script.proofs.OnLiterals.{script_on_literals}
 
 abbrev host : List ℕ → ℕ → ScriptHost
@@ -45,12 +45,13 @@ bounds : script_of (codes "# bounds\nhost a 1\n\n10 a book normal -0 100 50\nhos
 unfolding script_on_literals
 bounds = refl
 
-every_word : script_of (codes "host a 1\nhost b 2\ntools b sleep\ntools a simplestreamer,snooze,sleepbgm,sleep\n5 b turn\n4102444800 a archive\n6 deliver 1\n6 repeat 0\nlose 9999999999\n7 b crash 4 new\n8 a crash 0000000000 old\n9 a crash 9999999999 torn\n")
+every_word : script_of (codes "host a 1\nhost b 2\ntools b sleep\ntools a simplestreamer,snooze,sleepbgm,sleep\n5 b turn\n4102444800 a archive\n6 deliver 1\n6 repeat 0\nlose 9999999999\n7 b crash 4 new\n8 a crash 0000000000 old\n9 a crash 9999999999 torn\n9 b fail 0\n4102444800 a fail 9999999999\n")
     ≡ read (host (codes "a") 1 ∷ host (codes "b") 2 ∷ []) (
     line 1 (Host 0) ∷ line 2 (Host 1) ∷ line 3 (Tools 1 (codes "sleep" ∷ [])) ∷
     line 4 (Tools 0 (codes "simplestreamer" ∷ codes "snooze" ∷ codes "sleepbgm" ∷ codes "sleep" ∷ [])) ∷
     line 5 (Turn 5 1) ∷ line 6 (Archive 4_102_444_800 0) ∷ line 7 (Deliver 6 1) ∷ line 8 (Repeat 6 0) ∷ line 9 (Lose 9_999_999_999) ∷
-    line 10 (Crash 7 1 (record { call = 4; image = New })) ∷ line 11 (Crash 8 0 (record { call = 0; image = Old })) ∷ line 12 (Crash 9 0 (record { call = 9_999_999_999; image = Torn })) ∷ [])
+    line 10 (Crash 7 1 (record { call = 4; image = New })) ∷ line 11 (Crash 8 0 (record { call = 0; image = Old })) ∷ line 12 (Crash 9 0 (record { call = 9_999_999_999; image = Torn })) ∷
+    line 13 (Fail 9 1 0) ∷ line 14 (Fail 4_102_444_800 0 9_999_999_999) ∷ [])
 unfolding script_on_literals
 every_word = refl
 

@@ -9,7 +9,7 @@ use Rattle.psched_script.specs.declared.script.Script.{Script}
 use Rattle.psched_script.specs.declared.script.ScriptFault.{ScriptFault}
 use Rattle.psched_script.specs.Refusal.{fault_text}
 use Rattle.rehearsal_model.specs.Moves.{Outcomes}
-use Rattle.rehearsal_model.specs.Rehearsal.{report_of}
+use Rattle.rehearsal_model.specs.Telling.{report_of}
 use Rattle.psched_script.specs.Script.{script_of}
 use Rattle.limit_apply.specs.Read.{config_in}
 use Rattle.generated_work.specs.Summary.{summary_of}

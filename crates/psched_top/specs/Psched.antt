@@ -4,10 +4,12 @@ use Rattle.std.specs.Io.KnownBytes.{Appends}
 use Rattle.ps_ports.specs.All.{WrotePrefix}
 use Rattle.ps_ports.specs.Causes.{Rose}
 use Rattle.psched_world.specs.Laws.{Safe}
+use Rattle.psched_world.specs.World.{World}
 use Rattle.limit_apply.specs.Limits.{Config}
 use Rattle.psched_script.specs.declared.script.Script.{Script}
 use Rattle.rehearsal_model.specs.Moves.{Outcomes}
-use Rattle.rehearsal_model.specs.Rehearsal.{report_of, world_of}
+use Rattle.rehearsal_model.specs.Scenes.{Turns, world_of}
+use Rattle.rehearsal_model.specs.Telling.{report_of}
 use Rattle.psched_script.specs.Script.{script_of}
 use Rattle.generated_work.specs.Summary.{summary_of}
 use Rattle.generated_work.specs.Work.{work_of}
@@ -43,24 +45,28 @@ pub record IsReadFault (asked : Option Command) (before now : ℕ) (outcome : Ou
 abbrev pub Comes : Outcomes → Option Command → Option (List ℕ) → ℕ → ℕ → Outcome → Type 0
 Comes comes command held before now outcome = IsGiven comes command held outcome ⊎ IsReadFault command before now outcome
 
--- the input was read to its end and is a script whose world keeps the laws
+-- each world keeps the laws, whichever way it turns out what faults of disks left
+abbrev pub AreSafe : (Turns → World) → Type 0
+AreSafe worlds = (turns : Turns) → Safe (worlds turns)
+
+-- the input was read to its end and is a script whose worlds keep the laws
 pub record Rehearsed (comes : Outcomes) (held left : Option (List ℕ)) : Type 0 where
   pub input : List ℕ
   pub all : IsAll held input
   pub ended : IsReadToEnd held left
   pub script : Script
   pub grammar : script_of input ≡ Ok script
-  pub safe : Safe (world_of comes script)
+  pub safe : AreSafe (world_of comes script)
 
 -- its report is the outcome
 abbrev pub IsRehearsed : Outcomes → Option (List ℕ) → Option (List ℕ) → Outcome → Type 0
 IsRehearsed comes held left outcome = (r : Rehearsed comes held left) × (outcome ≡ Report (report_of comes r.script))
 
--- the input is a script whose world keeps the laws, and its report is the outcome
+-- the input is a script whose worlds keep the laws, and its report is the outcome
 pub record IsSafeReport (comes : Outcomes) (input : List ℕ) (outcome : Outcome) : Type 0 where
   pub script : Script
   pub grammar : script_of input ≡ Ok script
-  pub safe : Safe (world_of comes script)
+  pub safe : AreSafe (world_of comes script)
   pub report : outcome ≡ Report (report_of comes script)
 
 -- the input was read to its end and is a configuration of limits
@@ -106,10 +112,10 @@ Reported comes held left old new = (r : Rehearsed comes held left) × Appends ol
 abbrev pub Validated : Option (List ℕ) → Option (List ℕ) → Option (List ℕ) → Option (List ℕ) → Type 0
 Validated held left old new = (c : Checked held left) × Appends old new (line (valid_text c.config))
 
--- the world of so many posts keeps the laws, and its summary is the outcome
+-- the worlds of so many posts keep the laws, and its summary is the outcome
 abbrev pub IsGenerated : ℕ → Outcome → Type 0
-IsGenerated count outcome = Safe (work_of count) × (outcome ≡ Summary (summary_of count))
+IsGenerated count outcome = AreSafe (work_of count) × (outcome ≡ Summary (summary_of count))
 
--- the summary of so many posts was written, whose world keeps the laws
+-- the summary of so many posts was written, whose worlds keep the laws
 abbrev pub Generated : ℕ → Option (List ℕ) → Option (List ℕ) → Type 0
-Generated count old new = Safe (work_of count) × Appends old new (summary_of count)
+Generated count old new = AreSafe (work_of count) × Appends old new (summary_of count)

@@ -158,13 +158,13 @@ pub fn psched<S: Source, K: Sink, A: Archivers>(
     // Status and text are these functions of what comes of attempts, the words and the whole input.
     ensures exact { result ≤ 2 → IfSome (S.left source.old) (λ held. Exactly (outcome_of (A.comes archivers.old) (asked words.now) held) (K.written sink.old) (K.written sink.new) result) }
 
-    // A rehearsal that succeeds wrote the report on its script, whose world keeps the laws.
+    // A rehearsal that succeeds wrote the report on its script, whose worlds keep the laws.
     ensures rehearsed { result ≡ 0 → asked words.now ≡ Some Command.Rehearse → Reported (A.comes archivers.old) (S.left source.old) (S.left source.new) (K.written sink.old) (K.written sink.new) }
 
     // A check that succeeds wrote how many entries the configuration has.
     ensures validated { result ≡ 0 → asked words.now ≡ Some Command.ValidateLimits → Validated (S.left source.old) (S.left source.new) (K.written sink.old) (K.written sink.new) }
 
-    // Generated work that is done wrote its summary, and its world keeps the laws.
+    // Generated work that is done wrote its summary, and its worlds keep the laws.
     ensures generated { result ≡ 0 → (count : ℕ) → asked words.now ≡ Some (Command.Generate count) → Generated count (K.written sink.old) (K.written sink.new) }
 
     ensures wrong_words { result ≡ 1 → asked words.now ≡ None }

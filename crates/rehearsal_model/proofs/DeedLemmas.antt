@@ -1,19 +1,21 @@
 -- What a line leaves where calls of disks may fail: a rehearsal goes on, whichever way what is loose turns out.
 use Rattle.std.specs.List.{AllByRecursion}
-use Rattle.std.specs.Prelude.{◌&&◌, All, if◌then◌else◌, max, nat_le, not, set}
+use Rattle.std.specs.Prelude.{◌&&◌, All, codes, if◌then◌else◌, max, nat_le, not, set}
 use Rattle.std.proofs.Common.{◌≡◌, ◌≤◌, ◌<◌, ◌-◌, ◌+◌, ◌∙◌, ◌∷◌, ℕ, Bool, true, false, List, [], length, None, Option, Some, ap, arith, map, refl, subst, sym, Result, Ok, Err}
 use Rattle.std.proofs.lemmas.Bool.Decides.{nat_tests}
 use Rattle.std.proofs.lemmas.List.{get_or-set_same, length-map, length-set, set-get_or, set-set}
 use Rattle.std.proofs.lemmas.List.Elements.{All-from_recursion, All-set}
 use Rattle.ps_time.specs.Numbers.{greatest_moment}
 use Rattle.ps_http.specs.declared.message.Response.{Response}
+use Rattle.host_model.specs.Conditions.{IsInput}
 use Rattle.host_model.specs.declared.config.Config.{Config}
 use Rattle.host_model.specs.declared.input.Input.{Input}
 use Rattle.host_model.specs.declared.input.Input.TheVariants as input
 use Rattle.host_model.specs.declared.lead.Due.{Due}
 use Rattle.machine_seat.specs.Held.{Held, armed_at, configured, fault_at, syncs}
-use Rattle.psched_world.specs.Events.{Cause, brings}
+use Rattle.psched_world.specs.Events.{Cause, brings, is_client}
 use Rattle.psched_world.specs.World.{Letter, Stage}
+use Rattle.api_law.specs.Orderly.{IsSized}
 use Rattle.psched_script.specs.Lawful.{AreLawfulHosts, IsLawfulLine}
 use Rattle.psched_script.specs.declared.script.ScriptHost.{ScriptHost}
 use Rattle.psched_script.specs.declared.script.ScriptLine.{ScriptLine}
@@ -22,15 +24,16 @@ use Rattle.psched_script.specs.declared.script.Stop.{Stop}
 use Rattle.rehearsal_model.specs.After.{arrived_at, crashed_stage, moved_seen, opened_stage, stages_after}
 use Rattle.rehearsal_model.specs.Hosts.{first_config}
 use Rattle.rehearsal_model.specs.Moves.{Move, Outcomes, asking, attempt, joining, landed_with, moment_of_line, receiver, replies, still_flying, stops_after, trying}
-use Rattle.rehearsal_model.specs.Plays.{IsPlay, IsSeat, MayDeed, MayPlay, MayTry}
+use Rattle.rehearsal_model.specs.Plays.{IsPlay, IsSeat, MayArchive, MayDeed, MayLine, MayMake, MayTry}
 use Rattle.rehearsal_model.specs.Reaching.{MayMove}
 use Rattle.rehearsal_model.specs.Rehearsal.{retooled, seen}
 use Rattle.rehearsal_model.specs.Requests.{delete, get, post}
-use Rattle.rehearsal_model.specs.Scenes.{Deed, Fork, Play, Scene, Step, Turns, archived, as_read, at_last, but, chosen_from, chosen_stage, crash_by, deed_of, fault_of, first_play, flies, has_come, is_broken, is_kept_in, kept_all, letter_number, looked, looking, looks, never, play_by, play_crashed, play_line, play_step, play_unanswered, played, plainly, reopen_fork, seat_at, seen_by, show_by, step_by, step_of, stop_fork, surely, tried, unless_broken, worlds_by}
+use Rattle.rehearsal_model.specs.Scenes.{Deed, Fork, Play, Scene, Step, Turns, as_read, at_last, book_of, but, chosen_from, chosen_stage, config_of, crash_by, deed_of, fault_of, first_play, flies, has_come, is_broken, is_kept_in, kept_all, letter_number, looked, looking, looks, never, play_line, play_unanswered, played, plainly, reopen_fork, scene_archived, scene_by, scene_crashed, scene_looked, scene_step, scene_tried, seat_at, seen_by, show_by, step_by, stop_fork, surely, tried, try_at, unless_broken, worlds_archived, worlds_by, worlds_crashed, worlds_move, worlds_step}
 use Rattle.rehearsal_model.specs.Seats.{Left, done, is_before, left_behind, left_faulted, left_stopped, left_unsynced, new_left, opened_anew, opened_on, stage_with, stepped}
-use Rattle.rehearsal_model.specs.Seen.{Seen, acted, config_at, disarmed, landed, message, nobody, stage_at, stop_at}
+use Rattle.rehearsal_model.specs.Seen.{Seen, acted, disarmed, landed, message, nobody, stage_at, stop_at}
+use Rattle.rehearsal_model.proofs.AskLemmas.{asked_by_client, asked_sized}
 use Rattle.rehearsal_model.proofs.FirstLemmas.{first_is, first_reaches}
-use Rattle.rehearsal_model.proofs.MoveLemmas.{IsMove, moment_within, move_is}
+use Rattle.rehearsal_model.proofs.MoveLemmas.{IsMove, asking_is, moment_within, trying_is}
 use Rattle.rehearsal_model.proofs.PlayLemmas.{CanStep, can_break, forked, may_break, may_same, move_same, replied_same, seat_each, seen_quiet, sent_same, stepped_on, stepped_same, unanswered_on}
 use Rattle.rehearsal_model.proofs.ReachLemmas.{receiver_within}
 use Rattle.rehearsal_model.proofs.SceneLemmas.{but_here, calm_seat, chosen_set, chosen_still, config_chosen, configured_chosen, configured_seat, opened_chosen, stage_chosen, unsynced_left_is}
@@ -138,7 +141,7 @@ module _ (hosts : List ScriptHost) (lawful : AreLawfulHosts hosts) (p : Play) (i
       (All-set IsSeat b.seats place (opened_on left_late step.clock) (opened_seat left_late) is.seats)
       (length-set b.seats place (opened_on left_late step.clock) ∙ is.long))
 
-  pub crashed_on : IsPlay hosts (at_last m (play_crashed hosts p step stop))
+  pub crashed_on : IsPlay hosts (record { worlds = worlds_crashed hosts p step stop; scene = at_last m (scene_crashed b step stop) })
   crashed_on = by (is_before stop.call (fault_at here))
     where
       by : (before : Bool) → IsPlay hosts (record {
@@ -168,10 +171,10 @@ module _ (hosts : List ScriptHost) (lawful : AreLawfulHosts hosts) (p : Play) (i
       (stages : (t : Turns) → stages_after hosts (seen_by (but t step.place true) scene) move ≡ chosen_from t 0 (set scene.seats step.place (done (seat_at scene step.place) step.clock step.asked)))
       (joins : (t : Turns) → joining hosts (seen_by (but t step.place true) scene) move ≡ joining hosts (as_read scene) move)
       (flies : (t : Turns) → still_flying (seen_by t scene) move ≡ landed_with step.landing scene.flying) (stops : (t : Turns) → stops_after (seen_by t scene) move ≡ scene.stops) where
-    step_on : IsPlay hosts (at_last m (play_step hosts p move step (stop_at (as_read scene) step.place)))
+    step_on : IsPlay hosts (record { worlds = worlds_step hosts p move step (stop_at (as_read scene) step.place); scene = at_last m (scene_step hosts scene move step (stop_at (as_read scene) step.place)) })
     step_on = by (stop_at (as_read scene) step.place)
       where
-        by : (o : Option Stop) → IsPlay hosts (at_last m (play_step hosts p move step o))
+        by : (o : Option Stop) → IsPlay hosts (record { worlds = worlds_step hosts p move step o; scene = at_last m (scene_step hosts scene move step o) })
         by None = stepped_on hosts lawful p is m low step can move moves may stages joins flies stops
         by (Some stop) = crashed_on hosts lawful p is m low step can stop
 
@@ -202,7 +205,7 @@ module _ (hosts : List ScriptHost) (lawful : AreLawfulHosts hosts) (p : Play) (i
 
   -- ---- a message that arrives
   module _ (n clock : ℕ) (moves : clock ≤ greatest_moment) where
-    arrives_on : (o : Option Letter) → message (as_read scene) n ≡ o → IsPlay hosts (at_last m (play_by hosts p (Move.Arrives n clock) (step_by hosts n clock o)))
+    arrives_on : (o : Option Letter) → message (as_read scene) n ≡ o → IsPlay hosts (record { worlds = worlds_move hosts p (Move.Arrives n clock) (step_by hosts n clock o); scene = at_last m (scene_by hosts scene (Move.Arrives n clock) (step_by hosts n clock o)) })
     arrives_on None e =
         rested_on (Move.Arrives n clock) (record scene { flying = landed n scene.flying; last = max scene.last m }) moves tt
         (λ t. seen_quiet hosts (seen_by t scene) m (Move.Arrives n clock) (chosen_from t 0 scene.seats) (landed n scene.flying) scene.stops (ap (arrived_at hosts (seen_by t scene) clock) e) (ap (replies hosts (seen_by t scene) clock) e) refl refl)
@@ -219,7 +222,7 @@ module _ (hosts : List ScriptHost) (lawful : AreLawfulHosts hosts) (p : Play) (i
         (λ t. refl) (λ t. refl)
 
   -- ---- every move of a line
-  pub does_on : (move : Move) → IsOfLine move → IsMove hosts (as_read scene) move → MayMove (as_read scene) move → IsPlay hosts (at_last m (play_by hosts p move (step_of hosts (as_read scene) move)))
+  pub does_on : (move : Move) → IsOfLine move → IsMove hosts (as_read scene) move → MayMove (as_read scene) move → IsPlay hosts (played hosts p m (Deed.Does move))
   does_on Move.Rests line moves may =
       rested_on Move.Rests (record scene { last = max scene.last m }) tt tt (λ t. seen_quiet hosts (seen_by t scene) m Move.Rests (chosen_from t 0 scene.seats) scene.flying scene.stops refl refl refl refl) is.seats is.long
   does_on (Move.Asks place clock i) line moves may =
@@ -261,6 +264,16 @@ module _ (hosts : List ScriptHost) (lawful : AreLawfulHosts hosts) (p : Play) (i
   hears_on n =
       rested_on Move.Rests (record scene { unheard = landed n scene.unheard; last = max scene.last m }) tt tt (λ t. seen_quiet hosts (seen_by t scene) m Move.Rests (chosen_from t 0 scene.seats) scene.flying scene.stops refl refl refl refl) is.seats is.long
 
+  -- a host is opened again
+  pub reopens_on : (place clock : ℕ) → place < length hosts → clock ≤ greatest_moment → IsPlay hosts (played hosts p m (Deed.Reopens place clock))
+  reopens_on place clock within late =
+      let h : Held Stage = seat_at scene place in
+      let g : Held Stage = done h clock input.Open in
+      forked hosts lawful p is m low (surely place (Move.Reopens place clock)) (record scene { seats = set scene.seats place g; last = max scene.last m })
+      (λ t. (within, late)) (λ t. tt)
+      (λ t. seen_quiet hosts (seen_by (but t place true) scene) m (Move.Reopens place clock) (chosen_from t 0 (set scene.seats place g)) scene.flying scene.stops (stepped_same hosts scene place t clock input.Open place refl) refl refl refl)
+      (All-set IsSeat scene.seats place g (calm_seat g refl) is.seats) (length-set scene.seats place g ∙ is.long)
+
 -- ---- the first one
 first_chosen : (hosts hs : List ScriptHost) (t : Turns) (at : ℕ) → chosen_from t at (map (λ h. opened_anew (first_config hosts h)) hs) ≡ map (opened_stage hosts) hs
 first_chosen hosts [] t at = refl
@@ -281,8 +294,9 @@ first_on hosts lawful = record {
 }
 
 -- ---- lines
-abbrev IsDeed : List ScriptHost → Scene → Deed → Type 0
+abbrev pub IsDeed : List ScriptHost → Scene → Deed → Type 0
 IsDeed hosts b (Deed.Does move) = IsOfLine move × IsMove hosts (as_read b) move
+IsDeed hosts b (Deed.Reopens place clock) = (place < length hosts) × (clock ≤ greatest_moment)
 IsDeed hosts b _ = Unit {0}
 
 asking_line : (place clock : ℕ) (r : Result Input Response) → IsOfLine (asking place clock r)
@@ -297,18 +311,33 @@ either_deed : (hosts : List ScriptHost) (b : Scene) (t : Bool) (x y : Deed) → 
 either_deed hosts b true x y one two = one
 either_deed hosts b false x y one two = two
 
+module _ (comes : Outcomes) (hosts : List ScriptHost) (b : Scene) where
+  asks_deed : (place clock : ℕ) (r : Result Input Response) → place < length hosts → clock ≤ greatest_moment → ((i : Input) → r ≡ Ok i → is_client i ≡ true) → ((i : Input) → r ≡ Ok i → IsSized i) → IsDeed hosts b (Deed.Does (asking place clock r))
+  asks_deed place clock r within late client sized = (asking_line place clock r, asking_is hosts (as_read b) place clock r within late client sized)
+
+  try_is : (place clock : ℕ) → place < length hosts → clock ≤ greatest_moment → IsDeed hosts b (try_at comes b place clock)
+  try_is place clock within late = (trying_line comes place clock (attempt (book_of b place) clock), trying_is comes hosts (as_read b) place clock (attempt (book_of b place) clock) within late)
+
 module _ (comes : Outcomes) (hosts : List ScriptHost) (b : Scene) (low : b.last ≤ greatest_moment) where
   deed_is : (l : ScriptLine) → IsLawfulLine (length hosts) l → IsDeed hosts b (deed_of comes b l)
   deed_is (line.Host place) is = (tt, tt)
-  deed_is (line.Tools host tools) is = (tt, move_is comes hosts (as_read b) low (line.Tools host tools) is)
-  deed_is (line.Limits host limits) is = (tt, move_is comes hosts (as_read b) low (line.Limits host limits) is)
-  deed_is (line.Book at host class priority start len) is = (tt, move_is comes hosts (as_read b) low (line.Book at host class priority start len) is)
-  deed_is (line.Post at host address body) is = (asking_line host at (post (config_at (as_read b) host) address body at), move_is comes hosts (as_read b) low (line.Post at host address body) is)
-  deed_is (line.Get at host path) is = (asking_line host at (get (config_at (as_read b) host) path at), move_is comes hosts (as_read b) low (line.Get at host path) is)
-  deed_is (line.Delete at host address path) is = (asking_line host at (delete (config_at (as_read b) host) address path at), move_is comes hosts (as_read b) low (line.Delete at host address path) is)
-  deed_is (line.Turn at host) is = (tt, move_is comes hosts (as_read b) low (line.Turn at host) is)
-  deed_is (line.Archive at host) is = (trying_line comes host at (attempt (as_read b) host at), move_is comes hosts (as_read b) low (line.Archive at host) is)
+  deed_is (line.Tools host tools) is = (tt, is)
+  deed_is (line.Limits host limits) is = (tt, (is.0, low, refl, tt))
+  deed_is (line.Book at host class priority start len) is = (tt, (is.1, is.0, refl, tt))
+  deed_is (line.Post at host address body) is =
+      let c : Config = config_of b host in
+      asks_deed comes hosts b host at (post c address body at) is.1 is.0 (asked_by_client c (codes "POST") (codes "/pscheduler/tasks") body address at)
+      (λ i e. asked_sized c (codes "POST") (codes "/pscheduler/tasks") body address at i is.2 e)
+  deed_is (line.Get at host path) is =
+      let c : Config = config_of b host in
+      asks_deed comes hosts b host at (get c path at) is.1 is.0 (asked_by_client c (codes "GET") path [] (codes "127.0.0.1") at) (λ i e. asked_sized c (codes "GET") path [] (codes "127.0.0.1") at i (omega arith) e)
+  deed_is (line.Delete at host address path) is =
+      let c : Config = config_of b host in
+      asks_deed comes hosts b host at (delete c address path at) is.1 is.0 (asked_by_client c (codes "DELETE") path [] address at) (λ i e. asked_sized c (codes "DELETE") path [] address at i is.2 e)
+  deed_is (line.Turn at host) is = (tt, (is.1, is.0))
+  deed_is (line.Archive at host) is = try_is comes hosts b host at is.1 is.0
   deed_is (line.Crash at host stop) is = (tt, tt)
+  deed_is (line.Fail at host call) is = tt
   deed_is (line.Deliver at n) is =
       either_deed hosts b (flies b n) (unless_broken b n (Deed.Hears n) (Deed.Does (Move.Arrives (letter_number b n) at))) (Deed.Does Move.Rests)
       (either_deed hosts b (is_broken b n) (Deed.Hears n) (Deed.Does (Move.Arrives (letter_number b n) at)) tt (tt, is)) (tt, tt)
@@ -319,37 +348,53 @@ module _ (comes : Outcomes) (hosts : List ScriptHost) (b : Scene) (low : b.last 
       either_deed hosts b (flies b n) (unless_broken b n (Deed.Hears n) (Deed.Does (Move.Lost (letter_number b n)))) (Deed.Does Move.Rests)
       (either_deed hosts b (is_broken b n) (Deed.Hears n) (Deed.Does (Move.Lost (letter_number b n))) tt (tt, tt)) (tt, tt)
 
+-- what is asked of a host, as its disks read
+may_make : (b : Scene) (move : Move) → IsOfLine move → MayMake b move → MayMove (as_read b) move
+may_make b Move.Rests line may = tt
+may_make b (Move.Asks place clock i) line may = subst (λ (s : Stage). IsInput s.config i) (sym (stage_chosen kept_all b place)) may
+may_make b (Move.Tries place clock i) line may = subst (λ (s : Stage). IsInput s.config i) (sym (stage_chosen kept_all b place)) may
+may_make b (Move.Turns place clock) line may = tt
+may_make b (Move.Retools place tools) line may = tt
+may_make b (Move.Reopens place clock) line may = tt
+may_make b (Move.Arrives n clock) line may = tt
+may_make b (Move.Lost n) line may = tt
+may_make b (Move.Arms place stop) line may = tt
+may_make b (Move.Crashes c) line may = absurd line
+may_make b (Move.Breaks c kept) line may = absurd line
+
 module _ (comes : Outcomes) (hosts : List ScriptHost) (lawful : AreLawfulHosts hosts) (p : Play) (is : IsPlay hosts p) where
   last_low : p.scene.last ≤ greatest_moment
   last_low = (is.reaches kept_all).last
 
-  deed_on : (m : ℕ) → m ≤ greatest_moment → (deed : Deed) → IsDeed hosts p.scene deed → MayDeed (as_read p.scene) deed → IsPlay hosts (played hosts p m deed)
-  deed_on m low (Deed.Does move) deed may = does_on hosts lawful p is m low move deed.0 deed.1 may
+  pub deed_on : (m : ℕ) → m ≤ greatest_moment → (deed : Deed) → IsDeed hosts p.scene deed → MayDeed p.scene deed → IsPlay hosts (played hosts p m deed)
+  deed_on m low (Deed.Does move) deed may = does_on hosts lawful p is m low move deed.0 deed.1 (may_make p.scene move deed.0 may)
   deed_on m low (Deed.Fails place call) deed may = fails_on hosts lawful p is m low place call
   deed_on m low (Deed.Hears n) deed may = hears_on hosts lawful p is m low n
+  deed_on m low (Deed.Reopens place clock) deed may = reopens_on hosts lawful p is m low place clock deed.0 deed.1
 
-  tried_on : (place clock : ℕ) → clock ≤ greatest_moment → place < length hosts → MayTry comes p place clock → IsPlay hosts (tried comes hosts p place clock)
-  tried_on place clock low within may =
-      does_on hosts lawful p is clock low (trying comes place clock (attempt (as_read p.scene) place clock)) (trying_line comes place clock (attempt (as_read p.scene) place clock))
-      (move_is comes hosts (as_read p.scene) last_low (line.Archive clock place) (low, within)) may
+  tried_on : (place clock : ℕ) → clock ≤ greatest_moment → place < length hosts → MayTry comes p.scene place clock → IsPlay hosts (tried comes hosts p place clock)
+  tried_on place clock low within may = deed_on clock low (try_at comes p.scene place clock) (try_is comes hosts p.scene place clock within low) may
 
   looked_on : (place clock : ℕ) → clock ≤ greatest_moment → place < length hosts → IsPlay hosts (looked hosts p place clock)
   looked_on place clock low within = does_on hosts lawful p is clock low (looking place clock) tt (within, low, refl, tt) tt
 
 module _ (comes : Outcomes) (hosts : List ScriptHost) (lawful : AreLawfulHosts hosts) (p : Play) (is : IsPlay hosts p) where
-  archived_on : (place clock : ℕ) → clock ≤ greatest_moment → place < length hosts → MayPlay comes hosts p (line.Archive clock place) → IsPlay hosts (archived comes hosts p place clock)
-  archived_on place clock low within may = by (seat_at p.scene place).ready (looks p.scene place clock) refl
+  archived_on : (place clock : ℕ) → clock ≤ greatest_moment → place < length hosts → MayArchive comes hosts p.scene place clock → IsPlay hosts (record { worlds = worlds_archived comes hosts p place clock; scene = scene_archived comes hosts p.scene place clock })
+  archived_on place clock low within may = by (seat_at p.scene place).ready (looks p.scene place clock) refl refl
     where
-      by : (ready answered : Bool) → (seat_at p.scene place).ready ≡ ready
-          → IsPlay hosts (if ready then tried comes hosts p place clock else (if answered then tried comes hosts (looked hosts p place clock) place clock else looked hosts p place clock))
-      by true answered e = tried_on comes hosts lawful p is place clock low within (may.0 e)
-      by false true e = tried_on comes hosts lawful (looked hosts p place clock) (looked_on comes hosts lawful p is place clock low within) place clock low within (may.1 e)
-      by false false e = looked_on comes hosts lawful p is place clock low within
+      by : (ready answered : Bool) → (seat_at p.scene place).ready ≡ ready → looks p.scene place clock ≡ answered
+          → IsPlay hosts (record {
+            worlds = if ready then (tried comes hosts p place clock).worlds else (if answered then (tried comes hosts (looked hosts p place clock) place clock).worlds else (looked hosts p place clock).worlds);
+            scene = if ready then scene_tried comes hosts p.scene place clock else (if answered then scene_tried comes hosts (scene_looked hosts p.scene place clock) place clock else scene_looked hosts p.scene place clock);
+          })
+      by true answered e f = tried_on comes hosts lawful p is place clock low within (may.0 e)
+      by false true e f = tried_on comes hosts lawful (looked hosts p place clock) (looked_on comes hosts lawful p is place clock low within) place clock low within (may.1 e f)
+      by false false e f = looked_on comes hosts lawful p is place clock low within
 
-  plain_on : (l : ScriptLine) → IsLawfulLine (length hosts) l → MayDeed (as_read p.scene) (deed_of comes p.scene l) → IsPlay hosts (played hosts p (moment_of_line l) (deed_of comes p.scene l))
+  plain_on : (l : ScriptLine) → IsLawfulLine (length hosts) l → MayDeed p.scene (deed_of comes p.scene l) → IsPlay hosts (played hosts p (moment_of_line l) (deed_of comes p.scene l))
   plain_on l law may = deed_on comes hosts lawful p is (moment_of_line l) (moment_within (length hosts) l law) (deed_of comes p.scene l) (deed_is comes hosts p.scene (last_low comes hosts lawful p is) l law) may
 
-  pub line_on : (l : ScriptLine) → IsLawfulLine (length hosts) l → MayPlay comes hosts p l → IsPlay hosts (play_line comes hosts p l)
+  pub line_on : (l : ScriptLine) → IsLawfulLine (length hosts) l → MayLine comes hosts p.scene l → IsPlay hosts (play_line comes hosts p l)
   line_on (line.Archive at host) law may = archived_on host at law.0 law.1 may
   line_on (line.Host place) law may = plain_on (line.Host place) law may
   line_on (line.Tools host tools) law may = plain_on (line.Tools host tools) law may
@@ -360,6 +405,7 @@ module _ (comes : Outcomes) (hosts : List ScriptHost) (lawful : AreLawfulHosts h
   line_on (line.Delete at host address path) law may = plain_on (line.Delete at host address path) law may
   line_on (line.Turn at host) law may = plain_on (line.Turn at host) law may
   line_on (line.Crash at host stop) law may = plain_on (line.Crash at host stop) law may
+  line_on (line.Fail at host call) law may = plain_on (line.Fail at host call) law may
   line_on (line.Deliver at n) law may = plain_on (line.Deliver at n) law may
   line_on (line.Repeat at n) law may = plain_on (line.Repeat at n) law may
   line_on (line.Lose n) law may = plain_on (line.Lose n) law may

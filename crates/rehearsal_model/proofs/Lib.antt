@@ -1,4 +1,5 @@
 pub mod AskLemmas
+pub mod CalmLemmas
 pub mod DeedLemmas
 mod FaultSamples
 pub mod FirstLemmas

@@ -1,4 +1,4 @@
--- A move and a line lead on: what is seen after it, and that its world is one that a rehearsal comes to.
+-- A move leads on: what is seen after it, and that its world is one that a rehearsal comes to.
 use Rattle.std.specs.List.{list_any}
 use Rattle.std.specs.Prelude.{All, IsTrue, filter, max, nat_le, set}
 use Rattle.std.proofs.Common.{◌≡◌, ◌≢◌, ◌≤◌, ◌<◌, ◌+◌, ◌-◌, ◌&&◌, ◌==◌, inl, inr, ℕ, Bool, true, false, not, List, [], ◌∷◌, ◌++◌, length, map, get_or, reverse, slice_get, Option, Some, None, refl, sym, ap, ◌∙◌, subst, arith}
@@ -29,20 +29,19 @@ use Rattle.api_law.specs.Orderly.{IsSized}
 use Rattle.api_law.proofs.OrderLemmas.{orders_bound}
 use Rattle.api_law.proofs.OrderlySteps.{step_orderly}
 use Rattle.api_law.proofs.ToldSteps.{step_told}
-use Rattle.psched_script.specs.Lawful.{AreLawfulHosts, IsLawfulLine}
+use Rattle.psched_script.specs.Lawful.{AreLawfulHosts}
 use Rattle.psched_script.specs.declared.script.ScriptHost.{ScriptHost}
-use Rattle.psched_script.specs.declared.script.ScriptLine.{ScriptLine}
 use Rattle.psched_script.specs.declared.script.Stop.{Stop}
 use Rattle.machine_keep.specs.Crash.{keeps_step}
-use Rattle.rehearsal_model.specs.After.{arrived_at, crashed_stage, cut_stage, moved_seen, seen_after, stages_after}
+use Rattle.rehearsal_model.specs.After.{arrived_at, crashed_stage, cut_stage, moved_seen, stages_after}
 use Rattle.rehearsal_model.specs.Hosts.{config_numbered, name_numbered, others_of, peer_of}
-use Rattle.rehearsal_model.specs.Moves.{Move, Outcomes, flying_after, is_untold, joining, landed_with, moment_of_line, move_of, numbers_from, receiver, replied, replies, still_flying, stopped, stops_after}
+use Rattle.rehearsal_model.specs.Moves.{Move, flying_after, is_untold, joining, landed_with, numbers_from, receiver, replied, replies, still_flying, stops_after}
 use Rattle.rehearsal_model.specs.Reaching.{IsAsFirst, IsBetween, IsHost, IsOrderlyStage, IsToldStage, MayAsk, MayMove, Reaches}
-use Rattle.rehearsal_model.specs.Rehearsal.{Show, after, events_of, moved, retooled, seen}
+use Rattle.rehearsal_model.specs.Rehearsal.{Show, events_of, moved, retooled, seen}
 use Rattle.rehearsal_model.specs.Seen.{Seen, acted, book_at, config_at, is_sent, message, nobody, stage_at}
 use Rattle.rehearsal_model.proofs.HostLemmas.{StandsAt, differ, host_at, is_host, name_known, same_number}
 use Rattle.rehearsal_model.proofs.ListLemmas.{aged_is, all_reverse}
-use Rattle.rehearsal_model.proofs.MoveLemmas.{HasCause, IsMove, cut_config, goes_known, known, letters_moved, may_moved, moment_within, move_is, stages_moved, stopped_is, stopped_may}
+use Rattle.rehearsal_model.proofs.MoveLemmas.{HasCause, IsMove, cut_config, goes_known, known, letters_moved, may_moved, stages_moved}
 use Rattle.rehearsal_model.proofs.ReachLemmas.{book_lawful, brings_input, config_is, receiver_within, told_at}
 use Rattle.rehearsal_model.proofs.SeenLemmas.{present, stage_in}
 use Rattle.rehearsal_model.proofs.TurnLemmas.{peer_number, sent_all}
@@ -367,11 +366,3 @@ module _ (hosts : List ScriptHost) (lawful : AreLawfulHosts hosts) (s : Show) (r
         flying = flying_moved m move is;
         last = omega (arith, last, low);
       }
-
-  -- ---- a line
-  pub line_seen : (comes : Outcomes) (l : ScriptLine) → IsLawfulLine (length hosts) l → seen hosts (after comes hosts s l) ≡ seen_after comes hosts (seen hosts s) l
-  line_seen comes l is = seen_moved (moment_of_line l) (stopped hosts b (move_of comes b l)) (stopped_is hosts lawful s reach (move_of comes b l) (move_is comes hosts b reach.last l is))
-
-  pub line_reaches : (comes : Outcomes) (l : ScriptLine) → IsLawfulLine (length hosts) l → MayMove (seen hosts s) (move_of comes (seen hosts s) l) → Reaches hosts (after comes hosts s l)
-  line_reaches comes l is may =
-      reaches_moved (moment_of_line l) (stopped hosts b (move_of comes b l)) (stopped_is hosts lawful s reach (move_of comes b l) (move_is comes hosts b reach.last l is)) (stopped_may hosts lawful s reach (move_of comes b l) may) (moment_within (length hosts) l is)

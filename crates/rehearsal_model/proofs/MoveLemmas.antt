@@ -1,7 +1,7 @@
 -- The move of each line, and its events: what each of them leaves of what is seen.
 use Rattle.std.specs.List.{list_all}
-use Rattle.std.specs.Prelude.{codes, set}
-use Rattle.std.proofs.Common.{◌≡◌, ◌≤◌, ◌<◌, ◌-◌, ℕ, suc, Bool, true, false, cond, List, [], ◌∷◌, ◌++◌, length, option_map, reverse, slice_get, Option, Some, None, Result, Ok, Err, refl, sym, ap, ◌∙◌, subst, arith}
+use Rattle.std.specs.Prelude.{set}
+use Rattle.std.proofs.Common.{◌≡◌, ◌≤◌, ◌<◌, ◌-◌, ℕ, suc, Bool, true, false, cond, List, [], ◌∷◌, ◌++◌, length, reverse, slice_get, Option, Some, None, Result, Ok, Err, refl, sym, ap, ◌∙◌, subst, arith}
 use Rattle.std.proofs.lemmas.List.{set-set}
 use Rattle.ps_time.specs.Numbers.{greatest_moment}
 use Rattle.ps_http.specs.declared.message.Response.{Response}
@@ -26,16 +26,13 @@ use Rattle.psched_script.specs.Lawful.{AreLawfulHosts, IsLawfulLine}
 use Rattle.psched_script.specs.declared.script.ScriptHost.{ScriptHost}
 use Rattle.psched_script.specs.declared.script.ScriptLine.{ScriptLine}
 use Rattle.psched_script.specs.declared.script.ScriptLine.TheVariants as line
-use Rattle.psched_script.specs.declared.script.Stop.{Stop}
 use Rattle.machine_keep.specs.Crash.{keeps_step}
 use Rattle.rehearsal_model.specs.After.{arrived_at, crashed_stage, cut_stage, stages_after, stepped_at}
 use Rattle.rehearsal_model.specs.Hosts.{config_numbered, first_config, name_numbered}
-use Rattle.rehearsal_model.specs.Moves.{Crash, Move, Outcomes, asking, attempt, crash_by, joining, moment_of_line, move_of, place_numbered, receiver, replied, replies, reply_to, sent_at, stopped, trying, unless_crash}
+use Rattle.rehearsal_model.specs.Moves.{Crash, Move, Outcomes, asking, joining, moment_of_line, place_numbered, receiver, replied, replies, reply_to, sent_at, trying}
 use Rattle.rehearsal_model.specs.Reaching.{IsBetween, IsHost, MayAsk, MayMove, Reaches}
 use Rattle.rehearsal_model.specs.Rehearsal.{Show, events_of, number_at, retooled, seen}
-use Rattle.rehearsal_model.specs.Requests.{delete, get, post}
-use Rattle.rehearsal_model.specs.Seen.{Seen, acted, config_at, has_arrived, is_flying, message, reply_at, stage_at, stop_at}
-use Rattle.rehearsal_model.proofs.AskLemmas.{asked_by_client, asked_sized}
+use Rattle.rehearsal_model.specs.Seen.{Seen, acted, config_at, reply_at, stage_at}
 use Rattle.rehearsal_model.proofs.HostLemmas.{differ, host_at, number_is, right_with, same_number, stands}
 use Rattle.rehearsal_model.proofs.KnownLemmas.{known_inv}
 use Rattle.rehearsal_model.proofs.ListLemmas.{aged_is, all_aged}
@@ -65,39 +62,14 @@ IsMove hosts b (Move.Arms place stop) = Unit {0}
 IsMove hosts b (Move.Crashes c) = (c.place < length hosts) × (c.clock ≤ greatest_moment) × HasCause hosts b c.place c.cause c.asked
 IsMove hosts b (Move.Breaks c kept) = (c.place < length hosts) × (c.clock ≤ greatest_moment) × HasCause hosts b c.place c.cause c.asked
 
-asking_is : (hosts : List ScriptHost) (b : Seen) (place clock : ℕ) (r : Result Input Response) → place < length hosts → clock ≤ greatest_moment → ((i : Input) → r ≡ Ok i → is_client i ≡ true) → ((i : Input) → r ≡ Ok i → IsSized i)
+pub asking_is : (hosts : List ScriptHost) (b : Seen) (place clock : ℕ) (r : Result Input Response) → place < length hosts → clock ≤ greatest_moment → ((i : Input) → r ≡ Ok i → is_client i ≡ true) → ((i : Input) → r ≡ Ok i → IsSized i)
     → IsMove hosts b (asking place clock r)
 asking_is hosts b place clock (Ok i) within low client sized = (within, low, client i refl, sized i refl)
 asking_is hosts b place clock (Err response) within low client sized = tt
 
-trying_is : (comes : Outcomes) (hosts : List ScriptHost) (b : Seen) (place clock : ℕ) (o : Option Due) → place < length hosts → clock ≤ greatest_moment → IsMove hosts b (trying comes place clock o)
+pub trying_is : (comes : Outcomes) (hosts : List ScriptHost) (b : Seen) (place clock : ℕ) (o : Option Due) → place < length hosts → clock ≤ greatest_moment → IsMove hosts b (trying comes place clock o)
 trying_is comes hosts b place clock None within low = tt
 trying_is comes hosts b place clock (Some d) within low = (within, low, refl)
-
-either_is : (hosts : List ScriptHost) (b : Seen) (t : Bool) (move other : Move) → IsMove hosts b move → IsMove hosts b other → IsMove hosts b (cond t move other)
-either_is hosts b true move other is is_other = is
-either_is hosts b false move other is is_other = is_other
-
-pub move_is : (comes : Outcomes) (hosts : List ScriptHost) (b : Seen) → b.last ≤ greatest_moment → (l : ScriptLine) → IsLawfulLine (length hosts) l → IsMove hosts b (move_of comes b l)
-move_is comes hosts b low (line.Host place) is = tt
-move_is comes hosts b low (line.Tools host tools) is = is
-move_is comes hosts b low (line.Limits host limits) is = (is.0, low, refl, tt)
-move_is comes hosts b low (line.Book at host class priority start len) is = (is.1, is.0, refl, tt)
-move_is comes hosts b low (line.Post at host address body) is =
-    asking_is hosts b host at (post (config_at b host) address body at) is.1 is.0 (asked_by_client (config_at b host) (codes "POST") (codes "/pscheduler/tasks") body address at)
-    (λ i e. asked_sized (config_at b host) (codes "POST") (codes "/pscheduler/tasks") body address at i is.2 e)
-move_is comes hosts b low (line.Get at host path) is =
-    asking_is hosts b host at (get (config_at b host) path at) is.1 is.0 (asked_by_client (config_at b host) (codes "GET") path [] (codes "127.0.0.1") at)
-    (λ i e. asked_sized (config_at b host) (codes "GET") path [] (codes "127.0.0.1") at i (omega arith) e)
-move_is comes hosts b low (line.Delete at host address path) is =
-    asking_is hosts b host at (delete (config_at b host) address path at) is.1 is.0 (asked_by_client (config_at b host) (codes "DELETE") path [] address at)
-    (λ i e. asked_sized (config_at b host) (codes "DELETE") path [] address at i is.2 e)
-move_is comes hosts b low (line.Turn at host) is = (is.1, is.0)
-move_is comes hosts b low (line.Archive at host) is = trying_is comes hosts b host at (attempt b host at) is.1 is.0
-move_is comes hosts b low (line.Crash at host stop) is = tt
-move_is comes hosts b low (line.Deliver at n) is = either_is hosts b (is_flying b n) (Move.Arrives n at) Move.Rests is tt
-move_is comes hosts b low (line.Repeat at n) is = either_is hosts b (has_arrived b n) (Move.Arrives n at) Move.Rests is tt
-move_is comes hosts b low (line.Lose n) is = either_is hosts b (is_flying b n) (Move.Lost n) Move.Rests tt tt
 
 -- no line is later than the last moment
 pub moment_within : (hosts : ℕ) (l : ScriptLine) → IsLawfulLine hosts l → moment_of_line l ≤ greatest_moment
@@ -111,6 +83,7 @@ moment_within hosts (line.Delete at host address path) is = is.0
 moment_within hosts (line.Turn at host) is = is.0
 moment_within hosts (line.Archive at host) is = is.0
 moment_within hosts (line.Crash at host stop) is = is.0
+moment_within hosts (line.Fail at host call) is = is.0
 moment_within hosts (line.Deliver at n) is = is
 moment_within hosts (line.Repeat at n) is = is
 moment_within hosts (line.Lose n) is = omega arith
@@ -365,50 +338,4 @@ module _ (hosts : List ScriptHost) (lawful : AreLawfulHosts hosts) (s : Show) (r
   may_moved (Move.Arms place stop) is may = tt
   may_moved (Move.Crashes c) is may = crash_may c is may
   may_moved (Move.Breaks c kept) is may = (cut_may c is kept c.cause is.2 may, tt)
-
   -- ---- a move whose step may be to stop
-  asks_stopped : (place clock : ℕ) (i : Input) (cause : Cause) (landing : Option ℕ) (move : Move) → place < length hosts → clock ≤ greatest_moment → HasCause hosts b place cause i → IsMove hosts b move → (o : Option Stop)
-      → IsMove hosts b (unless_crash move (option_map (λ stop. record { place = place; clock = clock; cause = cause; asked = i; landing = landing; stop = stop }) o))
-  asks_stopped place clock i cause landing move within low has is None = is
-  asks_stopped place clock i cause landing move within low has is (Some stop) = (within, low, has)
-
-  arrives_stopped : (n clock : ℕ) → clock ≤ greatest_moment → (o : Option Letter) → message b n ≡ o → IsMove hosts b (unless_crash (Move.Arrives n clock) (crash_by hosts b n clock o))
-  arrives_stopped n clock low None e = low
-  arrives_stopped n clock low (Some l) e =
-      let ok = known (n - 1) l (sym (aged_is w.letters (n - 1)) ∙ e) in
-      asks_stopped (receiver hosts l) clock (brings l l.reply) (Cause.ByLetter (n - 1)) (Some n) (Move.Arrives n clock) (goes_known hosts l ok.asker ok.asked l.reply) low (l, e, refl, refl) low (stop_at b (receiver hosts l))
-
-  pub stopped_is : (move : Move) → IsMove hosts b move → IsMove hosts b (stopped hosts b move)
-  stopped_is Move.Rests is = is
-  stopped_is (Move.Asks place clock i) is = asks_stopped place clock i (Cause.ByClient i) None (Move.Asks place clock i) is.0 is.1 (refl, is.2, is.3) is (stop_at b place)
-  stopped_is (Move.Tries place clock i) is = asks_stopped place clock i (Cause.ByInner i) None (Move.Tries place clock i) is.0 is.1 (refl, is.2) is (stop_at b place)
-  stopped_is (Move.Turns place clock) is = asks_stopped place clock input.Turn (Cause.ByInner input.Turn) None (Move.Turns place clock) is.0 is.1 (refl, refl) is (stop_at b place)
-  stopped_is (Move.Retools place tools) is = is
-  stopped_is (Move.Reopens place clock) is = is
-  stopped_is (Move.Arrives n clock) is = arrives_stopped n clock is (message b n) refl
-  stopped_is (Move.Lost n) is = is
-  stopped_is (Move.Arms place stop) is = is
-  stopped_is (Move.Crashes c) is = is
-  stopped_is (Move.Breaks c kept) is = is
-
-  may_stop : (place clock : ℕ) (i : Input) (cause : Cause) (landing : Option ℕ) (move : Move) → MayAsk (config_at b place) cause → MayMove b move → (o : Option Stop)
-      → MayMove b (unless_crash move (option_map (λ stop. record { place = place; clock = clock; cause = cause; asked = i; landing = landing; stop = stop }) o))
-  may_stop place clock i cause landing move asks may None = may
-  may_stop place clock i cause landing move asks may (Some stop) = asks
-
-  may_arrive : (n clock : ℕ) (o : Option Letter) → MayMove b (unless_crash (Move.Arrives n clock) (crash_by hosts b n clock o))
-  may_arrive n clock None = tt
-  may_arrive n clock (Some l) = may_stop (receiver hosts l) clock (brings l l.reply) (Cause.ByLetter (n - 1)) (Some n) (Move.Arrives n clock) tt tt (stop_at b (receiver hosts l))
-
-  pub stopped_may : (move : Move) → MayMove b move → MayMove b (stopped hosts b move)
-  stopped_may Move.Rests may = may
-  stopped_may (Move.Asks place clock i) may = may_stop place clock i (Cause.ByClient i) None (Move.Asks place clock i) may may (stop_at b place)
-  stopped_may (Move.Tries place clock i) may = may_stop place clock i (Cause.ByInner i) None (Move.Tries place clock i) may may (stop_at b place)
-  stopped_may (Move.Turns place clock) may = may_stop place clock input.Turn (Cause.ByInner input.Turn) None (Move.Turns place clock) tt tt (stop_at b place)
-  stopped_may (Move.Retools place tools) may = may
-  stopped_may (Move.Reopens place clock) may = may
-  stopped_may (Move.Arrives n clock) may = may_arrive n clock (message b n)
-  stopped_may (Move.Lost n) may = may
-  stopped_may (Move.Arms place stop) may = may
-  stopped_may (Move.Crashes c) may = may
-  stopped_may (Move.Breaks c kept) may = may

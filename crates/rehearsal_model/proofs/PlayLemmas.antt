@@ -22,7 +22,7 @@ use Rattle.rehearsal_model.specs.Moves.{Move, flying_after, joining, landed_with
 use Rattle.rehearsal_model.specs.Plays.{IsPlay, IsSeat}
 use Rattle.rehearsal_model.specs.Reaching.{MayAsk, MayMove, Reaches}
 use Rattle.rehearsal_model.specs.Rehearsal.{Show, moved, seen}
-use Rattle.rehearsal_model.specs.Scenes.{Fork, Play, Scene, Step, Turns, as_read, at_last, broken_fork, brings_order, but, chosen_from, chosen_stage, count_sent, crash_by, fault_fork, fault_of, flying_then, is_synced, keeps_broken, kept_all, landing_move, lost_answer, never, nobody_seat, play_stepped, seat_at, seat_in, seen_by, show_by, step_fork, surely, unanswered_fork, unless_fault, unsynced_fork, worlds_by}
+use Rattle.rehearsal_model.specs.Scenes.{Fork, Play, Scene, Step, Turns, as_read, at_last, broken_fork, brings_order, but, chosen_from, chosen_stage, count_sent, crash_by, fault_fork, fault_of, flying_then, is_synced, keeps_broken, kept_all, landing_move, lost_answer, never, nobody_seat, scene_stepped, seat_at, seat_in, seen_by, show_by, step_fork, surely, unanswered_fork, unless_fault, unsynced_fork, worlds_by, worlds_stepped}
 use Rattle.rehearsal_model.specs.Seats.{broken_with, done, faulted, stepped_by, unsynced, written_at}
 use Rattle.rehearsal_model.specs.Seen.{Seen, acted, config_at, nobody, stage_at}
 use Rattle.rehearsal_model.proofs.LineLemmas.{reaches_moved, seen_moved}
@@ -72,10 +72,6 @@ cause_same hosts b t u place (Cause.ByOpening c) i has = has
 
 ask_same : (c d : Config) → c ≡ d → (cause : Cause) → MayAsk c cause → MayAsk d cause
 ask_same c d same cause may = subst (λ (x : Config). MayAsk x cause) same may
-
--- the list with nothing more
-nothing_more : {A : Type 0} (xs : List A) → xs ++ [] ≡ xs
-nothing_more xs = append-nil xs
 
 module _ (hosts : List ScriptHost) (b : Scene) (place : ℕ) where
   abbrev pub h : Held Stage
@@ -174,8 +170,8 @@ pub seen_quiet : (hosts : List ScriptHost) (b : Seen) (m : ℕ) (move : Move) (s
     → moved_seen hosts b m move ≡ record { stages = stages; letters = b.letters; flying = flying; last = max b.last m; stops = stops }
 seen_quiet hosts b m move stages flying stops a j f s =
     seen_parts hosts b m move stages [] flying stops a j f s
-    ∙ (ap (λ x. record { stages = stages; letters = x; flying = flying ++ []; last = max b.last m; stops = stops }) (nothing_more b.letters)
-    ∙ ap (λ x. record { stages = stages; letters = b.letters; flying = x; last = max b.last m; stops = stops }) (nothing_more flying))
+    ∙ (ap (λ x. record { stages = stages; letters = x; flying = flying ++ []; last = max b.last m; stops = stops }) (append-nil b.letters)
+    ∙ ap (λ x. record { stages = stages; letters = b.letters; flying = x; last = max b.last m; stops = stops }) (append-nil flying))
 
 -- a message that lands, where nothing else happens
 module _ (hosts : List ScriptHost) (b : Seen) where
@@ -322,7 +318,7 @@ module _ (hosts : List ScriptHost) (lawful : AreLawfulHosts hosts) (p : Play) (i
         (subst (All IsSeat) (sym a) (seats_set (done here step.clock step.asked) (calm_seat (done here step.clock step.asked) refl)))
         (ap length a ∙ long_set (done here step.clock step.asked))
 
-    pub stepped_on : IsPlay hosts (at_last m (play_stepped hosts p move step))
+    pub stepped_on : IsPlay hosts (record { worlds = worlds_stepped hosts p move step; scene = at_last m (scene_stepped hosts b move step) })
     stepped_on = by (fault_of b step)
       where
         scene_by : Option ℕ → Scene
@@ -338,4 +334,4 @@ module _ (hosts : List ScriptHost) (lawful : AreLawfulHosts hosts) (p : Play) (i
 
         by : (o : Option ℕ) → IsPlay hosts (record { worlds = worlds_by hosts p (step_fork here step move o); scene = scene_by o })
         by None = done_on (scene_by None) refl refl refl refl refl
-        by (Some number) = fault_on number (scene_by (Some number)) (refl, nothing_more b.letters, refl, refl, refl)
+        by (Some number) = fault_on number (scene_by (Some number)) (refl, append-nil b.letters, refl, refl, refl)

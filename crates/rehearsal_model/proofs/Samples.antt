@@ -24,7 +24,8 @@ use Rattle.psched_script.specs.declared.script.Script.{Script}
 use Rattle.psched_script.specs.declared.script.ScriptHost.{ScriptHost}
 use Rattle.psched_script.specs.declared.script.ScriptLine.{ScriptLine}
 use Rattle.psched_script.specs.declared.script.ScriptLine.TheVariants as line
-use Rattle.rehearsal_model.specs.Rehearsal.{report_of}
+use Rattle.rehearsal_model.specs.Seats.{record_length, snapshot_length}
+use Rattle.rehearsal_model.specs.Telling.{report_of}
 
 abbrev host : List ℕ → ℕ → ScriptHost
 host name number = record { name = name; number = number }
@@ -41,7 +42,7 @@ script hosts lines = record { hosts = hosts; lines = numbered 1 lines }
 touching : report_of plain (script (host (codes "a") 1 ∷ []) (line.Host 0 ∷ line.Book 50 0 Exclusive (pos 0) 100 50 ∷ line.Book 50 0 Exclusive (pos 0) 150 50 ∷ [])) ≡
     codes "1 ok\n2 accepted 00010000-0000-8001-8000-000000010000\n3 accepted 00010000-0000-8001-8000-000000020000\n" ++
     codes "a 100 150 exclusive 0 pending 00010000-0000-8001-8000-000000010000\na 150 200 exclusive 0 pending 00010000-0000-8001-8000-000000020000\n"
-unfolding digits uuid_on_literals
+unfolding digits uuid_on_literals escape_byte length_text_of moment_text_of day_text_of date_of_day month_after year_after record_length snapshot_length
 touching = refl
 
 -- a task on two hosts: a reply gets lost, and its order is sent again
@@ -60,7 +61,7 @@ on_both : report_of plain (script two lines) ≡
     codes "1 ok\n2 ok\n3 200 \"http://a/pscheduler/tasks/00010000-0001-8000-8000-000000000000\"\n4 changes 1 1=a>b:free\n5 200 2=b>a:reply\n6 heard\n7 changes 1 3=a>b:propose\n8 200 4=b>a:reply\n9 lost\n" ++
     codes "10 changes 0 5=a>b:propose\n11 200 6=b>a:reply\n12 heard\n13 changes 0 7=a>b:confirm\n14 200 8=b>a:reply\n15 changes 1\n16 changes 1\n" ++
     codes "a 1007 1017 exclusive 0 running 00010000-0001-8001-8000-000000000000\nb 1007 1017 exclusive 0 running 00010000-0001-8001-8000-000000000000\n"
-unfolding is_utf8 chars encode digits uuid_on_literals serde_json_on_literals escape_byte length_of amount_of days_at count_at clock_at seconds_at leading_number begins_as fraction_at length_text_of first_from run_text task_text moment_data second_data
+unfolding is_utf8 chars encode digits uuid_on_literals serde_json_on_literals escape_byte length_of amount_of days_at count_at clock_at seconds_at leading_number begins_as fraction_at length_text_of first_from run_text task_text moment_data second_data moment_text_of day_text_of date_of_day month_after year_after record_length snapshot_length
 on_both = refl
 
 -- an order of another kind goes out while a reply is still in flight
@@ -71,7 +72,7 @@ accepted =
 accepting : report_of plain (script two accepted) ≡
     codes "1 ok\n2 ok\n3 200 \"http://a/pscheduler/tasks/00010000-0001-8000-8000-000000000000\"\n4 changes 1 1=a>b:free\n5 200 2=b>a:reply\n6 heard\n7 changes 1 3=a>b:propose\n8 200 4=b>a:reply\n9 200 5=b>a:reply\n" ++
     codes "10 heard\n11 changes 0 6=a>b:confirm\n12 200 7=b>a:reply\na 1007 1017 exclusive 0 on-deck 00010000-0001-8001-8000-000000000000\nb 1007 1017 exclusive 0 on-deck 00010000-0001-8001-8000-000000000000\n"
-unfolding is_utf8 chars encode digits uuid_on_literals serde_json_on_literals escape_byte length_of amount_of days_at count_at clock_at seconds_at leading_number begins_as fraction_at length_text_of first_from run_text task_text moment_data second_data
+unfolding is_utf8 chars encode digits uuid_on_literals serde_json_on_literals escape_byte length_of amount_of days_at count_at clock_at seconds_at leading_number begins_as fraction_at length_text_of first_from run_text task_text moment_data second_data moment_text_of day_text_of date_of_day month_after year_after record_length snapshot_length
 accepting = refl
 
 -- a participant crashes as it accepts a run: before the run is kept, and behind that
@@ -84,7 +85,7 @@ crashed : report_of plain (script two crashing) ≡
     codes "1 ok\n2 ok\n3 200 \"http://a/pscheduler/tasks/00010000-0001-8000-8000-000000000000\"\n4 changes 1 1=a>b:free\n5 200 2=b>a:reply\n6 heard\n7 changes 1 3=a>b:propose\n8 armed\n9 crashed\n" ++
     codes "10 changes 0 4=a>b:propose\n11 armed\n12 crashed\n13 changes 0 5=a>b:propose\n14 200 6=b>a:reply\n15 heard\n" ++
     codes "a 1007 1017 exclusive 0 on-deck 00010000-0001-8001-8000-000000000000\nb 1007 1017 exclusive 0 pending 00010000-0001-8001-8000-000000000000\n"
-unfolding is_utf8 chars encode digits uuid_on_literals serde_json_on_literals escape_byte length_of amount_of days_at count_at clock_at seconds_at leading_number begins_as fraction_at length_text_of first_from run_text task_text moment_data second_data
+unfolding is_utf8 chars encode digits uuid_on_literals serde_json_on_literals escape_byte length_of amount_of days_at count_at clock_at seconds_at leading_number begins_as fraction_at length_text_of first_from run_text task_text moment_data second_data moment_text_of day_text_of date_of_day month_after year_after record_length snapshot_length
 crashed = refl
 
 -- a lost order goes out again while those to another participant and for another run are in flight
@@ -99,7 +100,7 @@ told =
 telling : report_of plain (script three told) ≡
     codes "1 ok\n2 ok\n3 ok\n4 200 \"http://a/pscheduler/tasks/00010000-0001-8000-8000-000000000000\"\n5 200 \"http://a/pscheduler/tasks/00010000-0002-8000-8000-000000000000\"\n6 changes 2 1=a>b:free 2=a>c:free 3=a>b:free\n7 lost\n" ++
     codes "8 changes 0 4=a>c:free\n9 lost\n10 changes 0 5=a>b:free\na - - exclusive 0 pending 00010000-0001-8001-8000-000000000000\na - - exclusive 0 pending 00010000-0002-8001-8000-000000000000\n"
-unfolding is_utf8 chars encode digits uuid_on_literals serde_json_on_literals escape_byte length_of amount_of days_at count_at clock_at seconds_at leading_number begins_as fraction_at length_text_of first_from run_text task_text moment_data second_data
+unfolding is_utf8 chars encode digits uuid_on_literals serde_json_on_literals escape_byte length_of amount_of days_at count_at clock_at seconds_at leading_number begins_as fraction_at length_text_of first_from run_text task_text moment_data second_data moment_text_of day_text_of date_of_day month_after year_after record_length snapshot_length
 telling = refl
 
 -- turns while a message is in flight, one that comes again, some that don't come, and a task that is canceled
@@ -113,7 +114,7 @@ canceled =
 canceling : report_of plain (script two canceled) ≡
     codes "1 ok\n2 ok\n3 200 \"http://a/pscheduler/tasks/00010000-0001-8000-8000-000000000000\"\n4 changes 1 1=a>b:free\n5 changes 0\n6 200 2=b>a:reply\n7 changes 0\n8 200 3=b>a:reply\n9 not in flight\n10 lost\n" ++
     codes "11 not in flight\n12 not in flight\n13 not in flight\n14 ok\n15 403 {\"error\":\"not the poster\"}\n16 200 {\"canceled\":true}\n17 heard\na - - exclusive 0 canceled 00010000-0001-8001-8000-000000000000\n"
-unfolding is_utf8 chars encode digits uuid_on_literals serde_json_on_literals escape_byte length_of amount_of days_at count_at clock_at seconds_at leading_number begins_as fraction_at length_text_of first_from run_text task_text moment_data second_data
+unfolding is_utf8 chars encode digits uuid_on_literals serde_json_on_literals escape_byte length_of amount_of days_at count_at clock_at seconds_at leading_number begins_as fraction_at length_text_of first_from run_text task_text moment_data second_data moment_text_of day_text_of date_of_day month_after year_after record_length snapshot_length
 canceling = refl
 
 -- limits under which nothing is allowed
@@ -122,7 +123,7 @@ deny = record open_config { limits = record { name = codes "no"; value = record 
 
 denying : report_of plain (script (host (codes "a") 1 ∷ []) (line.Host 0 ∷ line.Book 0 0 Exclusive (pos 0) 100 10 ∷ line.Limits 0 deny ∷ line.Book 0 0 Exclusive (pos 0) 200 10 ∷ [])) ≡
     codes "1 ok\n2 accepted 00010000-0000-8001-8000-000000010000\n3 ok\n4 denied 1 limits exhausted\na 100 110 exclusive 0 pending 00010000-0000-8001-8000-000000010000\n"
-unfolding digits uuid_on_literals
+unfolding digits uuid_on_literals escape_byte length_text_of moment_text_of day_text_of date_of_day month_after year_after record_length snapshot_length
 denying = refl
 
 -- limits are set at the greatest moment of the lines above, so an earlier start is past
@@ -130,7 +131,7 @@ abbrev others : Config
 others = record open_config { text = codes "{}" }
 
 setting : report_of plain (script (host (codes "a") 1 ∷ []) (line.Host 0 ∷ line.Turn 95 0 ∷ line.Limits 0 others ∷ line.Book 50 0 Exclusive (pos 0) 90 10 ∷ [])) ≡ codes "1 ok\n2 changes 0\n3 ok\n4 denied 2 past\n"
-unfolding digits uuid_on_literals
+unfolding digits uuid_on_literals escape_byte length_text_of moment_text_of day_text_of date_of_day month_after year_after record_length snapshot_length
 setting = refl
 
 -- an archive that fails once, and may not be tried again
@@ -142,7 +143,7 @@ archived =
 archiving : report_of plain (script (host (codes "a") 1 ∷ []) archived) ≡
     codes "1 ok\n2 200 \"http://a/pscheduler/tasks/00010000-0001-8000-8000-000000000000\"\n3 changes 1\n4 changes 1\n5 changes 1\n6 changes 2\n7 given up\n8 nothing due\n" ++
     codes "a 1007 1017 background 0 finished 00010000-0001-8001-8000-000000000000\n"
-unfolding is_utf8 chars encode digits uuid_on_literals serde_json_on_literals escape_byte length_of amount_of days_at count_at clock_at seconds_at leading_number begins_as fraction_at length_text_of first_from run_text task_text moment_data second_data
+unfolding is_utf8 chars encode digits uuid_on_literals serde_json_on_literals escape_byte length_of amount_of days_at count_at clock_at seconds_at leading_number begins_as fraction_at length_text_of first_from run_text task_text moment_data second_data moment_text_of day_text_of date_of_day month_after year_after record_length snapshot_length
 archiving = refl
 
 -- an archive that fails twice, is tried again as long as it may be, and is seen
@@ -157,7 +158,7 @@ retrying : report_of plain (script (host (codes "a") 1 ∷ []) retried) ≡
     codes "11 200 {\"archivings\":[{\"archiver\":\"failer\",\"state\":\"succeeded\",\"tried\":3}],\"end-time\":\"1970-01-01T00:16:57Z\",\"participants\":[\"a\"],\"priority\":0,\"result\":{\"participants\":[{\"host\":\"a\"," ++
     codes "\"result\":{\"duration\":\"PT10S\",\"schema\":1,\"succeeded\":true}}],\"schema\":1,\"succeeded\":true},\"start-time\":\"1970-01-01T00:16:47Z\",\"state\":\"finished\",\"tool\":\"sleep\"}\n" ++
     codes "a 1007 1017 background 0 finished 00010000-0001-8001-8000-000000000000\n"
-unfolding is_utf8 chars encode digits uuid_on_literals serde_json_on_literals escape_byte length_of amount_of days_at count_at clock_at seconds_at leading_number begins_as fraction_at length_text_of first_from run_text task_text moment_data second_data moment_text_of day_text_of date_of_day month_after year_after
+unfolding is_utf8 chars encode digits uuid_on_literals serde_json_on_literals escape_byte length_of amount_of days_at count_at clock_at seconds_at leading_number begins_as fraction_at length_text_of first_from run_text task_text moment_data second_data moment_text_of day_text_of date_of_day month_after year_after record_length snapshot_length
 retrying = refl
 
 -- requests that are refused as they are read
@@ -168,5 +169,5 @@ refused =
 
 refusing : report_of plain (script (host (codes "a") 1 ∷ []) refused) ≡
     codes "1 ok\n2 403 {\"error\":\"no peer key\"}\n3 400 {\"error\":\"query\"}\n4 400 {\"error\":\"bad head\"}\n5 404 {\"error\":\"not found\"}\n6 405 {\"error\":\"method\"}\n7 400 {\"error\":\"syntax\"}\n"
-unfolding is_utf8 chars encode digits uuid_on_literals serde_json_on_literals escape_byte
+unfolding is_utf8 chars encode digits uuid_on_literals serde_json_on_literals escape_byte length_text_of moment_text_of day_text_of date_of_day month_after year_after record_length snapshot_length
 refusing = refl

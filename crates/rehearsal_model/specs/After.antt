@@ -1,4 +1,4 @@
--- What is seen after a move or a line, over what was seen before it.
+-- What is seen after a move, over what was seen before it.
 use Rattle.std.specs.Prelude.{◌++◌, Bool, false, List, [], None, Option, Some, map, max, set, true, ℕ}
 use Rattle.machine_keep.specs.Crash.{keeps_step}
 use Rattle.host_model.specs.Book.{empty_book}
@@ -7,10 +7,9 @@ use Rattle.host_model.specs.declared.input.Input.TheVariants as input
 use Rattle.psched_world.specs.Events.{brings}
 use Rattle.psched_world.specs.World.{Letter, Stage}
 use Rattle.psched_script.specs.declared.script.ScriptHost.{ScriptHost}
-use Rattle.psched_script.specs.declared.script.ScriptLine.{ScriptLine}
 use Rattle.psched_script.specs.declared.script.Stop.{Stop}
 use Rattle.rehearsal_model.specs.Hosts.{first_config}
-use Rattle.rehearsal_model.specs.Moves.{Move, Outcomes, flying_after, joining, moment_of_line, move_of, receiver, stopped, stops_after}
+use Rattle.rehearsal_model.specs.Moves.{Move, flying_after, joining, receiver, stops_after}
 use Rattle.rehearsal_model.specs.Rehearsal.{retooled}
 use Rattle.rehearsal_model.specs.Seen.{Seen, acted, book_at, config_at, message, stage_at}
 
@@ -60,6 +59,3 @@ moved_seen hosts b m move = record {
   last = max b.last m;
   stops = stops_after b move;
 }
-
-abbrev pub seen_after : Outcomes → List ScriptHost → Seen → ScriptLine → Seen
-seen_after comes hosts b l = moved_seen hosts b (moment_of_line l) (stopped hosts b (move_of comes b l))

@@ -1,11 +1,12 @@
--- What each line of a script does in a world.
-use Rattle.std.specs.Prelude.{◌&&◌, ◌+◌, ◌-◌, ◌==◌, ◌∷◌, ◌++◌, Bool, Err, List, None, Ok, Option, Result, Some, [], false, filter, filter_map, if◌then◌else◌, length, not, option_and_then, option_map, slice_get, true, unwrap_or, ℕ}
+-- What lines of scripts do in a world.
+use Rattle.std.specs.Prelude.{◌&&◌, ◌+◌, ◌==◌, ◌∷◌, ◌++◌, Bool, Err, List, None, Ok, Option, Result, Some, [], false, filter, filter_map, length, not, option_and_then, option_map, slice_get, true, unwrap_or, ℕ}
 use Rattle.std.specs.List.{list_any, position_or_len}
 use Rattle.ps_time.specs.declared.key.RunKey.{RunKey}
 use Rattle.ps_doors.specs.declared.archiver.Tried.{Tried}
 use Rattle.ps_doors.specs.declared.archiver.Tried.TheVariants.{Failed, Succeeded}
 use Rattle.ps_http.specs.declared.message.Response.{Response}
 use Rattle.host_model.specs.Archives.{attempt_of, due}
+use Rattle.host_model.specs.Book.{Book}
 use Rattle.host_model.specs.Orders.{orders}
 use Rattle.host_model.specs.declared.config.Config.{Config}
 use Rattle.host_model.specs.declared.input.Input.{Input}
@@ -20,10 +21,8 @@ use Rattle.psched_world.specs.World.{Letter, Stage, number_of}
 use Rattle.psched_script.specs.Told.{moment_told}
 use Rattle.psched_script.specs.declared.script.ScriptHost.{ScriptHost}
 use Rattle.psched_script.specs.declared.script.ScriptLine.{ScriptLine}
-use Rattle.psched_script.specs.declared.script.ScriptLine.TheVariants as line
 use Rattle.psched_script.specs.declared.script.Stop.{Stop}
-use Rattle.rehearsal_model.specs.Requests.{delete, get, post}
-use Rattle.rehearsal_model.specs.Seen.{Seen, acted, book_at, config_at, disarmed, has_arrived, is_flying, landed, message, reply_at, stage_at, stop_at}
+use Rattle.rehearsal_model.specs.Seen.{Seen, acted, disarmed, landed, message, reply_at, stage_at}
 
 -- a step that stops: of the host at a place, at a clock, by what it came, and what it was asked
 pub record Crash : Type 0 where
@@ -80,29 +79,13 @@ retry_of _ = None
 abbrev pub tried_as : Due → Tried → Input
 tried_as d t = input.Tried d.key d.index (is_good t) (retry_of t)
 
--- the first archive that is due is tried
-abbrev pub attempt : Seen → ℕ → ℕ → Option Due
-attempt b place clock = option_and_then (λ pair. attempt_of (book_at b place) pair.0 pair.1) (slice_get (due (book_at b place) clock) 0)
+-- at the first archive that is due
+abbrev pub attempt : Book → ℕ → Option Due
+attempt book clock = option_and_then (λ pair. attempt_of book pair.0 pair.1) (slice_get (due book clock) 0)
 
 abbrev pub trying : Outcomes → ℕ → ℕ → Option Due → Move
 trying comes place clock None = Rests
 trying comes place clock (Some d) = Tries place clock (tried_as d (comes d.archiver d.settings d.tried))
-
--- ---- lines
-abbrev pub move_of : Outcomes → Seen → ScriptLine → Move
-move_of comes b (line.Host place) = Rests
-move_of comes b (line.Tools host tools) = Retools host tools
-move_of comes b (line.Limits host limits) = Asks host b.last (input.Limits limits)
-move_of comes b (line.Book at host class priority start len) = Asks host at (input.Book class priority start len)
-move_of comes b (line.Post at host address body) = asking host at (post (config_at b host) address body at)
-move_of comes b (line.Get at host path) = asking host at (get (config_at b host) path at)
-move_of comes b (line.Delete at host address path) = asking host at (delete (config_at b host) address path at)
-move_of comes b (line.Turn at host) = Turns host at
-move_of comes b (line.Archive at host) = trying comes host at (attempt b host at)
-move_of comes b (line.Crash at host stop) = Arms host stop
-move_of comes b (line.Deliver at n) = if is_flying b n then Arrives n at else Rests
-move_of comes b (line.Repeat at n) = if has_arrived b n then Arrives n at else Rests
-move_of comes b (line.Lose n) = if is_flying b n then Lost n else Rests
 
 -- ---- what a turn sends
 abbrev pub same_key : RunKey → RunKey → Bool
@@ -174,31 +157,7 @@ joining hosts b (Turns place clock) = sent_at b place clock
 joining hosts b (Arrives n clock) = replies hosts b clock (message b n)
 joining hosts b _ = []
 
--- ---- steps that stop
--- the step of the host at the place, where it is to stop
-abbrev pub crash_in : Seen → ℕ → ℕ → Cause → Input → Option ℕ → Option Crash
-crash_in b place clock cause i landing = option_map (λ stop. record { place = place; clock = clock; cause = cause; asked = i; landing = landing; stop = stop }) (stop_at b place)
-
-abbrev pub crash_by : List ScriptHost → Seen → ℕ → ℕ → Option Letter → Option Crash
-crash_by hosts b n clock None = None
-crash_by hosts b n clock (Some l) = crash_in b (receiver hosts l) clock (Cause.ByLetter (n - 1)) (brings l l.reply) (Some n)
-
--- the step of a move, where it is to stop
-abbrev pub crash_of : List ScriptHost → Seen → Move → Option Crash
-crash_of hosts b (Asks place clock i) = crash_in b place clock (Cause.ByClient i) i None
-crash_of hosts b (Tries place clock i) = crash_in b place clock (Cause.ByInner i) i None
-crash_of hosts b (Turns place clock) = crash_in b place clock (Cause.ByInner input.Turn) input.Turn None
-crash_of hosts b (Arrives n clock) = crash_by hosts b n clock (message b n)
-crash_of hosts b _ = None
-
-abbrev pub unless_crash : Move → Option Crash → Move
-unless_crash move None = move
-unless_crash move (Some c) = Crashes c
-
--- the move, unless its step is to stop
-abbrev pub stopped : List ScriptHost → Seen → Move → Move
-stopped hosts b move = unless_crash move (crash_of hosts b move)
-
+-- ---- afterwards
 -- what is to stop afterwards
 abbrev pub stops_after : Seen → Move → List (ℕ × Stop)
 stops_after b (Arms place stop) = disarmed place b.stops ++ (place, stop) ∷ []

@@ -1,31 +1,21 @@
--- The world of a script, and the report on it.
-use Rattle.std.specs.Prelude.{◌+◌, ◌-◌, ◌∷◌, ◌++◌, List, None, Ok, Err, Option, Result, Some, [], codes, flat_map, if◌then◌else◌, length, map, max, reverse, suc, zero, ℕ}
-use Rattle.std.specs.Fmt.{decimal}
+-- The worlds of rehearsals: events that moves come to, and what is told of messages and runs.
+use Rattle.std.specs.Prelude.{◌+◌, ◌-◌, ◌∷◌, ◌++◌, List, None, Option, Some, [], codes, if◌then◌else◌, length, map, max, reverse, suc, zero, ℕ}
 use Rattle.run_states.specs.Life.{settled_rows}
-use Rattle.ps_http.specs.declared.message.Response.{Response}
-use Rattle.api_reply.specs.Replies.{reply_status, response_of}
 use Rattle.machine_keep.specs.Crash.{keeps_step}
 use Rattle.host_model.specs.Orders.{orders}
 use Rattle.host_model.specs.declared.config.Config.{Config}
-use Rattle.host_model.specs.declared.input.Input.{Input}
 use Rattle.host_model.specs.declared.input.Input.TheVariants as input
-use Rattle.host_model.specs.declared.lead.Due.{Due}
 use Rattle.host_model.specs.declared.order.Order.{Order}
 use Rattle.host_model.specs.declared.reply.Reply.{Reply}
 use Rattle.psched_world.specs.Events.{Event, run}
 use Rattle.psched_world.specs.World.{Letter, Stage, World, start}
-use Rattle.psched_script.specs.declared.script.Numbered.{Numbered}
-use Rattle.psched_script.specs.declared.script.Script.{Script}
 use Rattle.psched_script.specs.declared.script.ScriptHost.{ScriptHost}
-use Rattle.psched_script.specs.declared.script.ScriptLine.{ScriptLine}
-use Rattle.psched_script.specs.declared.script.ScriptLine.TheVariants as line
 use Rattle.psched_script.specs.declared.script.Stop.{Stop}
-use Rattle.report_text.specs.Line.{archive_text, booking_text, changes_text, limits_text, line_text, order_kind, response_text, sent_text}
+use Rattle.report_text.specs.Line.{order_kind, sent_text}
 use Rattle.report_text.specs.Table.{table_text}
 use Rattle.rehearsal_model.specs.Hosts.{config_numbered, first_config, name_numbered}
-use Rattle.rehearsal_model.specs.Moves.{Crash, Move, attempt, Outcomes, crash_of, flying_after, is_untold, moment_of_line, move_of, reply_to, replied, sent_at, stopped, stops_after, tried_as}
-use Rattle.rehearsal_model.specs.Requests.{delete, get, post}
-use Rattle.rehearsal_model.specs.Seen.{Seen, acted, config_at, has_arrived, is_flying, message, reply_at, stage_at}
+use Rattle.rehearsal_model.specs.Moves.{Move, flying_after, is_untold, stops_after}
+use Rattle.rehearsal_model.specs.Seen.{Seen, acted, config_at, stage_at}
 
 -- ---- the world
 -- how far a rehearsal has come
@@ -92,26 +82,7 @@ events_of hosts s (Move.Breaks c kept) = Event.Cut (number_at hosts c.place) c.c
 abbrev pub moved : List ScriptHost → Show → ℕ → Move → Show
 moved hosts s m move = record { world = run (events_of hosts s move) s.world; flying = flying_after hosts (seen hosts s) move; last = max s.last m; stops = stops_after (seen hosts s) move }
 
--- ---- lines
-abbrev pub after : Outcomes → List ScriptHost → Show → ScriptLine → Show
-after comes hosts s l = moved hosts s (moment_of_line l) (stopped hosts (seen hosts s) (move_of comes (seen hosts s) l))
-
-abbrev pub after_all : Outcomes → List ScriptHost → Show → List Numbered → Show
-after_all comes hosts s [] = s
-after_all comes hosts s (l ∷ ls) = after_all comes hosts (after comes hosts s l.line) ls
-
-abbrev pub last_show : Outcomes → Script → Show
-last_show comes script = after_all comes script.hosts (first_show script.hosts) script.lines
-
-abbrev pub world_of : Outcomes → Script → World
-world_of comes script = (last_show comes script).world
-
--- ---- what is told of a line
--- a request is answered by what its host replies, or refused as it is read
-abbrev pub response_at : Seen → ℕ → ℕ → Result Input Response → Response
-response_at b place clock (Ok i) = response_of (config_at b place) (reply_at b place clock i)
-response_at b place clock (Err response) = response
-
+-- ---- what is told
 abbrev pub letter_told : List ScriptHost → ℕ → Letter → Option Reply → List ℕ
 letter_told hosts n l None = sent_text n (name_numbered hosts l.asker) (name_numbered hosts l.asked) (order_kind l.order.body)
 letter_told hosts n l (Some said) = sent_text n (name_numbered hosts l.asked) (name_numbered hosts l.asker) (codes "reply")
@@ -121,59 +92,6 @@ abbrev pub letters_told : List ScriptHost → ℕ → List Letter → List ℕ
 letters_told hosts n [] = []
 letters_told hosts n (l ∷ ls) = letter_told hosts n l l.reply ++ letters_told hosts (n + 1) ls
 
-abbrev pub turn_told : List ScriptHost → Seen → ℕ → ℕ → List ℕ
-turn_told hosts b place clock = changes_text (reply_at b place clock input.Turn) ++ letters_told hosts (length b.letters + 1) (sent_at b place clock)
-
--- an order that arrives is answered with a status, by a message; a reply is heard
-abbrev pub letter_arrived : List ScriptHost → Seen → ℕ → Letter → Option Reply → List ℕ
-letter_arrived hosts b clock l None = decimal (reply_status (reply_to hosts b clock l)) ++ letters_told hosts (length b.letters + 1) (replied hosts b clock l None)
-letter_arrived hosts b clock l (Some said) = codes "heard"
-
-abbrev pub arrival_told : List ScriptHost → Seen → ℕ → Option Letter → List ℕ
-arrival_told hosts b clock None = codes "not in flight"
-arrival_told hosts b clock (Some l) = letter_arrived hosts b clock l l.reply
-
-abbrev pub attempt_told : Outcomes → Seen → ℕ → ℕ → Option Due → List ℕ
-attempt_told comes b place clock None = codes "nothing due"
-attempt_told comes b place clock (Some d) = archive_text (reply_at b place clock (tried_as d (comes d.archiver d.settings d.tried)))
-
--- where its step doesn't stop
-abbrev pub plainly_told : Outcomes → List ScriptHost → Seen → ScriptLine → List ℕ
-plainly_told comes hosts b (line.Host place) = codes "ok"
-plainly_told comes hosts b (line.Tools host tools) = codes "ok"
-plainly_told comes hosts b (line.Limits host limits) = limits_text (reply_at b host b.last (input.Limits limits))
-plainly_told comes hosts b (line.Book at host class priority start len) = booking_text (reply_at b host at (input.Book class priority start len))
-plainly_told comes hosts b (line.Post at host address body) = response_text (response_at b host at (post (config_at b host) address body at))
-plainly_told comes hosts b (line.Get at host path) = response_text (response_at b host at (get (config_at b host) path at))
-plainly_told comes hosts b (line.Delete at host address path) = response_text (response_at b host at (delete (config_at b host) address path at))
-plainly_told comes hosts b (line.Turn at host) = turn_told hosts b host at
-plainly_told comes hosts b (line.Archive at host) = attempt_told comes b host at (attempt b host at)
-plainly_told comes hosts b (line.Crash at host stop) = codes "armed"
-plainly_told comes hosts b (line.Deliver at n) = if is_flying b n then arrival_told hosts b at (message b n) else codes "not in flight"
-plainly_told comes hosts b (line.Repeat at n) = if has_arrived b n then arrival_told hosts b at (message b n) else codes "not in flight"
-plainly_told comes hosts b (line.Lose n) = if is_flying b n then codes "lost" else codes "not in flight"
-
-abbrev pub told_unless : Option Crash → List ℕ → List ℕ
-told_unless None said = said
-told_unless (Some c) said = codes "crashed"
-
-abbrev pub told : Outcomes → List ScriptHost → Seen → ScriptLine → List ℕ
-told comes hosts b l = told_unless (crash_of hosts b (move_of comes b l)) (plainly_told comes hosts b l)
-
--- ---- the report
--- the lines that are left, each told over what those before it left
-abbrev pub report_from : Outcomes → List ScriptHost → Show → List Numbered → List ℕ
-report_from comes hosts s [] = []
-report_from comes hosts s (l ∷ ls) = line_text l.number (told comes hosts (seen hosts s) l.line) ++ report_from comes hosts (after comes hosts s l.line) ls
-
 -- the runs of the host in this stage, settled at m
 abbrev pub stage_table : ℕ → Stage → List ℕ
 stage_table m stage = table_text stage.config.name m (settled_rows m stage.book.rows)
-
--- a table for each host, in the order of their declaration
-abbrev pub tables : Seen → List ℕ
-tables b = flat_map (stage_table b.last) b.stages
-
--- the lines' reports, then the hosts' tables at the greatest moment
-abbrev pub report_of : Outcomes → Script → List ℕ
-report_of comes script = report_from comes script.hosts (first_show script.hosts) script.lines ++ tables (seen script.hosts (last_show comes script))

@@ -1,9 +1,11 @@
 -- What a script sees where calls of disks may fail, and the worlds that this may be: what a fault left of a step is found out later.
-use Rattle.std.specs.Prelude.{◌&&◌, ◌+◌, ◌++◌, ◌-◌, ◌==◌, ◌∷◌, Bool, List, None, Option, Some, [], false, filter, if◌then◌else◌, length, map, max, nat_le, nat_lt, not, set, slice_index_or, true, ℕ}
+use Rattle.std.specs.Prelude.{◌&&◌, ◌+◌, ◌++◌, ◌-◌, ◌==◌, ◌∷◌, Bool, List, None, Option, Some, [], count_by, false, if◌then◌else◌, length, map, max, nat_le, nat_lt, not, set, slice_index_or, true, ℕ}
 use Rattle.std.specs.List.{list_any}
 use Rattle.ps_disks.specs.declared.image.Image.{Image}
 use Rattle.ps_disks.specs.declared.image.Image.TheVariants.{Old}
 use Rattle.host_journal.specs.Crash.{is_new}
+use Rattle.host_model.specs.Book.{Book}
+use Rattle.host_model.specs.declared.config.Config.{Config}
 use Rattle.host_model.specs.declared.input.Input.{Input}
 use Rattle.host_model.specs.declared.input.Input.TheVariants as input
 use Rattle.host_model.specs.declared.view.Page.TheVariants as page
@@ -12,14 +14,19 @@ use Rattle.machine_seat.specs.Crashed.{loose_in}
 use Rattle.machine_seat.specs.Held.{Held, Loose, armed_at, configured, fault_at, syncs}
 use Rattle.psched_world.specs.Events.{Cause, brings}
 use Rattle.psched_world.specs.World.{Letter, Stage, World}
+use Rattle.psched_script.specs.declared.script.Numbered.{Numbered}
+use Rattle.psched_script.specs.declared.script.Script.{Script}
 use Rattle.psched_script.specs.declared.script.ScriptHost.{ScriptHost}
 use Rattle.psched_script.specs.declared.script.ScriptLine.{ScriptLine}
 use Rattle.psched_script.specs.declared.script.ScriptLine.TheVariants as line
 use Rattle.psched_script.specs.declared.script.Stop.{Stop}
 use Rattle.rehearsal_model.specs.Hosts.{first_config}
-use Rattle.rehearsal_model.specs.Moves.{Crash, Move, Outcomes, attempt, flying_after, joining, landed_with, moment_of_line, move_of, receiver, stops_after, trying}
+use Rattle.rehearsal_model.specs.declared.came.Came.{Came}
+use Rattle.rehearsal_model.specs.declared.came.Came.TheVariants as came
+use Rattle.rehearsal_model.specs.Moves.{Crash, Move, Outcomes, asking, attempt, flying_after, joining, landed_with, moment_of_line, receiver, stops_after, trying}
 use Rattle.rehearsal_model.specs.Rehearsal.{Show, first_world, moved, retooled}
-use Rattle.rehearsal_model.specs.Seats.{calm_on, crashed_at, fault_in, is_before, new_place, opened_anew, stage_with, stepped}
+use Rattle.rehearsal_model.specs.Requests.{delete, get, post}
+use Rattle.rehearsal_model.specs.Seats.{answered, calm_on, crashed_at, done, fault_in, is_before, new_place, opened_anew, stage_with, stepped}
 use Rattle.rehearsal_model.specs.Seen.{Seen, disarmed, landed, message, nobody, stop_at}
 
 pub record Scene : Type 0 where
@@ -46,6 +53,13 @@ seat_in seats place = slice_index_or seats place nobody_seat
 
 abbrev pub seat_at : Scene → ℕ → Held Stage
 seat_at b place = seat_in b.seats place
+
+-- as its disks read
+abbrev pub config_of : Scene → ℕ → Config
+config_of b place = (seat_at b place).state.config
+
+abbrev pub book_of : Scene → ℕ → Book
+book_of b place = (seat_at b place).state.book
 
 -- ---- what was loose is kept, or it isn't: that turns out for each host by its place
 abbrev pub Turns : Type 0
@@ -78,6 +92,21 @@ as_read b = seen_by kept_all b
 abbrev pub but : Turns → ℕ → Bool → Turns
 but turns place kept = λ p. if p == place then kept else turns p
 
+-- ---- what comes of a step
+abbrev pub came_by : Option Stop → Option Reply → Came
+came_by (Some stop) answer = came.Crashed
+came_by None None = came.Faulted
+came_by None (Some reply) = came.Answered reply
+
+-- of the host at the place
+abbrev pub came_at : Scene → ℕ → ℕ → Input → Came
+came_at b place clock i = came_by (stop_at (as_read b) place) (answered (seat_at b place) clock i)
+
+abbrev pub is_answered : Came → Bool
+is_answered came.Crashed = false
+is_answered came.Faulted = false
+is_answered (came.Answered reply) = true
+
 -- ---- numbers of messages
 -- those of the world and those of the script alone are numbered together
 abbrev pub count_sent : Scene → ℕ
@@ -88,7 +117,7 @@ is_broken b n = list_any (λ k. k == n) b.broken
 
 -- the place of the message of a number among those of the world
 abbrev pub letter_number : Scene → ℕ → ℕ
-letter_number b n = n - length (filter (λ k. nat_lt k n) b.broken)
+letter_number b n = n - count_by (λ k. nat_lt k n) b.broken
 
 abbrev pub was_sent : Scene → ℕ → Bool
 was_sent b n = nat_le 1 n && nat_le n (count_sent b)
@@ -220,11 +249,8 @@ scene_stepped hosts b move step = record {
   unheard = b.unheard ++ lost_answer (fault_of b step) (brings_order (as_read b) move) (count_sent b + 1);
 }
 
-abbrev pub play_stepped : List ScriptHost → Play → Move → Step → Play
-play_stepped hosts p move step = record {
-  worlds = worlds_by hosts p (step_fork (seat_at p.scene step.place) step move (fault_of p.scene step));
-  scene = scene_stepped hosts p.scene move step;
-}
+abbrev pub worlds_stepped : List ScriptHost → Play → Move → Step → Turns → World
+worlds_stepped hosts p move step = worlds_by hosts p (step_fork (seat_at p.scene step.place) step move (fault_of p.scene step))
 
 -- ---- a step that is to stop
 -- how what is loose turns out in an image
@@ -272,13 +298,14 @@ worlds_crashed hosts p step stop =
     then worlds_by hosts (play_unanswered hosts p step) (reopen_fork (stepped (seat_at p.scene step.place) step.clock step.asked) step stop.image)
     else worlds_by hosts p (stop_fork (seat_at p.scene step.place) step stop)
 
-abbrev pub play_crashed : List ScriptHost → Play → Step → Stop → Play
-play_crashed hosts p step stop = record { worlds = worlds_crashed hosts p step stop; scene = scene_crashed p.scene step stop }
-
 -- ---- moves
-abbrev pub play_step : List ScriptHost → Play → Move → Step → Option Stop → Play
-play_step hosts p move step None = play_stepped hosts p move step
-play_step hosts p move step (Some stop) = play_crashed hosts p step stop
+abbrev pub scene_step : List ScriptHost → Scene → Move → Step → Option Stop → Scene
+scene_step hosts b move step None = scene_stepped hosts b move step
+scene_step hosts b move step (Some stop) = scene_crashed b step stop
+
+abbrev pub worlds_step : List ScriptHost → Play → Move → Step → Option Stop → Turns → World
+worlds_step hosts p move step None = worlds_stepped hosts p move step
+worlds_step hosts p move step (Some stop) = worlds_crashed hosts p step stop
 
 -- moves that make no step
 abbrev pub scene_rested : Scene → Move → Scene
@@ -288,9 +315,13 @@ scene_rested b (Move.Lost n) = record b { flying = landed n b.flying }
 scene_rested b (Move.Arms place stop) = record b { stops = stops_after (as_read b) (Move.Arms place stop) }
 scene_rested b _ = b
 
-abbrev pub play_by : List ScriptHost → Play → Move → Option Step → Play
-play_by hosts p move None = record { worlds = worlds_by hosts p (plainly move); scene = scene_rested p.scene move }
-play_by hosts p move (Some step) = play_step hosts p move step (stop_at (as_read p.scene) step.place)
+abbrev pub scene_by : List ScriptHost → Scene → Move → Option Step → Scene
+scene_by hosts b move None = scene_rested b move
+scene_by hosts b move (Some step) = scene_step hosts b move step (stop_at (as_read b) step.place)
+
+abbrev pub worlds_move : List ScriptHost → Play → Move → Option Step → Turns → World
+worlds_move hosts p move None = worlds_by hosts p (plainly move)
+worlds_move hosts p move (Some step) = worlds_step hosts p move step (stop_at (as_read p.scene) step.place)
 
 -- what a line does
 pub data Deed : Type 0 where
@@ -299,18 +330,30 @@ pub data Deed : Type 0 where
   Fails : (place call : ℕ) → Deed
   -- an answer that a fault took the place of comes, or is lost
   Hears : (number : ℕ) → Deed
+  -- a host of which no call is to fail is opened again under its configuration, as after a crash between its steps
+  Reopens : (place clock : ℕ) → Deed
 
-abbrev pub play_deed : List ScriptHost → Play → Deed → Play
-play_deed hosts p (Does move) = play_by hosts p move (step_of hosts (as_read p.scene) move)
-play_deed hosts p (Fails place call) = record p { scene = record p.scene { seats = set p.scene.seats place (armed_at (seat_at p.scene place) call) } }
-play_deed hosts p (Hears n) = record p { scene = record p.scene { unheard = landed n p.scene.unheard } }
+abbrev pub scene_deed : List ScriptHost → Scene → Deed → Scene
+scene_deed hosts b (Does move) = scene_by hosts b move (step_of hosts (as_read b) move)
+scene_deed hosts b (Fails place call) = record b { seats = set b.seats place (armed_at (seat_at b place) call) }
+scene_deed hosts b (Hears n) = record b { unheard = landed n b.unheard }
+scene_deed hosts b (Reopens place clock) = record b { seats = set b.seats place (done (seat_at b place) clock input.Open) }
+
+abbrev pub worlds_deed : List ScriptHost → Play → Deed → Turns → World
+worlds_deed hosts p (Does move) = worlds_move hosts p move (step_of hosts (as_read p.scene) move)
+worlds_deed hosts p (Fails place call) = p.worlds
+worlds_deed hosts p (Hears n) = p.worlds
+worlds_deed hosts p (Reopens place clock) = worlds_by hosts p (surely place (Move.Reopens place clock))
 
 -- at a moment
-abbrev pub at_last : ℕ → Play → Play
-at_last m p = record p { scene = record p.scene { last = max p.scene.last m } }
+abbrev pub at_last : ℕ → Scene → Scene
+at_last m b = record b { last = max b.last m }
+
+abbrev pub scene_played : List ScriptHost → Scene → ℕ → Deed → Scene
+scene_played hosts b m deed = at_last m (scene_deed hosts b deed)
 
 abbrev pub played : List ScriptHost → Play → ℕ → Deed → Play
-played hosts p m deed = at_last m (play_deed hosts p deed)
+played hosts p m deed = record { worlds = worlds_deed hosts p deed; scene = scene_played hosts p.scene m deed }
 
 -- ---- the first one
 abbrev pub first_scene : List ScriptHost → Scene
@@ -321,39 +364,85 @@ abbrev pub first_play : List ScriptHost → Play
 first_play hosts = record { worlds = λ turns. first_world hosts; scene = first_scene hosts }
 
 -- ---- lines
+-- the first archive that is due is tried
+abbrev pub try_at : Outcomes → Scene → ℕ → ℕ → Deed
+try_at comes b place clock = Does (trying comes place clock (attempt (book_of b place) clock))
+
 abbrev pub unless_broken : Scene → ℕ → Deed → Deed → Deed
 unless_broken b n other deed = if is_broken b n then other else deed
 
 abbrev pub deed_of : Outcomes → Scene → ScriptLine → Deed
+deed_of comes b (line.Host place) = Does Move.Rests
+deed_of comes b (line.Tools host tools) = Does (Move.Retools host tools)
+deed_of comes b (line.Limits host limits) = Does (Move.Asks host b.last (input.Limits limits))
+deed_of comes b (line.Book at host class priority start len) = Does (Move.Asks host at (input.Book class priority start len))
+deed_of comes b (line.Post at host address body) = Does (asking host at (post (config_of b host) address body at))
+deed_of comes b (line.Get at host path) = Does (asking host at (get (config_of b host) path at))
+deed_of comes b (line.Delete at host address path) = Does (asking host at (delete (config_of b host) address path at))
+deed_of comes b (line.Turn at host) = Does (Move.Turns host at)
+deed_of comes b (line.Archive at host) = try_at comes b host at
+deed_of comes b (line.Crash at host stop) = Does (Move.Arms host stop)
+deed_of comes b (line.Fail at host call) = Fails host call
 deed_of comes b (line.Deliver at n) = if flies b n then unless_broken b n (Hears n) (Does (Move.Arrives (letter_number b n) at)) else Does Move.Rests
 deed_of comes b (line.Repeat at n) = if has_come b n then unless_broken b n (Does Move.Rests) (Does (Move.Arrives (letter_number b n) at)) else Does Move.Rests
 deed_of comes b (line.Lose n) = if flies b n then unless_broken b n (Hears n) (Does (Move.Lost (letter_number b n))) else Does Move.Rests
-deed_of comes b l = Does (move_of comes (as_read b) l)
 
 -- somebody looks at the first page of a host
 abbrev pub looking : ℕ → ℕ → Move
 looking place clock = Move.Asks place clock (input.View page.Home)
 
--- whether such a step is answered
-abbrev pub is_answered : Option Stop → Option ℕ → Bool
-is_answered None None = true
-is_answered stop fault = false
-
 abbrev pub looks : Scene → ℕ → ℕ → Bool
-looks b place clock = is_answered (stop_at (as_read b) place) (fault_in (seat_at b place) clock (input.View page.Home))
+looks b place clock = is_answered (came_at b place clock (input.View page.Home))
 
 -- After a fault a host that is to try an archive first finds out what stands.
+abbrev pub look_at : ℕ → ℕ → Deed
+look_at place clock = Does (looking place clock)
+
+abbrev pub scene_tried : Outcomes → List ScriptHost → Scene → ℕ → ℕ → Scene
+scene_tried comes hosts b place clock = scene_played hosts b clock (try_at comes b place clock)
+
+abbrev pub scene_looked : List ScriptHost → Scene → ℕ → ℕ → Scene
+scene_looked hosts b place clock = scene_played hosts b clock (look_at place clock)
+
+abbrev pub scene_archived : Outcomes → List ScriptHost → Scene → ℕ → ℕ → Scene
+scene_archived comes hosts b place clock =
+    if (seat_at b place).ready then scene_tried comes hosts b place clock
+    else (if looks b place clock then scene_tried comes hosts (scene_looked hosts b place clock) place clock else scene_looked hosts b place clock)
+
 abbrev pub tried : Outcomes → List ScriptHost → Play → ℕ → ℕ → Play
-tried comes hosts p place clock = played hosts p clock (Does (trying comes place clock (attempt (as_read p.scene) place clock)))
+tried comes hosts p place clock = played hosts p clock (try_at comes p.scene place clock)
 
 abbrev pub looked : List ScriptHost → Play → ℕ → ℕ → Play
-looked hosts p place clock = played hosts p clock (Does (looking place clock))
+looked hosts p place clock = played hosts p clock (look_at place clock)
 
-abbrev pub archived : Outcomes → List ScriptHost → Play → ℕ → ℕ → Play
-archived comes hosts p place clock =
-    if (seat_at p.scene place).ready then tried comes hosts p place clock
-    else (if looks p.scene place clock then tried comes hosts (looked hosts p place clock) place clock else looked hosts p place clock)
+abbrev pub worlds_archived : Outcomes → List ScriptHost → Play → ℕ → ℕ → Turns → World
+worlds_archived comes hosts p place clock =
+    if (seat_at p.scene place).ready then (tried comes hosts p place clock).worlds
+    else (if looks p.scene place clock then (tried comes hosts (looked hosts p place clock) place clock).worlds else (looked hosts p place clock).worlds)
+
+abbrev pub scene_line : Outcomes → List ScriptHost → Scene → ScriptLine → Scene
+scene_line comes hosts b (line.Archive at host) = scene_archived comes hosts b host at
+scene_line comes hosts b l = scene_played hosts b (moment_of_line l) (deed_of comes b l)
+
+abbrev pub worlds_line : Outcomes → List ScriptHost → Play → ScriptLine → Turns → World
+worlds_line comes hosts p (line.Archive at host) = worlds_archived comes hosts p host at
+worlds_line comes hosts p l = worlds_deed hosts p (deed_of comes p.scene l)
 
 abbrev pub play_line : Outcomes → List ScriptHost → Play → ScriptLine → Play
-play_line comes hosts p (line.Archive at host) = archived comes hosts p host at
-play_line comes hosts p l = played hosts p (moment_of_line l) (deed_of comes p.scene l)
+play_line comes hosts p l = record { worlds = worlds_line comes hosts p l; scene = scene_line comes hosts p.scene l }
+
+-- ---- all of them
+abbrev pub scene_lines : Outcomes → List ScriptHost → Scene → List Numbered → Scene
+scene_lines comes hosts b [] = b
+scene_lines comes hosts b (l ∷ ls) = scene_lines comes hosts (scene_line comes hosts b l.line) ls
+
+abbrev pub play_lines : Outcomes → List ScriptHost → Play → List Numbered → Play
+play_lines comes hosts p [] = p
+play_lines comes hosts p (l ∷ ls) = play_lines comes hosts (play_line comes hosts p l.line) ls
+
+abbrev pub last_scene : Outcomes → Script → Scene
+last_scene comes script = scene_lines comes script.hosts (first_scene script.hosts) script.lines
+
+-- the world of a script, as what is loose in the end turns out
+abbrev pub world_of : Outcomes → Script → Turns → World
+world_of comes script = (play_lines comes script.hosts (first_play script.hosts) script.lines).worlds

@@ -10,25 +10,12 @@ ghost use Rattle.psched_script.specs.declared.script.ScriptLine.{ScriptLine};
 ghost use Rattle.psched_world.specs.Events.{brings};
 ghost use Rattle.psched_world.specs.Laws.{Safe};
 ghost use Rattle.psched_world.specs.World.{Letter};
-ghost use Rattle.rehearsal_model.specs.After.{first_seen, seen_after};
-ghost use Rattle.rehearsal_model.specs.Moves.{Outcomes, move_of, receiver, reply_to};
-ghost use Rattle.rehearsal_model.specs.Reaching.{IsKnown, IsScriptPeer, MayMove, Reaches};
-ghost use Rattle.rehearsal_model.specs.Plays.{IsPlay, MayPlay};
+ghost use Rattle.rehearsal_model.specs.Moves.{Outcomes, receiver, reply_to};
+ghost use Rattle.rehearsal_model.specs.Reaching.{IsKnown, IsScriptPeer, Reaches};
+ghost use Rattle.rehearsal_model.specs.Plays.{IsPlay, MayLine};
 ghost use Rattle.rehearsal_model.specs.Scenes.{Play, Turns, first_play, play_line};
-ghost use Rattle.rehearsal_model.specs.Rehearsal.{Show, after, first_show, seen};
+ghost use Rattle.rehearsal_model.specs.Rehearsal.{Show, seen};
 ghost use Rattle.rehearsal_model.specs.Seen.{config_at, is_sent, message};
-
-/// A law: the hosts of a script, once they are opened, are a world, and are seen as stated.
-pub fn law_first()
-    ensures reaches { (hosts : List ScriptHost) → AreLawfulHosts hosts → Reaches hosts (first_show hosts) }
-    ensures seen { (hosts : List ScriptHost) → AreLawfulHosts hosts → seen hosts (first_show hosts) ≡ first_seen hosts }
-{}
-
-/// A law: a line leads to a world, and what is seen then is what is seen before with the line's move.
-pub fn law_line()
-    ensures reaches { (comes : Outcomes) (hosts : List ScriptHost) (s : Show) (line : ScriptLine) → AreLawfulHosts hosts → Reaches hosts s → IsLawfulLine (length hosts) line → MayMove (seen hosts s) (move_of comes (seen hosts s) line) → Reaches hosts (after comes hosts s line) }
-    ensures seen { (comes : Outcomes) (hosts : List ScriptHost) (s : Show) (line : ScriptLine) → AreLawfulHosts hosts → Reaches hosts s → IsLawfulLine (length hosts) line → seen hosts (after comes hosts s line) ≡ seen_after comes hosts (seen hosts s) line }
-{}
 
 /// A law: each host has a configuration that a host may have, and its peers are those that hosts of a script know.
 pub fn law_config()
@@ -50,14 +37,9 @@ pub fn law_replied()
         → HasWidths (reply_to hosts (seen hosts s) clock l) → IsReplyTo l.order.body (reply_to hosts (seen hosts s) clock l) }
 {}
 
-/// A law: all that a rehearsal comes to is safe.
-pub fn law_rehearsed()
-    ensures { (hosts : List ScriptHost) (s : Show) → AreLawfulHosts hosts → Reaches hosts s → Safe s.world }
-{}
-
-/// A law: where calls of disks may fail, a rehearsal goes on with each line, and is safe, whichever way it turns out what a fault left.
+/// A law: a rehearsal goes on with each line, and is safe, whichever way it turns out what faults of disks left.
 pub fn law_played()
     ensures first { (hosts : List ScriptHost) → AreLawfulHosts hosts → IsPlay hosts (first_play hosts) }
-    ensures line { (comes : Outcomes) (hosts : List ScriptHost) (p : Play) (line : ScriptLine) → AreLawfulHosts hosts → IsPlay hosts p → IsLawfulLine (length hosts) line → MayPlay comes hosts p line → IsPlay hosts (play_line comes hosts p line) }
+    ensures line { (comes : Outcomes) (hosts : List ScriptHost) (p : Play) (line : ScriptLine) → AreLawfulHosts hosts → IsPlay hosts p → IsLawfulLine (length hosts) line → MayLine comes hosts p.scene line → IsPlay hosts (play_line comes hosts p line) }
     ensures safe { (hosts : List ScriptHost) (p : Play) (turns : Turns) → AreLawfulHosts hosts → IsPlay hosts p → Safe (p.worlds turns) }
 {}

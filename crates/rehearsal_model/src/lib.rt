@@ -1,4 +1,5 @@
 //! What a rehearsal of a script is: its world, and its report.
 #![tactic(auto)]
 
+pub mod came;
 pub mod law;

@@ -7,7 +7,7 @@ use Rattle.psched_script.specs.declared.script.ScriptHost.{ScriptHost}
 use Rattle.psched_world.specs.World.{Letter}
 use Rattle.report_text.specs.Line.{line_text}
 use Rattle.rehearsal_model.specs.Rehearsal.{letters_told}
-use Rattle.rehearsal_model.specs.Seen.{Seen}
+use Rattle.rehearsal_model.specs.Scenes.{Scene, count_sent}
 
 pub line_joined : (old said more : List ℕ) (line : ℕ)
     → ((old ++ (decimal line ++ codes " " ++ said)) ++ more) ++ codes "\n" ≡ old ++ line_text line (said ++ more)
@@ -16,16 +16,26 @@ line_joined old said more line =
     ap (λ x. x ++ codes "\n") (append_assoc old (front ++ said) more ∙ ap (λ x. old ++ x) (append_assoc front said more))
     ∙ append_assoc old (front ++ (said ++ more)) (codes "\n")
 
--- a line that tells of messages: those that were sent after `before`
-pub told_as : (hosts : List ScriptHost) (b : Seen) (line : ℕ) (old said begun new : List ℕ) (before after sent : List Letter)
-    → before ≡ b.letters → after ≡ b.letters ++ sent → begun ≡ old ++ (decimal line ++ codes " " ++ said)
-    → new ≡ begun ++ letters_told hosts (length before + 1) (drop (length before) after) ++ codes "\n"
-    → new ≡ old ++ line_text line (said ++ letters_told hosts (length b.letters + 1) sent)
-told_as hosts b line old said begun new before after sent before_is after_is begun_is new_is =
+-- one that tells of one message
+pub one_told : (old said begun told sent next new : List ℕ) (line : ℕ) → begun ≡ old ++ (decimal line ++ codes " " ++ said) → next ≡ begun ++ told → told ≡ sent → new ≡ next ++ codes "\n" → new ≡ old ++ line_text line (said ++ sent)
+one_told old said begun told sent next new line begun_is next_is told_is new_is =
+    new_is
+    ∙ (ap (λ (x : List ℕ). x ++ codes "\n") next_is
+    ∙ (ap (λ (x : List ℕ). (x ++ told) ++ codes "\n") begun_is
+    ∙ (ap (λ (x : List ℕ). ((old ++ (decimal line ++ codes " " ++ said)) ++ x) ++ codes "\n") told_is
+    ∙ line_joined old said sent line)))
+
+-- one that tells of messages: those that were sent after `before`, when so many numbers besides were given
+pub told_as : (hosts : List ScriptHost) (b : Scene) (line besides : ℕ) (old said begun new : List ℕ) (before after sent : List Letter)
+    → before ≡ b.letters → besides ≡ length b.broken → after ≡ b.letters ++ sent → begun ≡ old ++ (decimal line ++ codes " " ++ said)
+    → new ≡ begun ++ letters_told hosts (length before + besides + 1) (drop (length before) after) ++ codes "\n"
+    → new ≡ old ++ line_text line (said ++ letters_told hosts (count_sent b + 1) sent)
+told_as hosts b line besides old said begun new before after sent before_is besides_is after_is begun_is new_is =
     let front : List ℕ = old ++ (decimal line ++ codes " " ++ said) in
     new_is
-    ∙ (ap (λ (x : List ℕ). (x ++ letters_told hosts (length before + 1) (drop (length before) after)) ++ codes "\n") begun_is
-    ∙ (ap (λ (x : List Letter). (front ++ letters_told hosts (length x + 1) (drop (length x) after)) ++ codes "\n") before_is
-    ∙ (ap (λ (x : List Letter). (front ++ letters_told hosts (length b.letters + 1) (drop (length b.letters) x)) ++ codes "\n") after_is
-    ∙ (ap (λ (x : List Letter). (front ++ letters_told hosts (length b.letters + 1) x) ++ codes "\n") (drop-append_seam b.letters sent)
-    ∙ line_joined old said (letters_told hosts (length b.letters + 1) sent) line))))
+    ∙ (ap (λ (x : List ℕ). (x ++ letters_told hosts (length before + besides + 1) (drop (length before) after)) ++ codes "\n") begun_is
+    ∙ (ap (λ (x : List Letter). (front ++ letters_told hosts (length x + besides + 1) (drop (length x) after)) ++ codes "\n") before_is
+    ∙ (ap (λ (n : ℕ). (front ++ letters_told hosts (length b.letters + n + 1) (drop (length b.letters) after)) ++ codes "\n") besides_is
+    ∙ (ap (λ (x : List Letter). (front ++ letters_told hosts (count_sent b + 1) (drop (length b.letters) x)) ++ codes "\n") after_is
+    ∙ (ap (λ (x : List Letter). (front ++ letters_told hosts (count_sent b + 1) x) ++ codes "\n") (drop-append_seam b.letters sent)
+    ∙ line_joined old said (letters_told hosts (count_sent b + 1) sent) line)))))

@@ -1,5 +1,5 @@
 pub mod Archiving
+pub mod Arriving
 pub mod Playing
 pub use Rattle.rehearsal_state.specs.Kept
-pub use Rattle.rehearsal_state.specs.Moved
 pub use Rattle.rehearsal_state.specs.Ready

@@ -1,6 +1,5 @@
 //! A host of a rehearsal tries an archive that is due.
-ghost use Rattle.std.specs.Prelude.{◌≡◌, ◌≢◌, ◌++◌, IfOk, IfSome, List, OnOk, option_and_then, slice_get};
-ghost use Rattle.host_model.specs.Archives.{attempt_of, due as all_due};
+ghost use Rattle.std.specs.Prelude.{◌≡◌, ◌≢◌, ◌++◌, IfOk, IfSome, List, OnOk, true};
 ghost use Rattle.host_model.specs.Conditions.{IsInput};
 ghost use Rattle.host_model.specs.declared.config.Config.{Config};
 ghost use Rattle.psched_script.specs.declared.script.ScriptHost.{ScriptHost};
@@ -8,24 +7,25 @@ ghost use Rattle.psched_script.specs.declared.script.ScriptLine.TheVariants.{Arc
 ghost use Rattle.ps_doors.specs.Archiver.{HasLength};
 ghost use Rattle.ps_doors.specs.declared.archiver.Tried.TheVariants.{Memory as NoMemory};
 ghost use Rattle.report_text.specs.Line.{archive_text, line_text};
-ghost use Rattle.rehearsal_model.specs.Moves.{Move.Tries, attempt, crash_of, move_of, stopped, tried_as};
-ghost use Rattle.rehearsal_model.specs.Reaching.{MayMove};
-ghost use Rattle.rehearsal_model.specs.Rehearsal.{told, told_unless};
-ghost use Rattle.rehearsal_model.specs.Seen.{config_at, reply_at};
-ghost use Rattle.rehearsal_state.specs.Moved.{with_move, with_step};
+ghost use Rattle.rehearsal_model.specs.Moves.{Move.Tries, attempt, tried_as};
+ghost use Rattle.rehearsal_model.specs.Plays.{MayArchive, MayTry};
+ghost use Rattle.rehearsal_model.specs.Scenes.{Deed.Does, at_last, book_of, came_at, config_of, scene_archived, scene_deed, seat_at, try_at};
+ghost use Rattle.rehearsal_model.specs.Telling.{archive_said, came_said, disk_fault, tried_said};
 ghost use Rattle.rehearsal_state.specs.Ready.{IsReady};
 ghost use Rattle.rehearsal_moves.specs.Archiving.{told_of, tried_by};
 
-use crate::stopped::{StoppedStep, crash};
+use crate::ask::{CRASHED, DISK_FAULT};
 use archivers::by_name::Archivers;
 use host_model::input::Input;
 use host_model::lead::Due;
+use host_model::view::Page;
 use ps_doors::archiver::Tried;
 use ps_time::memory::Memory;
 use ps_time::moment::Moment;
 use rehearsal_state::archives::first_due;
 use rehearsal_state::attempt::attempt_of;
 use rehearsal_state::book::HostBook;
+use rehearsal_state::came::Came;
 use rehearsal_state::rehearsal::Rehearsal;
 use report_text::line::{add_archive, add_said};
 use report_text::report::ReportText;
@@ -33,7 +33,7 @@ use std::alloc::Global;
 
 /// The attempt at the first archive that is due, if one is.
 fn first_attempt(alloc: Global, book: &HostBook, clock: Moment) -> Result<Option<Due>, Memory>
-    ensures { IfOk result (λ made. made ≡ option_and_then (λ pair. attempt_of book.now.book pair.0 pair.1) (slice_get (all_due book.now.book clock) 0)) }
+    ensures { IfOk result (λ made. made ≡ attempt book.now.book clock) }
 {
     match first_due(book, clock) {
         Some((key, index)) => attempt_of(alloc, book, key, index),
@@ -83,8 +83,9 @@ fn make_first<A: Archivers>(
     place: usize,
     clock: Moment,
 ) -> Result<Option<Input>, Memory>
-    requires { IsReady now.now place clock }
-    ensures told { IfOk result (λ o. o ≡ tried_by (A.comes archivers.old) (attempt now.now place clock)) }
+    requires ready { IsReady now.now place clock }
+    requires sure { (seat_at now.now place).ready ≡ true }
+    ensures told { IfOk result (λ o. o ≡ tried_by (A.comes archivers.old) (attempt (book_of now.now place) clock)) }
     ensures input { (config : Config) → IfOk result (λ o. IfSome o (IsInput config)) }
     ensures stays { A.comes archivers.new ≡ A.comes archivers.old }
 {
@@ -98,7 +99,7 @@ fn make_first<A: Archivers>(
     }
 }
 
-/// A host is told of an attempt, and how far the archive has come is reported.
+/// A host is told of an attempt, and what comes of that is reported.
 fn tell(
     alloc: Global,
     now: &mut Rehearsal,
@@ -109,48 +110,46 @@ fn tell(
     report: &mut ReportText,
 ) -> Result<(), Memory>
     requires ready { IsReady now.old place clock }
-    requires input { IsInput (config_at now.old place) input }
-    ensures report { OnOk result (report.new ≡ report.old ++ line_text line (archive_text (reply_at now.old place clock input))) }
-    ensures seen { OnOk result (now.new ≡ with_step now.old place clock input) }
+    requires input { IsInput (config_of now.old place) input }
+    ensures report { OnOk result (report.new ≡ report.old ++ line_text line (came_said (came_at now.old place clock input) disk_fault archive_text)) }
+    ensures scene { (hosts : List ScriptHost) → OnOk result (now.new ≡ scene_deed hosts now.old (Does (Tries place clock input))) }
 {
-    let reply = now.ask(alloc, place, clock, input)?;
-    let added = add_archive(report, line, &reply);
-    drop(reply);
-    added
+    match now.step(alloc, place, clock, input)? {
+        Came::Answered(reply) => {
+            let added = add_archive(report, line, &reply);
+            drop(reply);
+            added
+        }
+        Came::Faulted => add_said(report, line, DISK_FAULT),
+        Came::Crashed => add_said(report, line, CRASHED),
+    }
 }
 
-/// A host is told of an attempt, unless its step is to stop.
-fn tell_or_crash(
+// A host that knows what stands makes the first attempt at an archive that is due.
+fn try_first<A: Archivers>(
     alloc: Global,
+    archivers: &mut A,
     now: &mut Rehearsal,
     place: usize,
     clock: Moment,
-    input: Input,
     line: u64,
     report: &mut ReportText,
 ) -> Result<(), Memory>
     requires ready { IsReady now.old place clock }
-    requires input { IsInput (config_at now.old place) input }
-    ensures report { (hosts : List ScriptHost) → OnOk result (report.new ≡ report.old ++ line_text line (told_unless (crash_of hosts now.old (Tries place clock input)) (archive_text (reply_at now.old place clock input)))) }
-    ensures seen { (hosts : List ScriptHost) → OnOk result (now.new ≡ with_move hosts now.old (stopped hosts now.old (Tries place clock input))) }
+    requires sure { (seat_at now.old place).ready ≡ true }
+    ensures report { OnOk result (report.new ≡ report.old ++ line_text line (tried_said (A.comes archivers.old) now.old place clock)) }
+    ensures scene { (hosts : List ScriptHost) → OnOk result (now.new ≡ scene_deed hosts now.old (try_at (A.comes archivers.old) now.old place clock)) }
+    ensures may { OnOk result (MayTry (A.comes archivers.old) now.old place clock) }
+    ensures stays { A.comes archivers.new ≡ A.comes archivers.old }
 {
-    match now.stop(place) {
-        Some(stop) => {
-            let step = StoppedStep {
-                place,
-                clock,
-                input,
-                landing: None,
-                stop,
-            };
-            crash(alloc, now, step, line, report)
-        }
-        None => tell(alloc, now, place, clock, input, line, report),
+    match make_first(alloc, archivers, now, place, clock)? {
+        Some(input) => tell(alloc, now, place, clock, input, line, report),
+        None => add_said(report, line, "nothing due"),
     }
 }
 
-/// The host at a place makes the first attempt at an archive that is due at a clock, in seconds since 1970 UTC, once. Its step stops,
-/// where it is to, or how far the archive has come is reported.
+/// The host at a place makes the first attempt at an archive that is due at a clock, in seconds since 1970 UTC, once, and what comes of
+/// that is reported. After a fault of a disk it first finds out what stands, by looking at its first page.
 pub fn archive<A: Archivers>(
     alloc: Global,
     archivers: &mut A,
@@ -161,13 +160,22 @@ pub fn archive<A: Archivers>(
     report: &mut ReportText,
 ) -> Result<(), Memory>
     requires { IsReady now.old place clock }
-    ensures report { (hosts : List ScriptHost) → OnOk result (report.new ≡ report.old ++ line_text line (told (A.comes archivers.old) hosts now.old (Archive clock place))) }
-    ensures seen { (hosts : List ScriptHost) → OnOk result (now.new ≡ with_move hosts now.old (stopped hosts now.old (move_of (A.comes archivers.old) now.old (Archive clock place)))) }
-    ensures may { OnOk result (MayMove now.old (move_of (A.comes archivers.old) now.old (Archive clock place))) }
+    ensures report { (hosts : List ScriptHost) → OnOk result (report.new ≡ report.old ++ line_text line (archive_said (A.comes archivers.old) hosts now.old place clock)) }
+    ensures scene { (hosts : List ScriptHost) → OnOk result (at_last clock now.new ≡ scene_archived (A.comes archivers.old) hosts now.old place clock) }
+    ensures may { (hosts : List ScriptHost) → OnOk result (MayArchive (A.comes archivers.old) hosts now.old place clock) }
     ensures stays { A.comes archivers.new ≡ A.comes archivers.old }
 {
-    match make_first(alloc, archivers, now, place, clock)? {
-        Some(input) => tell_or_crash(alloc, now, place, clock, input, line, report),
-        None => add_said(report, line, "nothing due"),
+    if now.seat(place).is_ready() {
+        return try_first(alloc, archivers, now, place, clock, line, report);
+    }
+    match now.step(alloc, place, clock, Input::View(Page::Home))? {
+        Came::Answered(reply) => {
+            drop(reply);
+            let _ = now.seat(place).book().rows();
+            now.advance(clock);
+            try_first(alloc, archivers, now, place, clock, line, report)
+        }
+        Came::Faulted => add_said(report, line, DISK_FAULT),
+        Came::Crashed => add_said(report, line, CRASHED),
     }
 }

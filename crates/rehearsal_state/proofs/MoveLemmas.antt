@@ -1,30 +1,36 @@
 -- What the parts of a move make of what is seen.
-use Rattle.std.proofs.Common.{◌≡◌, ◌+◌, ◌++◌, ◌<◌, ◌∷◌, ◌∙◌, Bool, List, None, Option, Some, [], ap, append_assoc, false, length, refl, sym, true, ℕ}
+use Rattle.std.specs.Prelude.{set}
+use Rattle.std.proofs.Common.{◌≡◌, ◌+◌, ◌-◌, ◌++◌, ◌<◌, ◌∷◌, ◌∙◌, Bool, List, None, Option, Some, [], ap, append_assoc, false, length, refl, subst, sym, true, ℕ}
 use Rattle.std.proofs.lemmas.Grind.{get_or-set_at}
-use Rattle.std.proofs.lemmas.List.{append-nil, length-append}
+use Rattle.std.proofs.lemmas.List.{append-nil, length-append, length-set}
+use Rattle.host_model.specs.Step.{step_reply}
 use Rattle.host_model.specs.declared.config.Config.{Config}
 use Rattle.host_model.specs.declared.input.Input.{Input}
 use Rattle.host_model.specs.declared.input.Input.TheVariants.{Turn}
 use Rattle.host_model.specs.declared.order.Order.{Order}
 use Rattle.host_model.specs.declared.reply.Reply.{Reply}
-use Rattle.psched_world.specs.Events.{brings}
-use Rattle.psched_world.specs.World.{Letter}
+use Rattle.machine_seat.specs.Held.{Held}
+use Rattle.psched_world.specs.Events.{Cause, brings}
+use Rattle.psched_world.specs.World.{Letter, Stage}
 use Rattle.psched_script.specs.declared.script.ScriptHost.{ScriptHost}
 use Rattle.psched_script.specs.declared.script.Stop.{Stop}
-use Rattle.rehearsal_model.specs.After.{arrived_at}
-use Rattle.rehearsal_model.specs.Moves.{Crash, Move.Arms, Move.Arrives, Move.Asks, Move.Crashes, Move.Lost, Move.Rests, Move.Retools, Move.Tries, Move.Turns, is_untold, landed_with as flying_with, letter_of, numbers_from, receiver, replied, replies, reply_to, sent_by}
-use Rattle.rehearsal_model.specs.Seen.{Seen, acted, landed, message, nobody, stage_at}
-use Rattle.rehearsal_state.specs.Moved.{sent_of, with_crash, with_letters, with_move, with_step, with_stop, with_tools}
+use Rattle.rehearsal_model.specs.Moves.{Move, flying_after, is_untold, joining, letter_of, numbers_from, receiver, replied, replies, sent_by}
+use Rattle.rehearsal_model.specs.Scenes.{Deed.Does, Scene, Step, as_read, brings_order, came_at, came_by, config_of, count_sent, fault_of, flying_then, is_order, is_unanswered, kept_all, lost_answer, nobody_seat, scene_by, scene_crashed, scene_deed, scene_step, seat_at, step_by, unless_fault}
+use Rattle.rehearsal_model.specs.Seats.{answered, done, fault_in, reply_unless, stepped, stepped_by}
+use Rattle.rehearsal_model.specs.Seen.{Seen, acted, landed, message, stage_at, stop_at}
+use Rattle.rehearsal_model.specs.declared.came.Came.TheVariants as came
+use Rattle.rehearsal_model.proofs.SceneLemmas.{stage_chosen}
+use Rattle.rehearsal_state.specs.Moved.{sent_of, with_act, with_broken, with_either, with_letters, with_step}
 
 -- ---- letters
-abbrev made : Seen → List Letter → List ℕ → Seen
+abbrev made : Scene → List Letter → List ℕ → Scene
 made b letters flying = record b { letters = letters; flying = flying }
 
-pub letters_none : (b : Seen) → with_letters b [] ≡ b
+pub letters_none : (b : Scene) → with_letters b [] ≡ b
 letters_none b = ap (λ ls. made b ls (b.flying ++ [])) (append-nil b.letters) ∙ ap (λ ns. made b b.letters ns) (append-nil b.flying)
 
 -- the first one, and then the others
-pub letters_more : (b : Seen) (m : Letter) (rest : List Letter) → with_letters b (m ∷ rest) ≡ with_letters (with_letters b (m ∷ [])) rest
+pub letters_more : (b : Scene) (m : Letter) (rest : List Letter) → with_letters b (m ∷ rest) ≡ with_letters (with_letters b (m ∷ [])) rest
 letters_more b m rest =
     let sent : List Letter = b.letters ++ m ∷ [] in
     let first : ℕ = length b.letters + 1 in
@@ -32,38 +38,6 @@ letters_more b m rest =
     let flown : b.flying ++ numbers_from first (m ∷ rest) ≡ (b.flying ++ first ∷ []) ++ numbers_from (length sent + 1) rest =
     sym (append_assoc b.flying (first ∷ []) (numbers_from (first + 1) rest)) ∙ ap (λ n. (b.flying ++ first ∷ []) ++ numbers_from (n + 1) rest) (sym count) in
     ap (λ ls. made b ls (b.flying ++ numbers_from first (m ∷ rest))) (sym (append_assoc b.letters (m ∷ []) rest)) ∙ ap (made b (sent ++ rest)) flown
-
--- ---- moves without letters
-pub rested : (hosts : List ScriptHost) (b : Seen) → b ≡ with_move hosts b Rests
-rested hosts b = sym (letters_none b)
-
-pub asked : (hosts : List ScriptHost) (b : Seen) (place clock : ℕ) (i : Input) → with_step b place clock i ≡ with_move hosts b (Asks place clock i)
-asked hosts b place clock i = sym (letters_none (with_step b place clock i))
-
-pub tried : (hosts : List ScriptHost) (b : Seen) (place clock : ℕ) (i : Input) → with_step b place clock i ≡ with_move hosts b (Tries place clock i)
-tried hosts b place clock i = sym (letters_none (with_step b place clock i))
-
-pub retooled : (hosts : List ScriptHost) (b : Seen) (place : ℕ) (tools : List (List ℕ)) → with_tools b place tools ≡ with_move hosts b (Retools place tools)
-retooled hosts b place tools = sym (letters_none (with_tools b place tools))
-
-pub lost : (hosts : List ScriptHost) (b : Seen) (n : ℕ) → record b { flying = landed n b.flying } ≡ with_move hosts b (Lost n)
-lost hosts b n = sym (letters_none (record b { flying = landed n b.flying }))
-
-pub armed : (hosts : List ScriptHost) (b : Seen) (place : ℕ) (stop : Stop) → with_stop b place stop ≡ with_move hosts b (Arms place stop)
-armed hosts b place stop = sym (letters_none (with_stop b place stop))
-
--- a step stops, once the message that brings it has landed
-pub crashed : (hosts : List ScriptHost) (b : Seen) (c : Crash) → with_crash (record b { flying = flying_with c.landing b.flying }) c.place c.clock c.asked c.stop ≡ with_move hosts b (Crashes c)
-crashed hosts b c = sym (letters_none (with_crash (record b { flying = flying_with c.landing b.flying }) c.place c.clock c.asked c.stop))
-
--- ---- a turn
-pub stage_stepped : (b : Seen) (place clock : ℕ) (i : Input) → place < length b.stages → stage_at (with_step b place clock i) place ≡ acted (stage_at b place) clock i
-stage_stepped b place clock i lt = get_or-set_at b.stages place place (acted (stage_at b place) clock i) nobody refl lt
-
-pub turned : (hosts : List ScriptHost) (b : Seen) (place clock : ℕ) → place < length b.stages
-    → with_letters (with_step b place clock Turn) (sent_by (with_step b place clock Turn) (stage_at (with_step b place clock Turn) place) clock) ≡ with_move hosts b (Turns place clock)
-turned hosts b place clock lt =
-    ap (λ s. with_letters (with_step b place clock Turn) (sent_by (with_step b place clock Turn) s clock)) (stage_stepped b place clock Turn lt)
 
 -- one order after another
 pub sent_more : (b : Seen) (c : Config) (o : Order) (os : List Order) → sent_of b c (o ∷ os) ≡ sent_of b c (o ∷ []) ++ sent_of b c os
@@ -77,24 +51,325 @@ sent_more b c o os = by_test (is_untold b o) refl
     by_test false told = rw told refl
     by_test true told = by_letter told (letter_of c o) refl
 
+-- ---- what came of a step
+crashed_by : (o : Option Stop) (a : Option Reply) → came_by o a ≡ came.Crashed → (stop : Stop) × (o ≡ Some stop)
+crashed_by None None e = absurd cc
+crashed_by None (Some reply) e = absurd cc
+crashed_by (Some stop) a e = (stop, refl)
+
+faulted_by : (o : Option Stop) (a : Option Reply) → came_by o a ≡ came.Faulted → (o ≡ None) × (a ≡ None)
+faulted_by None None e = (refl, refl)
+faulted_by None (Some reply) e = absurd cc
+faulted_by (Some stop) a e = absurd cc
+
+answered_by : (o : Option Stop) (a : Option Reply) (r : Reply) → came_by o a ≡ came.Answered r → (o ≡ None) × (a ≡ Some r)
+answered_by None None r e = absurd cc
+answered_by None (Some reply) r e = let same : reply ≡ r = cc in (refl, ap Some same)
+answered_by (Some stop) a r e = absurd cc
+
+failed : (f : Option ℕ) (said : Reply) → reply_unless f said ≡ None → (number : ℕ) × (f ≡ Some number)
+failed None said e = absurd cc
+failed (Some number) said e = (number, refl)
+
+unfailed : (f : Option ℕ) (said r : Reply) → reply_unless f said ≡ Some r → (f ≡ None) × (said ≡ r)
+unfailed None said r e = let same : said ≡ r = cc in (refl, same)
+unfailed (Some number) said r e = absurd cc
+
+module _ (b : Scene) (place clock : ℕ) (i : Input) where
+  -- a step that was answered was made
+  pub act_done : (r : Reply) → answered (seat_at b place) clock i ≡ Some r → with_act b place clock i ≡ record b { seats = set b.seats place (done (seat_at b place) clock i) }
+  act_done r e =
+      let s : Stage = (seat_at b place).state in
+      ap (λ (f : Option ℕ). record b { seats = set b.seats place (stepped_by (seat_at b place) clock i f) }) (unfailed (fault_in (seat_at b place) clock i) (step_reply s.config s.book clock i) r e).0
+
+  abbrev h : Held Stage
+  h = seat_at b place
+
+  abbrev said : Reply
+  said = step_reply h.state.config h.state.book clock i
+
+  pub stops_there : came_at b place clock i ≡ came.Crashed → (stop : Stop) × (stop_at (as_read b) place ≡ Some stop)
+  stops_there e = crashed_by (stop_at (as_read b) place) (answered h clock i) e
+
+  -- a call of a disk failed
+  pub fails_there : came_at b place clock i ≡ came.Faulted → (stop_at (as_read b) place ≡ None) × ((number : ℕ) × (fault_in h clock i ≡ Some number))
+  fails_there e = let x = faulted_by (stop_at (as_read b) place) (answered h clock i) e in (x.0, failed (fault_in h clock i) said x.1)
+
+  -- neither
+  module _ (r : Reply) (e : came_at b place clock i ≡ came.Answered r) where
+    abbrev parts : (stop_at (as_read b) place ≡ None) × (answered h clock i ≡ Some r)
+    parts = answered_by (stop_at (as_read b) place) (answered h clock i) r e
+
+    pub none_stops : stop_at (as_read b) place ≡ None
+    none_stops = parts.0
+
+    pub none_fails : fault_in h clock i ≡ None
+    none_fails = (unfailed (fault_in h clock i) said r parts.1).0
+
+    pub said_so : said ≡ r
+    said_so = (unfailed (fault_in h clock i) said r parts.1).1
+
+    done_so : with_step b place clock i ≡ record b { seats = set b.seats place (done h clock i) }
+    done_so = ap (with_either b place clock i) none_stops ∙ act_done r parts.1
+
+    -- the host then
+    module _ (within : place < length b.seats) where
+      pub seat_then : seat_at (with_step b place clock i) place ≡ done h clock i
+      seat_then = ap (λ (x : Scene). seat_at x place) done_so ∙ get_or-set_at b.seats place place (done h clock i) nobody_seat refl within
+
+      pub ready_then : (seat_at (with_step b place clock i) place).ready ≡ true
+      ready_then = ap (λ (x : Held Stage). x.ready) seat_then
+
+      pub config_then : config_of b place ≡ config_of (with_step b place clock i) place
+      config_then = sym (ap (λ (x : Held Stage). x.state.config) seat_then)
+
+      pub there_then : place < length (with_step b place clock i).seats
+      there_then =
+          subst (λ (n : ℕ). place < n) (sym (ap (λ (x : Scene). length x.seats) done_so ∙ length-set b.seats place (done h clock i))) within
+
+-- a step sends nothing
+pub letters_kept : (b : Scene) (place clock : ℕ) (i : Input) → (with_step b place clock i).letters ≡ b.letters
+letters_kept b place clock i = by (stop_at (as_read b) place)
+  where
+    by : (o : Option Stop) → (with_either b place clock i o).letters ≡ b.letters
+    by None = refl
+    by (Some stop) = refl
+
+-- ---- a step by which nothing joins
+abbrev stepped_with : List ScriptHost → Scene → Move → Step → Option ℕ → Scene
+stepped_with hosts b move step f = record {
+  seats = set b.seats step.place (stepped (seat_at b step.place) step.clock step.asked);
+  letters = b.letters ++ unless_fault f (joining hosts (as_read b) move);
+  flying = flying_then (as_read b) move step (flying_after hosts (as_read b) move) f;
+  last = b.last;
+  stops = b.stops;
+  broken = b.broken ++ lost_answer f (brings_order (as_read b) move) (count_sent b + 1);
+  unheard = b.unheard ++ lost_answer f (brings_order (as_read b) move) (count_sent b + 1);
+}
+
+none_lost : (f : Option ℕ) (n : ℕ) → lost_answer f false n ≡ []
+none_lost None n = refl
+none_lost (Some number) n = refl
+
+-- by these parts
+abbrev with_parts : Scene → List (Held Stage) → List Letter → List ℕ → List ℕ → Scene
+with_parts b seats letters flying lost = record { seats = seats; letters = letters; flying = flying; last = b.last; stops = b.stops; broken = b.broken ++ lost; unheard = b.unheard ++ lost }
+
+joined : (b : Scene) (seats : List (Held Stage)) (letters : List Letter) (flying : List ℕ) (more : List Letter) (flown lost : List ℕ) → more ≡ letters → flown ≡ flying → lost ≡ []
+    → with_parts b seats (b.letters ++ more) flown lost ≡ record b { seats = seats; letters = b.letters ++ letters; flying = flying }
+joined b seats letters flying more flown lost j f l =
+    ap (λ x. with_parts b seats (b.letters ++ x) flown lost) j
+    ∙ (ap (λ x. with_parts b seats (b.letters ++ letters) x lost) f
+    ∙ (ap (λ x. with_parts b seats (b.letters ++ letters) flying x) l
+    ∙ (ap (λ x. record b { seats = seats; letters = b.letters ++ letters; flying = flying; broken = x; unheard = b.unheard ++ [] }) (append-nil b.broken)
+    ∙ ap (λ x. record b { seats = seats; letters = b.letters ++ letters; flying = flying; unheard = x }) (append-nil b.unheard))))
+
+quiet : (b : Scene) (seats : List (Held Stage)) (flying : List ℕ) → record b { seats = seats; letters = b.letters ++ []; flying = flying } ≡ record b { seats = seats; flying = flying }
+quiet b seats flying = ap (λ x. record b { seats = seats; letters = x; flying = flying }) (append-nil b.letters)
+
+module _ (hosts : List ScriptHost) (b : Scene) (place clock : ℕ) (i : Input) (move : Move) (cause : Cause) where
+  abbrev step : Step
+  step = record { place = place; clock = clock; cause = cause; asked = i; landing = None }
+
+  quiet_step : (f : Option ℕ) → unless_fault f (joining hosts (as_read b) move) ≡ [] → flying_then (as_read b) move step (flying_after hosts (as_read b) move) f ≡ b.flying → brings_order (as_read b) move ≡ false
+      → stepped_with hosts b move step f ≡ with_act b place clock i
+  quiet_step f j fl o =
+      joined b (set b.seats place (stepped (seat_at b place) clock i)) [] b.flying (unless_fault f (joining hosts (as_read b) move)) (flying_then (as_read b) move step (flying_after hosts (as_read b) move) f)
+      (lost_answer f (brings_order (as_read b) move) (count_sent b + 1)) j fl (ap (λ (t : Bool). lost_answer f t (count_sent b + 1)) o ∙ none_lost f (count_sent b + 1))
+      ∙ quiet b (set b.seats place (stepped (seat_at b place) clock i)) b.flying
+
+  -- of a move by which nothing ever joins
+  pub silent : joining hosts (as_read b) move ≡ [] → flying_after hosts (as_read b) move ≡ b.flying ++ numbers_from (length b.letters + 1) (joining hosts (as_read b) move) → brings_order (as_read b) move ≡ false
+      → with_step b place clock i ≡ scene_step hosts b move step (stop_at (as_read b) place)
+  silent j fl o = by (stop_at (as_read b) place)
+    where
+      joins : (f : Option ℕ) → unless_fault f (joining hosts (as_read b) move) ≡ []
+      joins None = j
+      joins (Some number) = refl
+
+      flies : (f : Option ℕ) → flying_then (as_read b) move step (flying_after hosts (as_read b) move) f ≡ b.flying
+      flies None = fl ∙ (ap (λ ls. b.flying ++ numbers_from (length b.letters + 1) ls) j ∙ append-nil b.flying)
+      flies (Some number) = refl
+
+      by : (o : Option Stop) → with_either b place clock i o ≡ scene_step hosts b move step o
+      by None = sym (quiet_step (fault_of b step) (joins (fault_of b step)) (flies (fault_of b step)) o)
+      by (Some stop) = refl
+
+pub asked : (hosts : List ScriptHost) (b : Scene) (place clock : ℕ) (i : Input) → with_step b place clock i ≡ scene_deed hosts b (Does (Move.Asks place clock i))
+asked hosts b place clock i = silent hosts b place clock i (Move.Asks place clock i) (Cause.ByClient i) refl refl refl
+
+pub tried : (hosts : List ScriptHost) (b : Scene) (place clock : ℕ) (i : Input) → with_step b place clock i ≡ scene_deed hosts b (Does (Move.Tries place clock i))
+tried hosts b place clock i = silent hosts b place clock i (Move.Tries place clock i) (Cause.ByInner i) refl refl refl
+
+-- ---- a turn
+module _ (hosts : List ScriptHost) (b : Scene) (place clock : ℕ) where
+  abbrev turning : Step
+  turning = record { place = place; clock = clock; cause = Cause.ByInner Turn; asked = Turn; landing = None }
+
+  abbrev turns : Move
+  turns = Move.Turns place clock
+
+  pub turn_crashed : came_at b place clock Turn ≡ came.Crashed → with_step b place clock Turn ≡ scene_deed hosts b (Does turns)
+  turn_crashed e =
+      let x = stops_there b place clock Turn e in
+      ap (with_either b place clock Turn) x.1 ∙ sym (ap (scene_step hosts b turns turning) x.1)
+
+  pub turn_faulted : came_at b place clock Turn ≡ came.Faulted → with_step b place clock Turn ≡ scene_deed hosts b (Does turns)
+  turn_faulted e =
+      let x = fails_there b place clock Turn e in
+      ap (with_either b place clock Turn) x.0
+      ∙ (sym (quiet_step hosts b place clock Turn turns (Cause.ByInner Turn) (Some x.1.0) refl refl refl)
+      ∙ (ap (stepped_with hosts b turns turning) (sym x.1.1)
+      ∙ sym (ap (scene_step hosts b turns turning) x.0)))
+
+  module _ (within : place < length b.seats) (r : Reply) (e : came_at b place clock Turn ≡ came.Answered r) where
+    abbrev later : Scene
+    later = with_step b place clock Turn
+
+    abbrev sent : List Letter
+    sent = sent_by (as_read b) (acted (stage_at (as_read b) place) clock Turn) clock
+
+    -- what is sent is read off the book after the turn
+    sends : sent_by (as_read later) (seat_at later place).state clock ≡ sent
+    sends =
+        ap (λ (x : Held Stage). sent_by (as_read later) x.state clock) (seat_then b place clock Turn r e within)
+        ∙ (ap (λ (x : Scene). sent_by (as_read x) (acted (seat_at b place).state clock Turn) clock) (done_so b place clock Turn r e)
+        ∙ ap (λ (s : Stage). sent_by (as_read b) (acted s clock Turn) clock) (sym (stage_chosen kept_all b place)))
+
+    pub turned : with_letters later (sent_by (as_read later) (seat_at later place).state clock) ≡ scene_deed hosts b (Does turns)
+    turned =
+        let none = none_fails b place clock Turn r e in
+        let seats : List (Held Stage) = set b.seats place (stepped (seat_at b place) clock Turn) in
+        let acts : later ≡ with_act b place clock Turn = ap (with_either b place clock Turn) (none_stops b place clock Turn r e) in
+        ap (with_letters later) sends
+        ∙ (ap (λ (x : Scene). with_letters x sent) acts
+        ∙ (sym (joined b seats sent (b.flying ++ numbers_from (length b.letters + 1) sent) sent (b.flying ++ numbers_from (length b.letters + 1) sent) [] refl refl refl)
+        ∙ (ap (stepped_with hosts b turns turning) (sym none)
+        ∙ sym (ap (scene_step hosts b turns turning) (none_stops b place clock Turn r e)))))
+
 -- ---- a message that arrives
-abbrev landed_with : List ScriptHost → Seen → ℕ → ℕ → Option Letter → Seen
-landed_with hosts b n clock m = with_letters (record b { stages = arrived_at hosts b clock m; flying = landed n b.flying }) (replies hosts b clock m)
+-- where it is this one
+abbrev taken : List ScriptHost → Scene → ℕ → ℕ → Option Letter → Step → Option ℕ → Scene
+taken hosts b n clock m step f = record {
+  seats = set b.seats step.place (stepped (seat_at b step.place) step.clock step.asked);
+  letters = b.letters ++ unless_fault f (replies hosts (as_read b) clock m);
+  flying = flying_then (as_read b) (Move.Arrives n clock) step (landed n b.flying ++ numbers_from (length b.letters + 1) (replies hosts (as_read b) clock m)) f;
+  last = b.last;
+  stops = b.stops;
+  broken = b.broken ++ lost_answer f (is_order m) (count_sent b + 1);
+  unheard = b.unheard ++ lost_answer f (is_order m) (count_sent b + 1);
+}
 
-abbrev landed_by : List ScriptHost → Seen → ℕ → ℕ → Letter → Option Reply → Seen
-landed_by hosts b n clock l said = with_letters (with_step (record b { flying = landed n b.flying }) (receiver hosts l) clock (brings l l.reply)) (replied hosts b clock l said)
+abbrev taken_unless : List ScriptHost → Scene → ℕ → ℕ → Option Letter → Step → Option Stop → Scene
+taken_unless hosts b n clock m step None = taken hosts b n clock m step (fault_of b step)
+taken_unless hosts b n clock m step (Some stop) = scene_crashed b step stop
 
-module _ (hosts : List ScriptHost) (b : Seen) (n clock : ℕ) (l : Letter) (sent : message b n ≡ Some l) where
-  -- a reply is heard
-  pub heard : (said : Reply) → l.reply ≡ Some said
-      → with_step (record b { flying = landed n b.flying }) (receiver hosts l) clock (brings l l.reply) ≡ with_move hosts b (Arrives n clock)
-  heard said is =
-      sym (letters_none (with_step (record b { flying = landed n b.flying }) (receiver hosts l) clock (brings l l.reply)))
-      ∙ (ap (landed_by hosts b n clock l) (sym is) ∙ ap (landed_with hosts b n clock) (sym sent))
+abbrev coming : List ScriptHost → Scene → ℕ → ℕ → Option Letter → Option Step → Scene
+coming hosts b n clock m None = record b { flying = landed n b.flying }
+coming hosts b n clock m (Some step) = taken_unless hosts b n clock m step (stop_at (as_read b) step.place)
 
-  -- an order is replied to
-  pub replied_to : l.reply ≡ None → (said : Reply) → said ≡ reply_to hosts b clock l
-      → with_letters (with_step (record b { flying = landed n b.flying }) (receiver hosts l) clock (brings l l.reply)) (record l { reply = Some said } ∷ []) ≡ with_move hosts b (Arrives n clock)
-  replied_to is said said_is =
-      ap (λ r. with_letters (with_step (record b { flying = landed n b.flying }) (receiver hosts l) clock (brings l l.reply)) (record l { reply = Some r } ∷ [])) said_is
-      ∙ (ap (landed_by hosts b n clock l) (sym is) ∙ ap (landed_with hosts b n clock) (sym sent))
+same_coming : (hosts : List ScriptHost) (b : Scene) (n clock : ℕ) (o : Option Step) → coming hosts b n clock (message (as_read b) n) o ≡ scene_by hosts b (Move.Arrives n clock) o
+same_coming hosts b n clock None = refl
+same_coming hosts b n clock (Some step) = by (stop_at (as_read b) step.place)
+  where
+    by : (o : Option Stop) → taken_unless hosts b n clock (message (as_read b) n) step o ≡ scene_step hosts b (Move.Arrives n clock) step o
+    by None = refl
+    by (Some stop) = refl
+
+comes_as : (hosts : List ScriptHost) (b : Scene) (n clock : ℕ) (m : Option Letter) → message (as_read b) n ≡ m → coming hosts b n clock m (step_by hosts n clock m) ≡ scene_deed hosts b (Does (Move.Arrives n clock))
+comes_as hosts b n clock m e = ap (λ x. coming hosts b n clock x (step_by hosts n clock x)) (sym e) ∙ same_coming hosts b n clock (step_by hosts n clock (message (as_read b) n))
+
+-- there is none of this number
+pub comes_none : (hosts : List ScriptHost) (b : Scene) (n clock : ℕ) → message (as_read b) n ≡ None → record b { flying = landed n b.flying } ≡ scene_deed hosts b (Does (Move.Arrives n clock))
+comes_none hosts b n clock e = comes_as hosts b n clock None e
+
+module _ (hosts : List ScriptHost) (b : Scene) (n clock : ℕ) (l : Letter) (sent : message (as_read b) n ≡ Some l) where
+  abbrev place : ℕ
+  place = receiver hosts l
+
+  abbrev i : Input
+  i = brings l l.reply
+
+  abbrev coming_step : Step
+  coming_step = record { place = place; clock = clock; cause = Cause.ByLetter (n - 1); asked = i; landing = Some n }
+
+  -- once it has landed
+  abbrev landed_first : Scene
+  landed_first = record b { flying = landed n b.flying }
+
+  abbrev then_seats : List (Held Stage)
+  then_seats = set b.seats place (stepped (seat_at b place) clock i)
+
+  -- with this answer to it
+  taken_as : (f : Option ℕ) → fault_in (seat_at b place) clock i ≡ f → stop_at (as_read b) place ≡ None → taken hosts b n clock (Some l) coming_step f ≡ scene_deed hosts b (Does (Move.Arrives n clock))
+  taken_as f is none =
+      ap (taken hosts b n clock (Some l) coming_step) (sym is)
+      ∙ (sym (ap (taken_unless hosts b n clock (Some l) coming_step) none)
+      ∙ comes_as hosts b n clock (Some l) sent)
+
+  pub arrival_crashed : came_at b place clock i ≡ came.Crashed → with_step landed_first place clock i ≡ scene_deed hosts b (Does (Move.Arrives n clock))
+  arrival_crashed e =
+      let x = stops_there b place clock i e in
+      ap (with_either landed_first place clock i) x.1
+      ∙ (sym (ap (taken_unless hosts b n clock (Some l) coming_step) x.1)
+      ∙ comes_as hosts b n clock (Some l) sent)
+
+  -- of a host that was asked something
+  module _ (order : l.reply ≡ None) where
+    pub order_faulted : came_at b place clock i ≡ came.Faulted → with_broken (with_step landed_first place clock i) ≡ scene_deed hosts b (Does (Move.Arrives n clock))
+    order_faulted e =
+        let x = fails_there b place clock i e in
+        ap (λ (o : Option Stop). with_broken (with_either landed_first place clock i o)) x.0
+        ∙ (sym (ap (λ (t : Bool). record {
+          seats = then_seats;
+          letters = b.letters ++ [];
+          flying = landed n b.flying;
+          last = b.last;
+          stops = b.stops;
+          broken = b.broken ++ lost_answer (Some x.1.0) t (count_sent b + 1);
+          unheard = b.unheard ++ lost_answer (Some x.1.0) t (count_sent b + 1);
+        }) (ap is_unanswered order)
+        ∙ ap (λ ls. record {
+          seats = then_seats;
+          letters = ls;
+          flying = landed n b.flying;
+          last = b.last;
+          stops = b.stops;
+          broken = b.broken ++ (count_sent b + 1) ∷ [];
+          unheard = b.unheard ++ (count_sent b + 1) ∷ [];
+        }) (append-nil b.letters))
+        ∙ taken_as (Some x.1.0) x.1.1 x.0)
+
+    pub order_replied : (r : Reply) → came_at b place clock i ≡ came.Answered r → with_letters (with_step landed_first place clock i) (record l { reply = Some r } ∷ []) ≡ scene_deed hosts b (Does (Move.Arrives n clock))
+    order_replied r e =
+        let none = none_stops b place clock i r e in
+        let said : replies hosts (as_read b) clock (Some l) ≡ record l { reply = Some r } ∷ [] =
+        ap (replied hosts (as_read b) clock l) order
+        ∙ ap (λ (s : Reply). record l { reply = Some s } ∷ [])
+        (ap (λ (s : Stage). step_reply s.config s.book clock i) (stage_chosen kept_all b place) ∙ said_so b place clock i r e) in
+        ap (λ (o : Option Stop). with_letters (with_either landed_first place clock i o) (record l { reply = Some r } ∷ [])) none
+        ∙ (sym (joined b then_seats (record l { reply = Some r } ∷ []) (landed n b.flying ++ numbers_from (length b.letters + 1) (record l { reply = Some r } ∷ []))
+        (replies hosts (as_read b) clock (Some l)) (landed n b.flying ++ numbers_from (length b.letters + 1) (replies hosts (as_read b) clock (Some l))) [] said
+        (ap (λ ls. landed n b.flying ++ numbers_from (length b.letters + 1) ls) said) refl)
+        ∙ taken_as None (none_fails b place clock i r e) none)
+
+  -- of one that was replied to
+  module _ (told : Reply) (reply : l.reply ≡ Some told) where
+    pub reply_faulted : came_at b place clock i ≡ came.Faulted → with_step landed_first place clock i ≡ scene_deed hosts b (Does (Move.Arrives n clock))
+    reply_faulted e =
+        let x = fails_there b place clock i e in
+        ap (with_either landed_first place clock i) x.0
+        ∙ (sym (joined b then_seats [] (landed n b.flying) [] (landed n b.flying) (lost_answer (Some x.1.0) (is_unanswered l.reply) (count_sent b + 1)) refl refl
+        (ap (λ (o : Option Reply). lost_answer (Some x.1.0) (is_unanswered o) (count_sent b + 1)) reply)
+        ∙ quiet b then_seats (landed n b.flying))
+        ∙ taken_as (Some x.1.0) x.1.1 x.0)
+
+    pub reply_heard : (r : Reply) → came_at b place clock i ≡ came.Answered r → with_step landed_first place clock i ≡ scene_deed hosts b (Does (Move.Arrives n clock))
+    reply_heard r e =
+        let none = none_stops b place clock i r e in
+        let none_said : replies hosts (as_read b) clock (Some l) ≡ [] = ap (replied hosts (as_read b) clock l) reply in
+        ap (with_either landed_first place clock i) none
+        ∙ (sym (joined b then_seats [] (landed n b.flying) (replies hosts (as_read b) clock (Some l)) (landed n b.flying ++ numbers_from (length b.letters + 1) (replies hosts (as_read b) clock (Some l))) [] none_said
+        (ap (λ ls. landed n b.flying ++ numbers_from (length b.letters + 1) ls) none_said ∙ append-nil (landed n b.flying)) refl
+        ∙ quiet b then_seats (landed n b.flying))
+        ∙ taken_as None (none_fails b place clock i r e) none)

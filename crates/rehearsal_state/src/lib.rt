@@ -6,7 +6,13 @@ pub mod rehearsal;
 pub mod tell;
 pub mod turn;
 
+/// A host, which is kept on two disks in memory.
+pub use held_seats::seat;
+/// The book of a host.
+pub use host_keep::book;
 /// What is asked of a host about archives.
 pub use host_queries::{archives, attempt};
-/// The hosts of a script, and the book of each.
-pub use rehearsal_seats::{book, hosts, seat};
+/// What comes of a step.
+pub use rehearsal_model::came;
+/// The hosts of a script, as each of them knows the others.
+pub use script_hosts::hosts;

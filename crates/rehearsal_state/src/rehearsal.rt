@@ -1,19 +1,23 @@
 //! How far a rehearsal has come: its hosts, and the messages between them.
 ghost use Rattle.std.specs.List.{list_any};
-ghost use Rattle.std.specs.Prelude.{◌∷◌, ◌==◌, ◌≡◌, ◌≤◌, ◌<◌, [], IfOk, None, OnOk, Some, false, length, max, set, slice_index_or, true};
+ghost use Rattle.std.specs.Option.{option_copied};
+ghost use Rattle.std.specs.Prelude.{◌∷◌, ◌+◌, ◌-◌, ◌^◌, ◌==◌, ◌≡◌, ◌≤◌, ◌<◌, [], IfOk, List, None, OnOk, Some, count_by, length, max, nat_lt, set, true};
 ghost use Rattle.ps_time.specs.declared.moment.TheConstants.{MAX_MOMENT};
 ghost use Rattle.host_model.specs.Conditions.{IsConfig, IsInput};
-ghost use Rattle.host_model.specs.declared.input.Input.TheVariants.{Open};
 ghost use Rattle.psched_world.specs.Events.{brings};
 ghost use Rattle.psched_world.specs.World.{Letter};
-ghost use Rattle.rehearsal_model.specs.After.{crashed_stage};
+ghost use Rattle.psched_script.specs.declared.script.ScriptHost.{ScriptHost};
+ghost use Rattle.rehearsal_model.specs.Moves.{Move.Arms, Move.Retools};
 ghost use Rattle.rehearsal_model.specs.Reaching.{IsKnown};
 ghost use Rattle.rehearsal_model.specs.Rehearsal.{retooled};
-ghost use Rattle.rehearsal_model.specs.Seen.{config_at, disarmed, has_arrived, is_flying, is_sent, landed, message, nobody, reply_at, stage_at, stop_at, stop_in};
-ghost use Rattle.rehearsal_state.specs.Moved.{with_crash, with_letters, with_step, with_stop, with_tools};
+ghost use Rattle.rehearsal_model.specs.Scenes.{Deed.Does, Deed.Fails, Deed.Hears, Deed.Reopens, as_read, at_last, came_at, config_of, count_sent, flies, has_come, is_answered, is_broken, letter_number, nobody_seat, scene_deed, seat_at, seat_in};
+ghost use Rattle.rehearsal_model.specs.Seats.{answered, crashed_at};
+ghost use Rattle.rehearsal_model.specs.Seen.{disarmed, landed, message, stop_at, stop_in};
+ghost use Rattle.rehearsal_state.specs.Moved.{with_act, with_broken, with_crash, with_letters, with_step};
 ghost use Rattle.rehearsal_state.specs.Ready.{IsReady};
 
 use crate::message::Message;
+use held_seats::seat::Seat;
 use host_model::input::Input;
 use host_model::reply::Reply;
 use ps_http::reader::FieldSpans;
@@ -22,31 +26,34 @@ use ps_time::memory::Memory;
 use ps_time::moment::Moment;
 use ps_time::text::Text;
 use psched_script::script::Stop;
-use rehearsal_seats::seat::Seat;
+use rehearsal_model::came::Came;
 use std::alloc::Global;
 use std::marker::Model;
 
 /// The hosts of a script as they stand, in the order of their declaration, and all messages that they sent, in that
-/// order. Messages are numbered from 1.
+/// order.
 pub struct Rehearsal {
     seats: Vec<Seat>,
     messages: Vec<Message>,
-    // the numbers of those in flight, ascending
+    // the places among the messages of those in flight, from 1 on, ascending
     flying: Vec<u64>,
     // the greatest moment of the moves so far
     last: Moment,
     // the places of the hosts whose next step is to stop, and where it is to
     stops: Vec<(usize, Stop)>,
+    // the numbers of the answers that faults took the place of, and of those in flight
+    broken: Vec<u64>,
+    unheard: Vec<u64>,
     // room for the fields of the heads that are read
     fields: FieldSpans,
 }
 
 impl Model for Rehearsal {
-    ghost use Rattle.rehearsal_model.specs.Seen.{Seen};
+    ghost use Rattle.rehearsal_model.specs.Scenes.{Scene};
 
-    ghost Value = { Seen };
+    ghost Value = { Scene };
 
-    ghost view = { λ r. record { stages = r.seats.items; letters = r.messages.items; flying = r.flying.items; last = r.last; stops = r.stops.items } };
+    ghost view = { λ r. record { seats = r.seats.items; letters = r.messages.items; flying = r.flying.items; last = r.last; stops = r.stops.items; broken = r.broken.items; unheard = r.unheard.items } };
 }
 
 // Written out, so that a drop elsewhere is one call.
@@ -58,6 +65,8 @@ impl Drop for Rehearsal {
             flying: _,
             last: _,
             stops: _,
+            broken: _,
+            unheard: _,
             fields: _,
         } = self;
     }
@@ -66,7 +75,7 @@ impl Drop for Rehearsal {
 impl Rehearsal {
     /// These hosts, before the first move.
     pub fn new(alloc: Global, seats: Vec<Seat>) -> Result<Rehearsal, Memory>
-        ensures { IfOk result (λ now. now ≡ record { stages = seats.items; letters = []; flying = []; last = 0; stops = [] }) }
+        ensures { IfOk result (λ now. now ≡ record { seats = seats.items; letters = []; flying = []; last = 0; stops = []; broken = []; unheard = [] }) }
     {
         let fields = FieldSpans::new(alloc)?;
         Ok(Rehearsal {
@@ -75,18 +84,20 @@ impl Rehearsal {
             flying: Vec::new(alloc),
             last: 0,
             stops: Vec::new(alloc),
+            broken: Vec::new(alloc),
+            unheard: Vec::new(alloc),
             fields,
         })
     }
 
     pub fn seats(&self) -> &[Seat]
-        ensures { result.now ≡ self.now.stages }
+        ensures { result.now ≡ self.now.seats }
     {
         self.seats.as_slice()
     }
 
     pub fn into_seats(self) -> Vec<Seat>
-        ensures { result.items ≡ self.stages }
+        ensures { result.items ≡ self.seats }
     {
         let Rehearsal {
             seats,
@@ -94,6 +105,8 @@ impl Rehearsal {
             flying: _,
             last: _,
             stops: _,
+            broken: _,
+            unheard: _,
             fields: _,
         } = self;
         seats
@@ -120,86 +133,38 @@ impl Rehearsal {
 
     /// A move of this moment has been made.
     pub fn advance(&mut self, moment: Moment)
-        ensures { self.new ≡ record self.old { last = max self.old.last moment } }
+        ensures { self.new ≡ at_last moment self.old }
     {
         self.last = self.last.max(moment);
     }
 
     /// The host at a place.
     pub fn seat(&self, place: usize) -> &Seat
-        requires { place < length self.now.stages }
-        ensures { result.now ≡ stage_at self.now place }
+        requires { place < length self.now.seats }
+        ensures { result.now ≡ seat_at self.now place }
     {
         &self.seats[place]
     }
 
-    /// A step of the host at a place, at a clock in seconds since 1970 UTC.
-    pub fn ask(
+    // A step that isn't to stop. It answers nothing where a call of a disk failed.
+    fn act(
         &mut self,
         alloc: Global,
         place: usize,
         clock: Moment,
         input: Input,
-    ) -> Result<Reply, Memory>
+    ) -> Result<Option<Reply>, Memory>
         requires ready { IsReady self.old place clock }
-        requires input { IsInput (config_at self.old place) input }
-        ensures reply { IfOk result (λ reply. reply ≡ reply_at self.old place clock input) }
-        ensures seen { OnOk result (self.new ≡ with_step self.old place clock input) }
+        requires input { IsInput (config_of self.old place) input }
+        ensures reply { IfOk result (λ reply. reply ≡ answered (seat_at self.old place) clock input) }
+        ensures scene { OnOk result (self.new ≡ with_act self.old place clock input) }
     {
         let seat = &mut self.seats[place];
         seat.act(alloc, clock, input)
     }
 
-    /// Opens the host at a place again, at a clock in seconds since 1970 UTC, as after a crash between its steps. It has its book,
-    /// and ends what it was running.
-    pub fn reopen(&mut self, alloc: Global, place: usize, clock: Moment) -> Result<(), Memory>
-        requires { IsReady self.old place clock }
-        ensures { OnOk result (self.new ≡ with_step self.old place clock Open) }
-    {
-        let reply = self.ask(alloc, place, clock, Input::Open)?;
-        drop(reply);
-        Ok(())
-    }
-
-    /// Gives the host at a place other tools.
-    pub fn retool(&mut self, alloc: Global, place: usize, tools: Items<Text>) -> Result<(), Memory>
-        requires place { place < length self.old.stages }
-        requires config { IsConfig (retooled tools (config_at self.old place)) }
-        ensures { OnOk result (self.new ≡ with_tools self.old place tools) }
-    {
-        let seat = &mut self.seats[place];
-        seat.retool(alloc, tools)
-    }
-
-    /// Whether the next step of a host is to stop.
-    pub fn has_stops(&self) -> bool
-        ensures { result ≡ false → self.now.stops ≡ [] }
-    {
-        match self.stops.as_slice() {
-            [] => false,
-            _ => true,
-        }
-    }
-
-    /// Where the next step of the host at a place is to stop, if it is to.
-    pub fn stop(&self, place: usize) -> Option<Stop>
-        ensures { result ≡ stop_at self.now place }
-    {
-        stop_of(self.stops.as_slice(), place)
-    }
-
-    /// The next step of the host at a place is to stop.
-    pub fn arm(&mut self, place: usize, stop: Stop) -> Result<(), Memory>
-        ensures { OnOk result (self.new ≡ with_stop self.old place stop) }
-    {
-        disarm(&mut self.stops, place);
-        self.stops.push((place, stop))?;
-        Ok(())
-    }
-
-    /// This step of the host at a place stops, and the host is opened again on what that leaves of its disks, at the same clock in
-    /// seconds since 1970 UTC.
-    pub fn crash(
+    // This step stops, and the host is opened again on what that leaves of its disks, at the same clock.
+    fn crash(
         &mut self,
         alloc: Global,
         place: usize,
@@ -208,7 +173,7 @@ impl Rehearsal {
         stop: Stop,
     ) -> Result<(), Memory>
         requires ready { IsReady self.old place clock }
-        requires input { IsInput (config_at self.old place) input }
+        requires input { IsInput (config_of self.old place) input }
         ensures { OnOk result (self.new ≡ with_crash self.old place clock input stop) }
     {
         crash_at(alloc, &mut self.seats, place, clock, input, stop)?;
@@ -216,53 +181,184 @@ impl Rehearsal {
         Ok(())
     }
 
-    pub fn is_flying(&self, number: u64) -> bool
-        ensures { result ≡ is_flying self.now number }
+    /// A step of the host at a place, at a clock in seconds since 1970 UTC. Where it is to stop, the host is opened again on what
+    /// that leaves of its disks.
+    pub fn step(
+        &mut self,
+        alloc: Global,
+        place: usize,
+        clock: Moment,
+        input: Input,
+    ) -> Result<Came, Memory>
+        requires ready { IsReady self.old place clock }
+        requires input { IsInput (config_of self.old place) input }
+        ensures came { IfOk result (λ came. came ≡ came_at self.old place clock input) }
+        ensures scene { OnOk result (self.new ≡ with_step self.old place clock input) }
     {
-        is_among(self.flying.as_slice(), number)
+        match self.stop(place) {
+            Some(stop) => {
+                self.crash(alloc, place, clock, input, stop)?;
+                Ok(Came::Crashed)
+            }
+            None => match self.act(alloc, place, clock, input)? {
+                Some(reply) => Ok(Came::Answered(reply)),
+                None => Ok(Came::Faulted),
+            },
+        }
+    }
+
+    /// Opens the host at a place again, at a clock in seconds since 1970 UTC, as after a crash between its steps. It has its book,
+    /// and ends what it was running. Where a call of a disk fails, that is told as want of memory.
+    pub fn reopen(&mut self, alloc: Global, place: usize, clock: Moment) -> Result<(), Memory>
+        requires { IsReady self.old place clock }
+        ensures { (hosts : List ScriptHost) → OnOk result (self.new ≡ scene_deed hosts self.old (Reopens place clock)) }
+    {
+        match self.act(alloc, place, clock, Input::Open)? {
+            Some(reply) => {
+                drop(reply);
+                Ok(())
+            }
+            None => Err(Memory),
+        }
+    }
+
+    /// Gives the host at a place other tools.
+    pub fn retool(&mut self, alloc: Global, place: usize, tools: Items<Text>) -> Result<(), Memory>
+        requires place { place < length self.old.seats }
+        requires config { IsConfig (retooled tools (config_of self.old place)) }
+        ensures { (hosts : List ScriptHost) → OnOk result (self.new ≡ scene_deed hosts self.old (Does (Retools place tools))) }
+    {
+        let seat = &mut self.seats[place];
+        seat.retool(alloc, tools)
+    }
+
+    /// Of each disk of the host at a place the call of this number is to fail, counted from 1 from now on, or none for 0. The first
+    /// fault disarms both.
+    pub fn fail_at(&mut self, place: usize, call: u64)
+        requires { place < length self.old.seats }
+        ensures { (hosts : List ScriptHost) → self.new ≡ scene_deed hosts self.old (Fails place call) }
+    {
+        let seat = &mut self.seats[place];
+        seat.fail_at(call);
+    }
+
+    // Where the next step of the host at a place is to stop, if it is to.
+    fn stop(&self, place: usize) -> Option<Stop>
+        ensures { result ≡ stop_at (as_read self.now) place }
+    {
+        stop_of(self.stops.as_slice(), place)
+    }
+
+    /// The next step of the host at a place is to stop.
+    pub fn arm(&mut self, place: usize, stop: Stop) -> Result<(), Memory>
+        ensures { (hosts : List ScriptHost) → OnOk result (self.new ≡ scene_deed hosts self.old (Does (Arms place stop))) }
+    {
+        disarm(&mut self.stops, place);
+        self.stops.push((place, stop))?;
+        Ok(())
+    }
+
+    /// How many messages were sent, with those that faults took the place of. They are numbered together, from 1 on.
+    pub fn count_sent(&self) -> u64
+        ensures { result ≡ count_sent self.now }
+    {
+        self.next_number() - 1
+    }
+
+    /// The number of the next message.
+    pub fn next_number(&self) -> u64
+        ensures { result ≡ count_sent self.now + 1 }
+    {
+        self.messages.len() as u64 + self.broken.len() as u64 + 1
+    }
+
+    /// How many answers faults took the place of.
+    pub fn count_broken(&self) -> usize
+        ensures count { result ≡ length self.now.broken }
+        ensures few { result < 2 ^ 63 }
+    {
+        self.broken.len()
+    }
+
+    /// Whether the message of this number is an answer that a fault took the place of.
+    pub fn is_broken(&self, number: u64) -> bool
+        ensures { result ≡ is_broken self.now number }
+    {
+        is_among(self.broken.as_slice(), number)
+    }
+
+    /// The place of the message of a number among those of the hosts, from 1 on.
+    pub fn letter_number(&self, number: u64) -> u64
+        ensures { result ≡ letter_number self.now number }
+    {
+        number.saturating_sub(count_below(self.broken.as_slice(), number))
+    }
+
+    /// Whether the message of this number is in flight.
+    pub fn flies(&self, number: u64) -> bool
+        ensures { result ≡ flies self.now number }
+    {
+        if self.is_broken(number) {
+            return is_among(self.unheard.as_slice(), number);
+        }
+        is_among(self.flying.as_slice(), self.letter_number(number))
     }
 
     /// Whether the message of this number was sent, and is no longer in flight.
-    pub fn has_arrived(&self, number: u64) -> bool
-        ensures { result ≡ has_arrived self.now number }
+    pub fn has_come(&self, number: u64) -> bool
+        ensures { result ≡ has_come self.now number }
     {
-        let is_sent = 1 <= number && number <= self.messages.len() as u64;
-        is_sent && !self.is_flying(number)
+        let was_sent = 1 <= number && number <= self.count_sent();
+        was_sent && !self.flies(number)
     }
 
-    /// The message of a number.
-    pub fn message(&self, number: u64) -> &Message
-        requires { is_sent self.now number ≡ true }
-        ensures { message self.now number ≡ Some result.now }
+    /// The message at a place among those of the hosts, from 1 on, if there is one.
+    pub fn message(&self, letter: u64) -> Option<&Message>
+        ensures { option_copied result ≡ message (as_read self.now) letter }
     {
-        &self.messages[(number - 1) as usize]
+        self.messages.get(letter.saturating_sub(1) as usize)
     }
 
-    /// What the message of a number asks the host at a place, to which it goes, at a clock in seconds since 1970 UTC.
+    /// The same, where there is one.
+    pub fn letter(&self, letter: u64) -> &Message
+        requires { letter - 1 < length self.now.letters }
+        ensures { message (as_read self.now) letter ≡ Some result.now }
+    {
+        &self.messages[letter.saturating_sub(1) as usize]
+    }
+
+    /// What this message asks the host at a place, to which it goes, at a clock in seconds since 1970 UTC.
     pub fn brings(
         &mut self,
         alloc: Global,
-        number: u64,
+        letter: u64,
         place: usize,
         clock: Moment,
     ) -> Result<Input, Memory>
-        requires sent { is_sent self.old number ≡ true }
-        requires place { place < length self.old.stages }
+        requires sent { letter - 1 < length self.old.letters }
+        requires place { place < length self.old.seats }
         requires clock { clock ≤ MAX_MOMENT }
-        requires known { (l : Letter) → message self.old number ≡ Some l → l.reply ≡ None → IsKnown (config_at self.old place) l }
-        ensures input { (l : Letter) → message self.old number ≡ Some l → IfOk result (λ input. input ≡ brings l l.reply) }
-        ensures seen { self.new ≡ self.old }
+        requires known { (l : Letter) → message (as_read self.old) letter ≡ Some l → l.reply ≡ None → IsKnown (config_of self.old place) l }
+        ensures input { (l : Letter) → message (as_read self.old) letter ≡ Some l → IfOk result (λ input. input ≡ brings l l.reply) }
+        ensures scene { self.new ≡ self.old }
     {
-        let message = &self.messages[(number - 1) as usize];
+        let message = &self.messages[letter.saturating_sub(1) as usize];
         let config = self.seats[place].config();
         message.brings(alloc, &mut self.fields, config, clock)
     }
 
-    /// The message of this number is no longer in flight.
-    pub fn land(&mut self, number: u64)
-        ensures { self.new ≡ record self.old { flying = landed number self.old.flying } }
+    /// The message at a place among those of the hosts, from 1 on, is no longer in flight.
+    pub fn land(&mut self, letter: u64)
+        ensures { self.new ≡ record self.old { flying = landed letter self.old.flying } }
     {
-        take_out(&mut self.flying, number);
+        take_out(&mut self.flying, letter);
+    }
+
+    /// An answer that a fault took the place of, of this number, is no longer in flight.
+    pub fn hear(&mut self, number: u64)
+        ensures { (hosts : List ScriptHost) → self.new ≡ scene_deed hosts self.old (Hears number) }
+    {
+        take_out(&mut self.unheard, number);
     }
 
     /// Sends a message.
@@ -283,6 +379,16 @@ impl Rehearsal {
         }
         Ok(())
     }
+
+    /// A fault took the place of an answer, which has a number and is in flight.
+    pub fn send_broken(&mut self) -> Result<(), Memory>
+        ensures { OnOk result (self.new ≡ with_broken self.old) }
+    {
+        let number = self.next_number();
+        self.broken.push(number)?;
+        self.unheard.push(number)?;
+        Ok(())
+    }
 }
 
 // The host at the place crashes.
@@ -295,10 +401,10 @@ fn crash_at(
     stop: Stop,
 ) -> Result<(), Memory>
     requires place { place < length seats.old.items }
-    requires config { IsConfig (slice_index_or seats.old.items place nobody).config }
+    requires config { IsConfig (seat_in seats.old.items place).state.config }
     requires clock { clock ≤ MAX_MOMENT }
-    requires input { IsInput (slice_index_or seats.old.items place nobody).config input }
-    ensures { OnOk result (seats.new.items ≡ set seats.old.items place (crashed_stage stop (slice_index_or seats.old.items place nobody) clock input)) }
+    requires input { IsInput (seat_in seats.old.items place).state.config input }
+    ensures { OnOk result (seats.new.items ≡ set seats.old.items place (crashed_at (seat_in seats.old.items place) clock input stop)) }
 {
     let seat = seats.remove(place);
     let seat = seat.crash(alloc, clock, input, stop)?;
@@ -332,6 +438,19 @@ fn is_among(numbers: &[u64], number: u64) -> bool
         }
     }
     false
+}
+
+// How many of the numbers are less than this one.
+fn count_below(numbers: &[u64], number: u64) -> u64
+    ensures { result ≡ count_by (λ n. nat_lt n number) numbers.now }
+{
+    let mut count = 0_u64;
+    for other in numbers {
+        if *other < number {
+            count += 1;
+        }
+    }
+    count
 }
 
 fn take_out(numbers: &mut Vec<u64>, number: u64)

@@ -1,13 +1,13 @@
 //! What a report tells of messages.
-ghost use Rattle.std.specs.Prelude.{◌≡◌, ◌+◌, ◌++◌, ◌≤◌, OnOk, codes, drop, length};
+ghost use Rattle.std.specs.Prelude.{◌≡◌, ◌+◌, ◌++◌, ◌<◌, ◌≤◌, ◌^◌, OnOk, codes, drop, length};
 ghost use Rattle.rehearsal_model.specs.Rehearsal.{letter_told, letters_told};
 
 use crate::message::Message;
 use ps_time::memory::Memory;
 use psched_script::script::ScriptHost;
-use rehearsal_seats::hosts::name_of;
 use report_text::message::{add_sent, end_line, kind_name};
 use report_text::report::ReportText;
+use script_hosts::hosts::name_of;
 
 fn add_letter(
     report: &mut ReportText,
@@ -25,19 +25,21 @@ fn add_letter(
     }
 }
 
-/// Tells of all messages but the first so many, and ends the line.
+/// Tells of all messages but the first so many, and ends the line. So many numbers besides were given before.
 pub fn add_letters(
     report: &mut ReportText,
     hosts: &[ScriptHost],
     letters: &[Message],
     before: usize,
+    besides: usize,
 ) -> Result<(), Memory>
-    requires { before ≤ length letters.now }
-    ensures { OnOk result (report.new ≡ report.old ++ letters_told hosts.now (before + 1) (drop before letters.now) ++ codes "\n") }
+    requires before { before ≤ length letters.now }
+    requires besides { besides < 2 ^ 63 }
+    ensures { OnOk result (report.new ≡ report.old ++ letters_told hosts.now (before + besides + 1) (drop before letters.now) ++ codes "\n") }
 {
     for index in before..letters.len() {
         let letter = &letters[index];
-        add_letter(report, hosts, index as u64 + 1, letter)?;
+        add_letter(report, hosts, index as u64 + besides as u64 + 1, letter)?;
     }
     end_line(report)
 }

@@ -1,6 +1,6 @@
 //! What a host has to say after a turn.
 ghost use Rattle.std.specs.Option.{option_copied};
-ghost use Rattle.std.specs.Prelude.{◌++◌, ◌-◌, ◌∷◌, ◌≡◌, ◌<◌, ◌≤◌, [], All, List, IfOk, OnOk, length, slice_get};
+ghost use Rattle.std.specs.Prelude.{◌++◌, ◌∷◌, ◌≡◌, ◌<◌, ◌≤◌, [], All, List, IfOk, OnOk, length, true};
 ghost use Rattle.ps_time.specs.declared.moment.TheConstants.{MAX_MOMENT};
 ghost use Rattle.host_model.specs.declared.input.Input.TheVariants.{Turn as AsTurn};
 ghost use Rattle.host_model.specs.Orders.{orders as all_orders};
@@ -8,24 +8,24 @@ ghost use Rattle.api_order.specs.Ordered.{IsOrder};
 ghost use Rattle.psched_script.specs.declared.script.ScriptHost.{ScriptHost};
 ghost use Rattle.rehearsal_model.specs.Moves.{Move.Turns, is_of, is_untold, letter_of, same_key, same_kind, sent_by, tells};
 ghost use Rattle.rehearsal_model.specs.Reaching.{IsScriptPeer};
-ghost use Rattle.rehearsal_model.specs.Seen.{config_at, reply_at, stage_at};
-ghost use Rattle.rehearsal_state.specs.Moved.{sent_of, with_letters, with_move};
+ghost use Rattle.rehearsal_model.specs.Scenes.{Deed.Does, as_read, came_at, config_of, scene_deed, seat_at};
+ghost use Rattle.rehearsal_state.specs.Moved.{sent_of, with_letters};
 ghost use Rattle.rehearsal_state.specs.Ready.{IsReady};
 
 use crate::message::Message;
 use crate::rehearsal::Rehearsal;
 use api_law::laws::law_orders;
+use held_seats::seat::Seat;
 use host_model::config::Config;
 use host_model::input::Input;
 use host_model::order::{Order, OrderBody};
-use host_model::reply::Reply;
 use host_queries::orders::orders;
 use letter_bytes::order::send_order;
 use ps_time::items::Items;
 use ps_time::key::RunKey;
 use ps_time::memory::Memory;
 use ps_time::moment::Moment;
-use rehearsal_seats::seat::Seat;
+use rehearsal_model::came::Came;
 use std::alloc::Global;
 
 fn same_key(a: RunKey, b: RunKey) -> bool
@@ -65,19 +65,12 @@ fn tells(order: &Order, message: Option<&Message>) -> bool
     }
 }
 
-fn message_of(messages: &[Message], number: u64) -> Option<&Message>
-    ensures { option_copied result ≡ slice_get messages.now (number - 1) }
-{
-    messages.get(number.saturating_sub(1) as usize)
-}
-
 /// Whether neither the order nor the reply to it is in flight.
 fn is_untold(now: &Rehearsal, order: &Order) -> bool
-    ensures { result ≡ is_untold now.now order.now }
+    ensures { result ≡ is_untold (as_read now.now) order.now }
 {
-    let messages = now.messages();
     for number in now.flying() {
-        if tells(order, message_of(messages, *number)) {
+        if tells(order, now.message(*number)) {
             return false;
         }
     }
@@ -118,7 +111,7 @@ fn add_letter(
 ) -> Result<(), Memory>
     requires order { IsOrder order.body }
     requires peers { All IsScriptPeer config.now.peers }
-    ensures { OnOk result (letters.new.items ≡ letters.old.items ++ sent_of now.now config.now (order ∷ [])) }
+    ensures { OnOk result (letters.new.items ≡ letters.old.items ++ sent_of (as_read now.now) config.now (order ∷ [])) }
 {
     if !is_untold(now, &order) {
         drop(order);
@@ -141,7 +134,7 @@ fn letters_of(
 ) -> Result<Vec<Message>, Memory>
     requires orders { All (λ order. IsOrder order.body) orders }
     requires peers { All IsScriptPeer config.now.peers }
-    ensures { IfOk result (λ letters. letters.items ≡ sent_of now.now config.now orders) }
+    ensures { IfOk result (λ letters. letters.items ≡ sent_of (as_read now.now) config.now orders) }
 {
     let mut letters = Vec::new(alloc);
     for order in orders.into_vec() {
@@ -152,8 +145,9 @@ fn letters_of(
 
 // The orders of a seat, each of which can be sent.
 fn orders_at(alloc: Global, seat: &Seat, clock: Moment) -> Result<Items<Order>, Memory>
-    requires { clock ≤ MAX_MOMENT }
-    ensures orders { IfOk result (λ list. list ≡ all_orders seat.now.book clock) }
+    requires ready { seat.now.ready ≡ true }
+    requires clock { clock ≤ MAX_MOMENT }
+    ensures orders { IfOk result (λ list. list ≡ all_orders seat.now.state.book clock) }
     ensures sent { IfOk result (All (λ order. IsOrder order.body)) }
 {
     law_orders();
@@ -169,10 +163,11 @@ fn letters_at(
     place: usize,
     clock: Moment,
 ) -> Result<Vec<Message>, Memory>
-    requires place { place < length now.now.stages }
+    requires place { place < length now.now.seats }
+    requires ready { (seat_at now.now place).ready ≡ true }
     requires clock { clock ≤ MAX_MOMENT }
-    requires peers { All IsScriptPeer (config_at now.now place).peers }
-    ensures { IfOk result (λ letters. letters.items ≡ sent_by now.now (stage_at now.now place) clock) }
+    requires peers { All IsScriptPeer (config_of now.now place).peers }
+    ensures { IfOk result (λ letters. letters.items ≡ sent_by (as_read now.now) (seat_at now.now place).state clock) }
 {
     let seat = now.seat(place);
     let orders = orders_at(alloc, seat, clock)?;
@@ -185,33 +180,32 @@ fn send_orders(
     place: usize,
     clock: Moment,
 ) -> Result<(), Memory>
-    requires place { place < length now.old.stages }
+    requires place { place < length now.old.seats }
+    requires ready { (seat_at now.old place).ready ≡ true }
     requires clock { clock ≤ MAX_MOMENT }
-    requires peers { All IsScriptPeer (config_at now.old place).peers }
-    ensures { OnOk result (now.new ≡ with_letters now.old (sent_by now.old (stage_at now.old place) clock)) }
+    requires peers { All IsScriptPeer (config_of now.old place).peers }
+    ensures { OnOk result (now.new ≡ with_letters now.old (sent_by (as_read now.old) (seat_at now.old place).state clock)) }
 {
     let letters = letters_at(alloc, now, place, clock)?;
     now.send_all(letters)
 }
 
 /// A turn of the host at a place, at a clock in seconds since 1970 UTC, and what it sends then.
-pub fn turn(
-    alloc: Global,
-    now: &mut Rehearsal,
-    place: usize,
-    clock: Moment,
-) -> Result<Reply, Memory>
+pub fn turn(alloc: Global, now: &mut Rehearsal, place: usize, clock: Moment) -> Result<Came, Memory>
     requires ready { IsReady now.old place clock }
-    requires peers { All IsScriptPeer (config_at now.old place).peers }
-    ensures reply { IfOk result (λ reply. reply ≡ reply_at now.old place clock AsTurn) }
-    ensures seen { (hosts : List ScriptHost) → OnOk result (now.new ≡ with_move hosts now.old (Turns place clock)) }
+    requires peers { All IsScriptPeer (config_of now.old place).peers }
+    ensures came { IfOk result (λ came. came ≡ came_at now.old place clock AsTurn) }
+    ensures scene { (hosts : List ScriptHost) → OnOk result (now.new ≡ scene_deed hosts now.old (Does (Turns place clock))) }
 {
-    let reply = now.ask(alloc, place, clock, Input::Turn)?;
-    match send_orders(alloc, now, place, clock) {
-        Ok(()) => Ok(reply),
-        Err(fault) => {
-            drop(reply);
-            Err(fault)
-        }
+    match now.step(alloc, place, clock, Input::Turn)? {
+        Came::Answered(reply) => match send_orders(alloc, now, place, clock) {
+            Ok(()) => Ok(Came::Answered(reply)),
+            Err(fault) => {
+                drop(reply);
+                Err(fault)
+            }
+        },
+        Came::Crashed => Ok(Came::Crashed),
+        Came::Faulted => Ok(Came::Faulted),
     }
 }

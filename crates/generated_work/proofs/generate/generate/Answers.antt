@@ -1,15 +1,23 @@
 use Rattle.std.proofs.Common.{◌≡◌, ◌∙◌, rules}
 use Rattle.std.proofs.lemmas.Result.{IfOk-weaker}
-use Rattle.rehearsal_model.specs.Seen.{Seen}
+use Rattle.psched_world.specs.Laws.{Safe}
+use Rattle.rehearsal_model.specs.Scenes.{Scene}
 use Rattle.generated_work.specs.Shown.{Alike}
-use Rattle.generated_work.specs.Work.{work, work_hosts}
+use Rattle.generated_work.specs.Work.{work, work_hosts, work_of}
 use Rattle.generated_work.specs.declared.tally.Tally.{Tally}
-use Rattle.generated_work.proofs.WorkLemmas.{summary_is, work_alike}
+use Rattle.generated_work.proofs.WorkLemmas.{last_low, ok_always, summary_is, work_alike}
 use Rattle.generated_work.proofs.generate.generate.Goals as goal
 
-pub returns-clause-summary : goal.returns-clause-summary
-returns-clause-summary c =
+pub summarize-requires-clause-moment : goal.summarize-requires-clause-moment
+summarize-requires-clause-moment c = last_low c.as_slice-all.result.now _ c.run_posts.new.now c.in_ok-run_posts.ensures.seen
+
+pub returns : goal.returns
+returns c =
+    let count = c.args.count in
     let hosts_are : c.as_slice-all.result.now ≡ work_hosts = search rules in
-    let bt : Seen × Tally = (c.run_posts.new.now, c.run_posts.new.tally) in
-    let alike : Alike work_hosts (work c.args.count) bt = work_alike c.as_slice-all.result.now hosts_are c.args.count bt c.in_ok-run_posts.ensures in
-    IfOk-weaker c.summarize.result _ _ (λ text is. is ∙ summary_is c.args.count bt alike) c.summarize.ensures
+    let bt : Scene × Tally = (c.run_posts.new.now, c.run_posts.new.tally) in
+    let alike : Alike work_hosts (work count) bt = work_alike c.as_slice-all.result.now hosts_are count bt c.in_ok-run_posts.ensures in
+    record {
+      summary = IfOk-weaker c.summarize.result _ _ (λ text is. is ∙ summary_is count bt alike) c.summarize.ensures;
+      safe = λ turns. ok_always (Safe (work_of count turns)) c.summarize.result (c.law_played.ensures.safe work_hosts (work count).0 turns c.law_hosts.ensures.lawful alike.seen.is);
+    }

@@ -1,7 +1,7 @@
 use Rattle.std.proofs.Common.{◌≡◌, ◌≤◌, ◌+◌, ◌∙◌, ap, arith, subst, sym, ℕ}
 use Rattle.ps_time.specs.Numbers.{greatest_moment}
-use Rattle.rehearsal_model.specs.Reaching.{MayMove}
-use Rattle.rehearsal_model.specs.Seen.{Seen}
+use Rattle.rehearsal_model.specs.Plays.{MayMake}
+use Rattle.rehearsal_model.specs.Scenes.{Scene}
 use Rattle.generated_work.specs.Posts.{post_of}
 use Rattle.generated_work.specs.Shown.{IsShown}
 use Rattle.generated_work.specs.Work.{moment_of_post, posted, posting, shows}
@@ -20,12 +20,12 @@ live_seconds-requires-clause-shown c =
     let hosts = c.args.hosts.now in
     let clock : ℕ = moment_of_post c.args.number in
     let low : clock ≤ greatest_moment = omega (arith, c.requires.number) in
-    subst (IsShown hosts) (sym (c.in_ok-post.ensures.seen hosts))
+    subst (IsShown hosts) (sym (c.in_ok-post.ensures.scene hosts))
     (shown_posted hosts c.args.now.now c.requires.shown clock c.draw_post-drawn.result low c.draw_post-drawn.ensures.place c.in_ok-post.ensures.may)
 
 pub returns-clause-may : goal.returns-clause-may
 returns-clause-may c =
-    let b : Seen = c.args.now.now in
+    let b : Scene = c.args.now.now in
     let clock : ℕ = moment_of_post c.args.number in
-    ok_always (MayMove b (posting b clock (post_of c.args.tally.now.seed))) c.live_seconds.result
-    (subst (λ (q : Post). MayMove b (posting b clock q)) c.draw_post-drawn.ensures.post c.in_ok-post.ensures.may)
+    ok_always (MayMake b (posting b clock (post_of c.args.tally.now.seed))) c.live_seconds.result
+    (subst (λ (q : Post). MayMake b (posting b clock q)) c.draw_post-drawn.ensures.post c.in_ok-post.ensures.may)

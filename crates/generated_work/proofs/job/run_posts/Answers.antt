@@ -1,8 +1,7 @@
-use Rattle.std.proofs.Common.{◌≡◌, ◌<◌, ◌+◌, ◌∙◌, List, arith, length, refl, subst, sym, ℕ}
+use Rattle.std.proofs.Common.{◌≡◌, ◌<◌, ◌+◌, List, arith, length, refl, subst, sym, ℕ}
 use Rattle.psched_script.specs.Lawful.{AreLawfulHosts}
 use Rattle.psched_script.specs.declared.script.ScriptHost.{ScriptHost}
-use Rattle.rehearsal_model.proofs.FirstLemmas.{first_is}
-use Rattle.rehearsal_model.specs.Rehearsal.{first_show}
+use Rattle.rehearsal_model.specs.Scenes.{first_play}
 use Rattle.generated_work.specs.Shown.{Alike}
 use Rattle.generated_work.specs.Work.{plays, worked}
 use Rattle.generated_work.proofs.HostLemmas.{eight_work, lawful_work}
@@ -15,7 +14,7 @@ loop-number-init c =
     let hosts = c.args.hosts.now in
     let lawful : AreLawfulHosts hosts = subst AreLawfulHosts (sym c.requires.hosts) lawful_work in
     let eight : length hosts ≡ 8 = subst (λ (hs : List ScriptHost). length hs ≡ 8) (sym c.requires.hosts) eight_work in
-    begun hosts lawful eight c.args.now.now c.args.tally.now (c.requires.now ∙ sym (first_is hosts lawful)) c.requires.tally
+    begun hosts lawful eight c.args.now.now c.args.tally.now c.requires.now c.requires.tally
 
 pub run_post-requires-clause-shown : goal.run_post-requires-clause-shown
 run_post-requires-clause-shown c = shown_worked c.args.hosts.now c.requires.hosts c.loop-number.number c.loop-number.now c.loop-number.tally c.loop-number.invariant
@@ -33,4 +32,4 @@ pub returns : goal.returns
 returns c =
     let hosts = c.args.hosts.now in
     let all : c.loop-number.number ≡ c.args.count = omega arith in
-    subst (λ (k : ℕ). Alike hosts (worked (plays hosts) k (first_show hosts)) (c.loop-number.now, c.loop-number.tally)) all c.loop-number.invariant
+    subst (λ (k : ℕ). Alike hosts (worked (plays hosts) k (first_play hosts)) (c.loop-number.now, c.loop-number.tally)) all c.loop-number.invariant

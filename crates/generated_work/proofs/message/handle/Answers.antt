@@ -1,8 +1,6 @@
 use Rattle.std.proofs.Common.{subst, sym}
 use Rattle.generated_work.specs.Shown.{IsShown}
-use Rattle.generated_work.proofs.ShownLemmas.{sent_crashed, shown_crashed}
-use Rattle.rehearsal_model.specs.Seen.{Seen, is_sent}
-use Rattle.std.proofs.Common.{◌≡◌, true}
+use Rattle.generated_work.proofs.ShownLemmas.{shown_crashed}
 use Rattle.generated_work.proofs.message.handle.Goals as goal
 
 -- the host may have crashed
@@ -10,8 +8,3 @@ pub meet-requires-clause-shown : goal.meet-requires-clause-shown
 meet-requires-clause-shown c =
     subst (IsShown c.args.hosts.now) (sym c.in_ok-crash_if.ensures)
     (shown_crashed c.args.hosts.now c.args.now.now c.requires.shown c.is_crash-crashes.result c.args.place c.args.clock c.requires.place c.requires.clock)
-
-pub meet-requires-clause-sent : goal.meet-requires-clause-sent
-meet-requires-clause-sent c =
-    subst (λ (b : Seen). is_sent b c.args.number ≡ true) (sym c.in_ok-crash_if.ensures)
-    (sent_crashed c.args.hosts.now c.is_crash-crashes.result c.args.place c.args.clock c.args.now.now c.args.number c.requires.sent)

@@ -1,18 +1,15 @@
-use Rattle.std.specs.Prelude.{All, IsTrue, slice_index}
+use Rattle.std.specs.Prelude.{slice_index}
 use Rattle.std.proofs.Common.{◌≡◌, ◌+◌, ◌∷◌, ◌<◌, ◌∙◌, List, ap, arith, drop, length, subst, sym, ℕ}
 use Rattle.std.proofs.lemmas.List.{drop_more}
-use Rattle.rehearsal_model.specs.Seen.{Seen, is_sent}
+use Rattle.rehearsal_model.specs.Scenes.{Scene}
 use Rattle.generated_work.specs.Shown.{IsShown}
 use Rattle.generated_work.specs.Work.{handled, shows, walked}
 use Rattle.generated_work.specs.declared.tally.Tally.{Tally}
-use Rattle.generated_work.proofs.ShownLemmas.{all_sent_handled, shown_handled}
+use Rattle.generated_work.proofs.ShownLemmas.{shown_handled}
 use Rattle.generated_work.proofs.message.walk.Goals as goal
 
 pub handle-requires-clause-shown : goal.handle-requires-clause-shown
 handle-requires-clause-shown c = c.loop-number.invariant.shown
-
-pub handle-requires-clause-sent : goal.handle-requires-clause-sent
-handle-requires-clause-sent c = c.loop-number.invariant.sent c.loop-number.number-index _ (omega arith)
 
 pub loop-number-preserved : goal.loop-number-preserved
 loop-number-preserved c =
@@ -22,7 +19,7 @@ loop-number-preserved c =
     let numbers : List ℕ = c.args.numbers.now in
     let i = c.loop-number.number-index in
     let n : ℕ = slice_index numbers i in
-    let b : Seen = c.loop-number.now in
+    let b : Scene = c.loop-number.now in
     let t : Tally = c.loop-number.tally in
     let within : i < length numbers = omega arith in
     let left : drop i numbers ≡ n ∷ drop (i + 1) numbers = drop_more numbers i _ within in
@@ -31,6 +28,5 @@ loop-number-preserved c =
       left =
           ap (walked (shows hosts) place clock (drop (i + 1) numbers)) is
           ∙ (ap (λ (ns : List ℕ). walked (shows hosts) place clock ns (b, t)) (sym left) ∙ c.loop-number.invariant.left);
-      shown = subst (λ (x : Seen × Tally). IsShown hosts x.0) (sym is) (shown_handled hosts b c.loop-number.invariant.shown place clock n c.requires.place c.requires.clock t);
-      sent = subst (λ (x : Seen × Tally). All (λ m. IsTrue (is_sent x.0 m)) numbers) (sym is) (all_sent_handled hosts place clock n b t numbers c.loop-number.invariant.sent);
+      shown = subst (λ (x : Scene × Tally). IsShown hosts x.0) (sym is) (shown_handled hosts b c.loop-number.invariant.shown place clock n c.requires.place c.requires.clock t);
     }

@@ -1,6 +1,4 @@
-use Rattle.std.specs.Prelude.{All, IsTrue}
 use Rattle.std.proofs.Common.{◌≡◌, drop}
-use Rattle.rehearsal_model.specs.Seen.{is_sent}
 use Rattle.generated_work.specs.Shown.{IsShown}
 use Rattle.generated_work.specs.Work.{shows, walked}
 use Rattle.generated_work.proofs.message.walk.Given as goal
@@ -10,5 +8,4 @@ abbrev pub invariant-loop-number : goal.invariant-loop-number
 invariant-loop-number l = record {
   left : walked (shows l.hosts) l.place l.clock (drop l.number-index l.numbers) (l.now, l.tally) ≡ walked (shows l.hosts) l.place l.clock l.numbers (l.fn.now, l.fn.tally);
   shown : IsShown l.hosts l.now;
-  sent : All (λ n. IsTrue (is_sent l.now n)) l.numbers;
 }

@@ -5,4 +5,4 @@ use Rattle.generated_work.proofs.summary.states_of.Given as goal
 
 -- those of the hosts so far
 abbrev pub invariant-loop-seat : goal.invariant-loop-seat
-invariant-loop-seat l = l.states.items ≡ flat_map (stage_states l.moment) (take l.seat-index l.seat-items)
+invariant-loop-seat l = l.states.items ≡ flat_map (λ h. stage_states l.moment h.state) (take l.seat-index l.seat-items)

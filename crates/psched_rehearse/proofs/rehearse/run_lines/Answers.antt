@@ -1,15 +1,15 @@
-use Rattle.std.proofs.Common.{◌≡◌, ◌<◌, ◌+◌, ◌++◌, ◌∙◌, ◌∷◌, List, ap, arith, drop, get_or, length, subst, sym}
-use Rattle.std.proofs.lemmas.List.{drop_more}
+use Rattle.std.proofs.Common.{◌≡◌, ◌<◌, ◌+◌, ◌++◌, ◌∙◌, ◌∷◌, [], List, ap, arith, drop, get_or, length, subst, sym}
+use Rattle.std.proofs.lemmas.List.{drop_all, drop_more}
 use Rattle.psched_script.specs.Lawful.{IsLawfulLine}
 use Rattle.psched_script.specs.declared.script.Numbered.{Numbered}
 use Rattle.psched_script.specs.declared.script.ScriptHost.{ScriptHost}
 use Rattle.report_text.specs.Line.{line_text}
-use Rattle.rehearsal_model.specs.After.{seen_after}
-use Rattle.rehearsal_model.specs.Moves.{Outcomes, move_of}
-use Rattle.rehearsal_model.specs.Reaching.{MayMove}
-use Rattle.rehearsal_model.specs.Rehearsal.{first_show, told}
+use Rattle.rehearsal_model.specs.Moves.{Outcomes}
+use Rattle.rehearsal_model.specs.Plays.{MayLine}
+use Rattle.rehearsal_model.specs.Scenes.{Scene, scene_line}
+use Rattle.rehearsal_model.specs.Telling.{line_said}
 use Rattle.rehearsal_moves.specs.Playing.{IsPlaying}
-use Rattle.psched_rehearse.proofs.PlayLemmas.{HasCome, one_more, playing}
+use Rattle.psched_rehearse.proofs.PlayLemmas.{HasCome, all_configs, all_told, last_low, one_more, playing, worlds_safe}
 use Rattle.psched_rehearse.proofs.rehearse.run_lines.Goals as goal
 
 -- the next line can be run
@@ -18,12 +18,13 @@ run_line-requires-clause-playing g c =
     let hosts = c.args.script.now.hosts in
     let come = c.loop-numbered.invariant.come in
     subst (λ (hs : List ScriptHost). IsPlaying hs c.loop-numbered.now) (sym c.as_slice-hosts.ensures)
-    (subst (IsPlaying hosts) come.seen_so (playing hosts c.requires.lawful.hosts come.show come.reaches))
+    (subst (IsPlaying hosts) come.scene_so (playing hosts c.requires.lawful.hosts come.play come.is))
 
 pub loop-numbered-preserved : goal.loop-numbered-preserved
 loop-numbered-preserved g c =
     let comes : Outcomes = g.A.Archivers.comes c.args.archivers.now in
-    let same : g.A.Archivers.comes c.loop-numbered.archivers ≡ comes = c.loop-numbered.invariant.stays in
+    let now : Outcomes = g.A.Archivers.comes c.loop-numbered.archivers in
+    let same : now ≡ comes = c.loop-numbered.invariant.stays in
     let hosts = c.args.script.now.hosts in
     let lines = c.args.script.now.lines in
     let items : List Numbered = c.as_slice-numbered-items.result.now in
@@ -31,7 +32,7 @@ loop-numbered-preserved g c =
     let hosts_are = c.as_slice-hosts.ensures in
     let i = c.loop-numbered.numbered-index in
     let l = c.numbered-item.result in
-    let b = c.loop-numbered.now in
+    let b : Scene = c.loop-numbered.now in
     let report = c.loop-numbered.report in
     let within : i < length items = omega arith in
     let here : l ≡ get_or items i l = c.numbered-item.is in
@@ -41,9 +42,47 @@ loop-numbered-preserved g c =
     record {
       stays = c.run_line.ensures.stays ∙ same;
       come =
-          one_more comes hosts c.requires.lawful.hosts (first_show hosts) lines (drop (i + 1) items) c.args.report.now report b l
-          (subst (λ (xs : List Numbered). HasCome comes hosts (first_show hosts) lines xs c.args.report.now report b) left c.loop-numbered.invariant.come)
-          is (subst (λ (x : Outcomes). MayMove b (move_of x b l.line)) same c.in_ok-run_line.ensures.may)
-          c.run_line.new.report (c.in_ok-run_line.ensures.report ∙ (ap (λ (hs : List ScriptHost). report ++ line_text l.number (told (g.A.Archivers.comes c.loop-numbered.archivers) hs b l.line)) hosts_are ∙ ap (λ (x : Outcomes). report ++ line_text l.number (told x hosts b l.line)) same))
-          c.run_line.new.now (c.in_ok-run_line.ensures.seen ∙ (ap (λ (hs : List ScriptHost). seen_after (g.A.Archivers.comes c.loop-numbered.archivers) hs b l.line) hosts_are ∙ ap (λ (x : Outcomes). seen_after x hosts b l.line) same));
+          one_more comes hosts c.requires.lawful.hosts lines (drop (i + 1) items) c.args.report.now report b l
+          (subst (λ (xs : List Numbered). HasCome comes hosts lines xs c.args.report.now report b) left c.loop-numbered.invariant.come)
+          is (subst (λ (x : Outcomes). MayLine x hosts b l.line) same (subst (λ (hs : List ScriptHost). MayLine now hs b l.line) hosts_are c.in_ok-run_line.ensures.may))
+          c.run_line.new.report (c.in_ok-run_line.ensures.report ∙ (ap (λ (hs : List ScriptHost). report ++ line_text l.number (line_said now hs b l.line)) hosts_are ∙ ap (λ (x : Outcomes). report ++ line_text l.number (line_said x hosts b l.line)) same))
+          c.run_line.new.now (c.in_ok-run_line.ensures.scene ∙ (ap (λ (hs : List ScriptHost). scene_line now hs b l.line) hosts_are ∙ ap (λ (x : Outcomes). scene_line x hosts b l.line) same));
     }
+
+-- none is left
+pub returns-clause-report : goal.returns-clause-report
+returns-clause-report g c =
+    let comes : Outcomes = g.A.Archivers.comes c.args.archivers.now in
+    let hosts = c.args.script.now.hosts in
+    let lines = c.args.script.now.lines in
+    let none : drop c.loop-numbered.numbered-index c.as_slice-numbered-items.result.now ≡ [] = drop_all c.loop-numbered.numbered-index c.as_slice-numbered-items.result.now (omega arith) in
+    all_told comes hosts c.requires.lawful.hosts lines c.args.report.now c.loop-numbered.report c.loop-numbered.now
+    (subst (λ (xs : List Numbered). HasCome comes hosts lines xs c.args.report.now c.loop-numbered.report c.loop-numbered.now) none c.loop-numbered.invariant.come)
+
+pub returns-clause-safe : goal.returns-clause-safe
+returns-clause-safe g c =
+    let comes : Outcomes = g.A.Archivers.comes c.args.archivers.now in
+    let hosts = c.args.script.now.hosts in
+    let lines = c.args.script.now.lines in
+    let none : drop c.loop-numbered.numbered-index c.as_slice-numbered-items.result.now ≡ [] = drop_all c.loop-numbered.numbered-index c.as_slice-numbered-items.result.now (omega arith) in
+    worlds_safe comes hosts c.requires.lawful.hosts lines c.args.report.now c.loop-numbered.report c.loop-numbered.now
+    (subst (λ (xs : List Numbered). HasCome comes hosts lines xs c.args.report.now c.loop-numbered.report c.loop-numbered.now) none c.loop-numbered.invariant.come)
+    (c.law_played.ensures.safe hosts)
+
+pub returns-clause-configs : goal.returns-clause-configs
+returns-clause-configs g c =
+    let comes : Outcomes = g.A.Archivers.comes c.args.archivers.now in
+    let hosts = c.args.script.now.hosts in
+    let lines = c.args.script.now.lines in
+    let none : drop c.loop-numbered.numbered-index c.as_slice-numbered-items.result.now ≡ [] = drop_all c.loop-numbered.numbered-index c.as_slice-numbered-items.result.now (omega arith) in
+    all_configs comes hosts c.requires.lawful.hosts lines c.args.report.now c.loop-numbered.report c.loop-numbered.now
+    (subst (λ (xs : List Numbered). HasCome comes hosts lines xs c.args.report.now c.loop-numbered.report c.loop-numbered.now) none c.loop-numbered.invariant.come)
+
+pub returns-clause-moment : goal.returns-clause-moment
+returns-clause-moment g c =
+    let comes : Outcomes = g.A.Archivers.comes c.args.archivers.now in
+    let hosts = c.args.script.now.hosts in
+    let lines = c.args.script.now.lines in
+    let none : drop c.loop-numbered.numbered-index c.as_slice-numbered-items.result.now ≡ [] = drop_all c.loop-numbered.numbered-index c.as_slice-numbered-items.result.now (omega arith) in
+    last_low comes hosts c.requires.lawful.hosts lines c.args.report.now c.loop-numbered.report c.loop-numbered.now
+    (subst (λ (xs : List Numbered). HasCome comes hosts lines xs c.args.report.now c.loop-numbered.report c.loop-numbered.now) none c.loop-numbered.invariant.come)

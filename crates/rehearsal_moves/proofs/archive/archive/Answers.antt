@@ -1,93 +1,99 @@
-use Rattle.std.specs.Prelude.{codes}
-use Rattle.std.proofs.Common.{◌≡◌, ◌∙◌, List, None, Some, ap, subst, sym, ℕ}
-use Rattle.host_model.specs.Conditions.{IsInput}
+use Rattle.std.proofs.Common.{◌<◌, ◌≡◌, ◌∙◌, ap, false, length, subst, sym, true}
+use Rattle.std.proofs.lemmas.Result.{on_ok_weaker}
+use Rattle.host_model.specs.Conditions.{IsConfig}
+use Rattle.host_model.specs.Lawful.{Lawful}
 use Rattle.host_model.specs.declared.input.Input.{Input}
-use Rattle.report_text.specs.Line.{archive_text}
-use Rattle.rehearsal_model.specs.Moves.{Move, Outcomes, attempt, crash_of, stopped, trying}
-use Rattle.rehearsal_model.specs.Reaching.{MayMove}
-use Rattle.rehearsal_model.specs.Rehearsal.{attempt_told, told_unless}
-use Rattle.rehearsal_model.specs.Seen.{Seen, config_at, reply_at}
-use Rattle.rehearsal_state.specs.Moved.{with_move}
-use Rattle.rehearsal_state.proofs.MoveLemmas.{rested}
-use Rattle.rehearsal_moves.specs.Archiving.{tried_by}
-use Rattle.rehearsal_moves.proofs.ArchiveLemmas.{of_some, told_none, told_some, trying_none, trying_some}
-use Rattle.rehearsal_moves.proofs.ResultLemmas.{on_ok, reported, seen_as}
+use Rattle.host_model.specs.declared.input.Input.TheVariants as input
+use Rattle.host_model.specs.declared.view.Page.TheVariants as page
+use Rattle.machine_seat.specs.Held.{Held}
+use Rattle.psched_world.specs.World.{Stage}
+use Rattle.rehearsal_model.specs.Moves.{Outcomes}
+use Rattle.rehearsal_model.specs.Scenes.{Scene, at_last, is_answered, looks, seat_at}
+use Rattle.rehearsal_state.specs.Ready.{IsReady}
+use Rattle.rehearsal_state.proofs.MoveLemmas.{config_then, ready_then, there_then}
+use Rattle.rehearsal_moves.proofs.ArchiveLemmas.{later_so, left_found, left_lost, left_sure, may_found}
+use Rattle.rehearsal_moves.proofs.ResultLemmas.{on_ok}
 use Rattle.rehearsal_moves.proofs.archive.archive.Goals as goal
 
--- an attempt was made
-pub returns-in-Some-clause-report : goal.returns-in-Some-clause-report
-returns-in-Some-clause-report g c = λ hosts.
+abbrev look : Input
+look = input.View page.Home
+
+-- it knows what stands
+pub returns-then-is_ready-clause-scene : goal.returns-then-is_ready-clause-scene
+returns-then-is_ready-clause-scene g c = λ hosts.
     let comes : Outcomes = g.A.Archivers.comes c.args.archivers.now in
-    let b : Seen = c.args.now.now in
+    let sure = sym (ap (λ (h : Held Stage). h.ready) c.seat.ensures) ∙ (sym c.is_ready.ensures ∙ c.if-is_ready.true) in
+    on_ok_weaker c.try_first.result (left_sure comes hosts c.args.now.now c.args.place c.args.clock sure c.try_first.new.now) (c.try_first.ensures.scene hosts)
+
+-- it finds that out
+pub book-requires : goal.book-requires
+book-requires g c =
+    let b : Scene = c.args.now.now in
+    let said = sym c.in_ok-reply.ensures.came ∙ c.in-Answered.is in
+    subst (λ (h : Held Stage). h.ready ≡ true) (sym (c.seat-in-Answered.ensures ∙ ap (λ (x : Scene). seat_at x c.args.place) c.in_ok-reply.ensures.scene)) (ready_then b c.args.place c.args.clock look c.in-Answered.reply said c.requires.there)
+
+pub try_first-requires-in-Answered-clause-ready : goal.try_first-requires-in-Answered-clause-ready
+try_first-requires-in-Answered-clause-ready g c =
+    let b : Scene = c.args.now.now in
     let place = c.args.place in
     let clock = c.args.clock in
-    let i = c.in-Some.input in
-    let due = attempt b place clock in
-    let made : Some i ≡ tried_by comes due = sym c.in-Some.is ∙ c.in_ok-input.ensures.told in
-    reported c.tell_or_crash.result c.tell_or_crash.new.report c.args.report.now c.args.line
-    (told_unless (crash_of hosts b (Move.Tries place clock i)) (archive_text (reply_at b place clock i)))
-    (told_unless (crash_of hosts b (trying comes place clock due)) (attempt_told comes b place clock due))
-    (ap (λ (said : List ℕ). told_unless (crash_of hosts b (Move.Tries place clock i)) said) (told_some comes b place clock due i made)
-    ∙ ap (λ (m : Move). told_unless (crash_of hosts b m) (attempt_told comes b place clock due)) (trying_some comes place clock due i made))
-    (c.tell_or_crash.ensures.report hosts)
+    let reply = c.in-Answered.reply in
+    let said = sym c.in_ok-reply.ensures.came ∙ c.in-Answered.is in
+    let scene = c.in_ok-reply.ensures.scene in
+    let seat = c.seat-in-Answered.ensures in
+    subst (λ (x : Scene). IsReady x place clock) (sym c.advance.ensures) (record {
+      there = subst (λ (x : Scene). place < length x.seats) (sym scene) (there_then b place clock look reply said c.requires.there);
+      config = subst (λ (x : Scene). IsConfig (seat_at x place).state.config) (sym scene) (subst IsConfig (config_then b place clock look reply said c.requires.there) c.requires.config);
+      book = subst (λ (h : Held Stage). Lawful h.state.config.number h.state.book) seat
+          (subst (λ n. Lawful n c.seat-in-Answered.result.now.state.book) c.book.ensures.number (subst (λ k. Lawful c.book.result.now.number k) c.book.ensures.book c.rows.ensures.lawful));
+      in_time = c.requires.in_time;
+    })
 
-pub returns-in-Some-clause-seen : goal.returns-in-Some-clause-seen
-returns-in-Some-clause-seen g c = λ hosts.
+pub try_first-requires-in-Answered-clause-sure : goal.try_first-requires-in-Answered-clause-sure
+try_first-requires-in-Answered-clause-sure g c =
+    let b : Scene = c.args.now.now in
+    let said = sym c.in_ok-reply.ensures.came ∙ c.in-Answered.is in
+    subst (λ (x : Scene). (seat_at x c.args.place).ready ≡ true) (sym (c.advance.ensures ∙ ap (at_last c.args.clock) c.in_ok-reply.ensures.scene)) (ready_then b c.args.place c.args.clock look c.in-Answered.reply said c.requires.there)
+
+pub returns-in-Answered-clause-scene : goal.returns-in-Answered-clause-scene
+returns-in-Answered-clause-scene g c = λ hosts.
     let comes : Outcomes = g.A.Archivers.comes c.args.archivers.now in
-    let b : Seen = c.args.now.now in
+    let b : Scene = c.args.now.now in
     let place = c.args.place in
     let clock = c.args.clock in
-    let i = c.in-Some.input in
-    let due = attempt b place clock in
-    let made : Some i ≡ tried_by comes due = sym c.in-Some.is ∙ c.in_ok-input.ensures.told in
-    seen_as c.tell_or_crash.result c.tell_or_crash.new.now (with_move hosts b (stopped hosts b (Move.Tries place clock i))) (with_move hosts b (stopped hosts b (trying comes place clock due)))
-    (ap (λ (m : Move). with_move hosts b (stopped hosts b m)) (trying_some comes place clock due i made)) (c.tell_or_crash.ensures.seen hosts)
+    let unsure = sym (ap (λ (h : Held Stage). h.ready) c.seat.ensures) ∙ (sym c.is_ready.ensures ∙ c.if-is_ready.false) in
+    let finds : looks b place clock ≡ true = ap is_answered (sym c.in_ok-reply.ensures.came ∙ c.in-Answered.is) in
+    on_ok_weaker c.try_first-in-Answered.result
+    (left_found comes hosts b place clock unsure finds c.advance.new.self c.try_first-in-Answered.new.now (later_so comes hosts b place clock c.step.new.self c.advance.new.self c.in_ok-reply.ensures.scene c.advance.ensures))
+    (c.try_first-in-Answered.ensures.scene hosts)
 
-pub returns-in-Some-clause-may : goal.returns-in-Some-clause-may
-returns-in-Some-clause-may g c =
+pub returns-in-Answered-clause-may : goal.returns-in-Answered-clause-may
+returns-in-Answered-clause-may g c = λ hosts.
     let comes : Outcomes = g.A.Archivers.comes c.args.archivers.now in
-    let b : Seen = c.args.now.now in
-    let place = c.args.place in
-    let i : Input = c.in-Some.input in
-    let made : Some i ≡ tried_by comes (attempt b place c.args.clock) = sym c.in-Some.is ∙ c.in_ok-input.ensures.told in
-    let asked : IsInput (config_at b place) i = of_some (IsInput (config_at b place)) _ i c.in-Some.is (c.in_ok-input.ensures.input (config_at b place)) in
-    on_ok c.tell_or_crash.result (subst (λ (m : Move). MayMove b m) (trying_some comes place c.args.clock (attempt b place c.args.clock) i made) asked)
-
-pub tell_or_crash-requires-clause-input : goal.tell_or_crash-requires-clause-input
-tell_or_crash-requires-clause-input g c =
-    let config = config_at c.args.now.now c.args.place in
-    of_some (IsInput config) _ c.in-Some.input c.in-Some.is (c.in_ok-input.ensures.input config)
-
--- none is due
-pub returns-in-None-clause-report : goal.returns-in-None-clause-report
-returns-in-None-clause-report g c = λ hosts.
-    let comes : Outcomes = g.A.Archivers.comes c.args.archivers.now in
-    let b : Seen = c.args.now.now in
+    let b : Scene = c.args.now.now in
     let place = c.args.place in
     let clock = c.args.clock in
-    let due = attempt b place clock in
-    let made : None ≡ tried_by comes due = sym c.in-None.is ∙ c.in_ok-input.ensures.told in
-    reported c.add_said.result c.add_said.new.report c.args.report.now c.args.line (codes "nothing due")
-    (told_unless (crash_of hosts b (trying comes place clock due)) (attempt_told comes b place clock due))
-    (told_none comes b place clock due made ∙ ap (λ (m : Move). told_unless (crash_of hosts b m) (attempt_told comes b place clock due)) (trying_none comes place clock due made))
-    c.add_said.ensures
+    let unsure = sym (ap (λ (h : Held Stage). h.ready) c.seat.ensures) ∙ (sym c.is_ready.ensures ∙ c.if-is_ready.false) in
+    let finds : looks b place clock ≡ true = ap is_answered (sym c.in_ok-reply.ensures.came ∙ c.in-Answered.is) in
+    on_ok_weaker c.try_first-in-Answered.result (may_found comes hosts b place clock unsure finds c.advance.new.self (later_so comes hosts b place clock c.step.new.self c.advance.new.self c.in_ok-reply.ensures.scene c.advance.ensures)) c.try_first-in-Answered.ensures.may
 
-pub returns-in-None-clause-seen : goal.returns-in-None-clause-seen
-returns-in-None-clause-seen g c = λ hosts.
+-- that stops, or meets a fault
+pub returns-in-Faulted-clause-scene : goal.returns-in-Faulted-clause-scene
+returns-in-Faulted-clause-scene g c = λ hosts.
     let comes : Outcomes = g.A.Archivers.comes c.args.archivers.now in
-    let b : Seen = c.args.now.now in
+    let b : Scene = c.args.now.now in
     let place = c.args.place in
     let clock = c.args.clock in
-    let due = attempt b place clock in
-    let made : None ≡ tried_by comes due = sym c.in-None.is ∙ c.in_ok-input.ensures.told in
-    on_ok c.add_said.result (rested hosts b ∙ ap (λ (m : Move). with_move hosts b (stopped hosts b m)) (trying_none comes place clock due made))
+    let unsure = sym (ap (λ (h : Held Stage). h.ready) c.seat.ensures) ∙ (sym c.is_ready.ensures ∙ c.if-is_ready.false) in
+    let lost : looks b place clock ≡ false = ap is_answered (sym c.in_ok-reply.ensures.came ∙ c.in-Faulted.is) in
+    on_ok c.add_said.result (left_lost comes hosts b place clock unsure lost c.step.new.self c.in_ok-reply.ensures.scene)
 
-pub returns-in-None-clause-may : goal.returns-in-None-clause-may
-returns-in-None-clause-may g c =
+pub returns-in-Crashed-clause-scene : goal.returns-in-Crashed-clause-scene
+returns-in-Crashed-clause-scene g c = λ hosts.
     let comes : Outcomes = g.A.Archivers.comes c.args.archivers.now in
-    let b : Seen = c.args.now.now in
+    let b : Scene = c.args.now.now in
     let place = c.args.place in
     let clock = c.args.clock in
-    let due = attempt b place clock in
-    let made : None ≡ tried_by comes due = sym c.in-None.is ∙ c.in_ok-input.ensures.told in
-    on_ok c.add_said.result (subst (λ (m : Move). MayMove b m) (trying_none comes place clock due made) tt)
+    let unsure = sym (ap (λ (h : Held Stage). h.ready) c.seat.ensures) ∙ (sym c.is_ready.ensures ∙ c.if-is_ready.false) in
+    let lost : looks b place clock ≡ false = ap is_answered (sym c.in_ok-reply.ensures.came ∙ c.in-Crashed.is) in
+    on_ok c.add_said-in-Crashed.result (left_lost comes hosts b place clock unsure lost c.step.new.self c.in_ok-reply.ensures.scene)

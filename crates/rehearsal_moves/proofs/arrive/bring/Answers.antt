@@ -1,64 +1,52 @@
-use Rattle.std.proofs.Common.{◌≡◌, ◌∙◌, ℕ, ap, subst, sym}
-use Rattle.host_model.specs.Conditions.{IsInput}
+use Rattle.std.proofs.Common.{◌≡◌, ◌∙◌, IfOk, OnOk, ap, subst}
 use Rattle.rehearsal_model.specs.Moves.{place_numbered, receiver}
-use Rattle.rehearsal_model.specs.Seen.{Seen, config_at, landed}
-use Rattle.rehearsal_state.specs.Ready.{IsReady}
-use Rattle.rehearsal_moves.proofs.ArriveLemmas.{as_told, asks_there, known_there, ready, replies_so, within}
+use Rattle.rehearsal_model.specs.Scenes.{Scene}
+use Rattle.rehearsal_model.specs.Seen.{landed}
+use Rattle.rehearsal_model.specs.declared.came.Came.{Came}
+use Rattle.rehearsal_moves.proofs.ArriveLemmas.{asks_there, came_so, ready_there, step_so}
 use Rattle.rehearsal_moves.proofs.arrive.bring.Goals as goal
 
--- the host to which the message goes
-pub brings-requires-clause-place : goal.brings-requires-clause-place
-brings-requires-clause-place c =
+-- the host to which the message goes, once it has landed
+pub step_shown-requires-clause-ready : goal.step_shown-requires-clause-ready
+step_shown-requires-clause-ready c =
     let hosts = c.args.hosts.now in
-    let l = c.message.result.now in
+    let b : Scene = c.args.now.now in
+    let n = c.args.letter in
+    let l = c.letter.result.now in
     let place_is : c.place_of-place.result ≡ receiver hosts l = c.place_of-place.ensures ∙ ap (place_numbered hosts) c.goes_to.ensures in
-    within hosts c.args.now.now c.args.number l c.requires.playing c.message.ensures c.place_of-place.result place_is
+    let now_is : c.land.new.self ≡ record b { flying = landed n b.flying } = c.land.ensures ∙ ap (λ (x : Scene). record x { flying = landed n x.flying }) c.in_ok-input.ensures.scene in
+    ready_there hosts b n l c.requires.playing c.letter.ensures c.place_of-place.result place_is c.land.new.self now_is c.args.clock c.requires.clock
 
-pub brings-requires-clause-known : goal.brings-requires-clause-known
-brings-requires-clause-known c =
+pub step_shown-requires-clause-input : goal.step_shown-requires-clause-input
+step_shown-requires-clause-input c =
     let hosts = c.args.hosts.now in
-    let l = c.message.result.now in
+    let b : Scene = c.args.now.now in
+    let n = c.args.letter in
+    let l = c.letter.result.now in
     let place_is : c.place_of-place.result ≡ receiver hosts l = c.place_of-place.ensures ∙ ap (place_numbered hosts) c.goes_to.ensures in
-    known_there hosts c.args.now.now c.args.number l c.requires.playing c.message.ensures c.place_of-place.result place_is
+    let now_is : c.land.new.self ≡ record b { flying = landed n b.flying } = c.land.ensures ∙ ap (λ (x : Scene). record x { flying = landed n x.flying }) c.in_ok-input.ensures.scene in
+    asks_there hosts b n l c.requires.playing c.letter.ensures c.place_of-place.result place_is c.land.new.self now_is c.in_ok-input.input (c.in_ok-input.ensures.input l c.letter.ensures)
 
-pub ask-requires-clause-ready : goal.ask-requires-clause-ready
-ask-requires-clause-ready c =
+pub returns-clause-came : goal.returns-clause-came
+returns-clause-came c = λ other also.
     let hosts = c.args.hosts.now in
-    let b : Seen = c.args.now.now in
-    let l = c.message.result.now in
+    let b : Scene = c.args.now.now in
+    let n = c.args.letter in
+    let l = c.letter.result.now in
     let place_is : c.place_of-place.result ≡ receiver hosts l = c.place_of-place.ensures ∙ ap (place_numbered hosts) c.goes_to.ensures in
-    let now_is : c.land.new.self ≡ record b { flying = landed c.args.number b.flying } = c.land.ensures ∙ ap (λ (x : Seen). record x { flying = landed c.args.number x.flying }) c.in_ok-input.ensures.seen in
-    subst (λ (x : Seen). IsReady x c.place_of-place.result c.args.clock) (sym now_is)
-    (subst (λ (p : ℕ). IsReady (record b { flying = landed c.args.number b.flying }) p c.args.clock) (sym place_is)
-    (ready hosts b c.args.number c.args.clock l c.requires.playing c.message.ensures c.requires.clock))
+    let now_is : c.land.new.self ≡ record b { flying = landed n b.flying } = c.land.ensures ∙ ap (λ (x : Scene). record x { flying = landed n x.flying }) c.in_ok-input.ensures.scene in
+    subst (λ (v : Came). IfOk c.step_shown.result (λ came. came ≡ v))
+    (came_so hosts b n l c.requires.playing c.letter.ensures c.place_of-place.result place_is c.land.new.self now_is c.args.clock c.in_ok-input.input (c.in_ok-input.ensures.input l c.letter.ensures) other also)
+    c.step_shown.ensures.came
 
-pub ask-requires-clause-input : goal.ask-requires-clause-input
-ask-requires-clause-input c =
+pub returns-clause-scene : goal.returns-clause-scene
+returns-clause-scene c = λ other also.
     let hosts = c.args.hosts.now in
-    let b : Seen = c.args.now.now in
-    let l = c.message.result.now in
+    let b : Scene = c.args.now.now in
+    let n = c.args.letter in
+    let l = c.letter.result.now in
     let place_is : c.place_of-place.result ≡ receiver hosts l = c.place_of-place.ensures ∙ ap (place_numbered hosts) c.goes_to.ensures in
-    let now_is : c.land.new.self ≡ record b { flying = landed c.args.number b.flying } = c.land.ensures ∙ ap (λ (x : Seen). record x { flying = landed c.args.number x.flying }) c.in_ok-input.ensures.seen in
-    subst (λ (x : Seen). IsInput (config_at x c.place_of-place.result) c.in_ok-input.input) (sym now_is)
-    (asks_there hosts b c.args.number l c.requires.playing c.message.ensures c.place_of-place.result place_is c.in_ok-input.input (c.in_ok-input.ensures.input l c.message.ensures))
-
-pub returns-clause-reply : goal.returns-clause-reply
-returns-clause-reply c = λ other also.
-    let hosts = c.args.hosts.now in
-    let b : Seen = c.args.now.now in
-    let l = c.message.result.now in
-    let place_is : c.place_of-place.result ≡ receiver hosts l = c.place_of-place.ensures ∙ ap (place_numbered hosts) c.goes_to.ensures in
-    let now_is : c.land.new.self ≡ record b { flying = landed c.args.number b.flying } = c.land.ensures ∙ ap (λ (x : Seen). record x { flying = landed c.args.number x.flying }) c.in_ok-input.ensures.seen in
-    c.in_ok-reply.ensures.reply
-    ∙ as_told hosts b c.land.new.self c.args.number c.place_of-place.result c.args.clock c.in_ok-input.input l other c.message.ensures also now_is place_is (c.in_ok-input.ensures.input l c.message.ensures)
-
-pub returns-clause-told : goal.returns-clause-told
-returns-clause-told c = λ other also none.
-    let hosts = c.args.hosts.now in
-    let b : Seen = c.args.now.now in
-    let l = c.message.result.now in
-    let place_is : c.place_of-place.result ≡ receiver hosts l = c.place_of-place.ensures ∙ ap (place_numbered hosts) c.goes_to.ensures in
-    let now_is : c.land.new.self ≡ record b { flying = landed c.args.number b.flying } = c.land.ensures ∙ ap (λ (x : Seen). record x { flying = landed c.args.number x.flying }) c.in_ok-input.ensures.seen in
-    let replied = c.in_ok-reply.ensures.reply
-    ∙ as_told hosts b c.land.new.self c.args.number c.place_of-place.result c.args.clock c.in_ok-input.input l other c.message.ensures also now_is place_is (c.in_ok-input.ensures.input l c.message.ensures) in
-    replies_so hosts b c.args.number c.args.clock other c.requires.playing also none c.requires.clock c.in_ok-reply.reply replied c.reply_widths.ensures
+    let now_is : c.land.new.self ≡ record b { flying = landed n b.flying } = c.land.ensures ∙ ap (λ (x : Scene). record x { flying = landed n x.flying }) c.in_ok-input.ensures.scene in
+    subst (λ (v : Scene). OnOk c.step_shown.result (c.step_shown.new.now ≡ v))
+    (step_so hosts b n l c.requires.playing c.letter.ensures c.place_of-place.result place_is c.land.new.self now_is c.args.clock c.in_ok-input.input (c.in_ok-input.ensures.input l c.letter.ensures) other also)
+    c.step_shown.ensures.scene

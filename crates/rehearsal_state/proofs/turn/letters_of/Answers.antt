@@ -5,6 +5,8 @@ use Rattle.api_order.specs.Ordered.{IsOrder}
 use Rattle.std.specs.Vec.Iter.{into_iter_items}
 use Rattle.host_model.specs.declared.order.Order.{Order}
 use Rattle.psched_world.specs.World.{Letter}
+use Rattle.rehearsal_model.specs.Scenes.{as_read}
+use Rattle.rehearsal_model.specs.Seen.{Seen}
 use Rattle.rehearsal_state.specs.Moved.{sent_of}
 use Rattle.rehearsal_state.proofs.MoveLemmas.{sent_more}
 use Rattle.rehearsal_state.proofs.turn.letters_of.Goals as goal
@@ -17,7 +19,7 @@ add_letter-requires-clause-order c =
 -- one more order is looked at
 pub loop-order-preserved : goal.loop-order-preserved
 loop-order-preserved c =
-    let b = c.args.now.now in
+    let b : Seen = as_read c.args.now.now in
     let config = c.args.config.now in
     let made : List Letter = c.loop-order.letters.items in
     let rest : List Order = into_iter_items c.next.new.self in

@@ -3,6 +3,7 @@ use Rattle.std.proofs.Common.{◌≡◌, ◌++◌}
 use Rattle.host_model.specs.declared.order.Order.{Order}
 use Rattle.api_order.specs.Ordered.{IsOrder}
 use Rattle.std.specs.Vec.Iter.{into_iter_items}
+use Rattle.rehearsal_model.specs.Scenes.{as_read}
 use Rattle.rehearsal_state.specs.Moved.{sent_of}
 use Rattle.rehearsal_state.proofs.turn.letters_of.Given as goal
 
@@ -12,5 +13,5 @@ invariant-loop-order l = record {
   can_next : (goal.iterator-loop-order).can_next l.order-iterator;
   is_finite : (goal.iterator-loop-order).is_finite l.order-iterator;
   left : All (λ (o : Order). IsOrder o.body) (into_iter_items l.order-iterator);
-  sent : sent_of l.now l.config l.fn.orders ≡ l.letters.items ++ sent_of l.now l.config (into_iter_items l.order-iterator);
+  sent : sent_of (as_read l.now) l.config l.fn.orders ≡ l.letters.items ++ sent_of (as_read l.now) l.config (into_iter_items l.order-iterator);
 }

@@ -1,9 +1,9 @@
-use Rattle.std.proofs.Common.{◌≡◌, ◌∙◌, Ok, ap, inl, inr}
+use Rattle.std.proofs.Common.{◌≡◌, ◌∙◌, Ok, ap}
 use Rattle.host_keep.specs.declared.call.HostCall.{HostCall}
 use Rattle.rehearsal_model.proofs.SceneLemmas.{config_stepped}
 use Rattle.rehearsal_model.specs.Seats.{answered, stepped}
 use Rattle.held_seats.proofs.OpenLemmas.{if_ok, on_ok}
-use Rattle.held_seats.proofs.StepLemmas.{broken_silent, broken_so, done_so, replied_so, unsynced_silent, unsynced_so}
+use Rattle.held_seats.proofs.StepLemmas.{done_so, faulted_so, replied_so}
 use Rattle.held_seats.proofs.seat.Seat.act.Goals.{in-Answered, in-Faulted}
 use Rattle.held_seats.proofs.seat.Seat.act.Goals as goal
 
@@ -14,10 +14,8 @@ returns-clause-reply c =
     elim c.match-branch-2.branch [
       | in-Answered w ↦ if_ok (λ o. o ≡ answered c.args.self.now c.args.clock c.args.input) _ _ w.result-is
           (replied_so _ call _ w.in-Answered.reply (c.step.ensures.done w.in-Answered.reply (c.in_ok-reply.was ∙ ap Ok w.in-Answered.is)) ∙ same)
-      | in-Faulted w ↦ if_ok (λ o. o ≡ answered c.args.self.now c.args.clock c.args.input) _ _ w.result-is (elim (c.step.ensures.faulted (c.in_ok-reply.was ∙ ap Ok w.in-Faulted.is)) [
-        | inl unsynced ↦ unsynced_silent _ call _ unsynced ∙ same
-        | inr broken ↦ broken_silent _ call _ broken ∙ same
-      ])
+      | in-Faulted w ↦ if_ok (λ o. o ≡ answered c.args.self.now c.args.clock c.args.input) _ _ w.result-is
+          ((faulted_so _ call _ (c.step.ensures.faulted (c.in_ok-reply.was ∙ ap Ok w.in-Faulted.is))).1 ∙ same)
     ]
 
 pub returns-clause-seat : goal.returns-clause-seat
@@ -26,10 +24,7 @@ returns-clause-seat c =
     let same = ap (λ x. stepped x c.args.clock c.args.input) c.self.view_is in
     elim c.match-branch-2.branch [
       | in-Answered w ↦ on_ok _ _ w.result-is (done_so _ call _ w.in-Answered.reply (c.step.ensures.done w.in-Answered.reply (c.in_ok-reply.was ∙ ap Ok w.in-Answered.is)) ∙ same)
-      | in-Faulted w ↦ on_ok _ _ w.result-is (elim (c.step.ensures.faulted (c.in_ok-reply.was ∙ ap Ok w.in-Faulted.is)) [
-        | inl unsynced ↦ unsynced_so _ call _ unsynced ∙ same
-        | inr broken ↦ broken_so _ call _ broken ∙ same
-      ])
+      | in-Faulted w ↦ on_ok _ _ w.result-is ((faulted_so _ call _ (c.step.ensures.faulted (c.in_ok-reply.was ∙ ap Ok w.in-Faulted.is))).0 ∙ same)
     ]
 
 pub returns-clause-config : goal.returns-clause-config
@@ -40,8 +35,5 @@ returns-clause-config c =
     elim c.match-branch-2.branch [
       | in-Answered w ↦ on_ok _ _ w.result-is
           (ap (λ x. x.state.config) (done_so _ call _ w.in-Answered.reply (c.step.ensures.done w.in-Answered.reply (c.in_ok-reply.was ∙ ap Ok w.in-Answered.is)) ∙ same) ∙ left)
-      | in-Faulted w ↦ on_ok _ _ w.result-is (elim (c.step.ensures.faulted (c.in_ok-reply.was ∙ ap Ok w.in-Faulted.is)) [
-        | inl unsynced ↦ ap (λ x. x.state.config) (unsynced_so _ call _ unsynced ∙ same) ∙ left
-        | inr broken ↦ ap (λ x. x.state.config) (broken_so _ call _ broken ∙ same) ∙ left
-      ])
+      | in-Faulted w ↦ on_ok _ _ w.result-is (ap (λ x. x.state.config) ((faulted_so _ call _ (c.step.ensures.faulted (c.in_ok-reply.was ∙ ap Ok w.in-Faulted.is))).0 ∙ same) ∙ left)
     ]

@@ -1,0 +1,5 @@
+use Rattle.rehearsal_moves.proofs.ResultLemmas.{on_ok}
+use Rattle.psched_rehearse.proofs.line.arm.Goals as goal
+
+pub returns-clause-scene : goal.returns-clause-scene
+returns-clause-scene c = λ hosts. on_ok c.add_said.result (c.in_ok-arm.ensures hosts)
