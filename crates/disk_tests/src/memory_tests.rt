@@ -49,26 +49,14 @@ static IMAGES: [(u64, &[u8], &[u8], &[u8]); 11] = [
     (10, b"abXmnop", b"abXmnoQ", b"abXmnop"),
 ];
 
-#[test]
-fn the_syncs_of_the_ten_calls(rt: HostRuntime) -> Result<(), Fail> {
-    let mut disk = disk_of(rt.alloc(), b"abcdefgh", &[])?;
-    assert!(rt; make_ten_calls(&mut disk).is_ok() && disk.calls() == 10);
-    for call in 1..11u64 {
-        let made = call <= disk.calls();
-        assert!(rt;
-            made && disk.was_sync(call) == (call == 4 || call == 9),
-            "{call}"
-        );
-    }
-    Ok(())
-}
-
+// The call after so many fails, so that they are all that were made.
 fn leaves(alloc: Global, calls: u64, image: Image, wanted: &[u8]) -> Result<bool, AllocError> {
     let mut disk = disk_of(alloc, b"abcdefgh", &[])?;
-    if make_ten_calls(&mut disk).is_err() || disk.calls() < calls {
+    disk.fail_at(Some(calls.saturating_add(1)));
+    if make_ten_calls(&mut disk).is_ok() != (calls == 10) {
         return Ok(false);
     }
-    match disk.crashed(calls, image) {
+    match disk.crashed(image) {
         Ok(left) => Ok(left.bytes() == wanted && left.calls() == 0),
         Err(_) => Ok(false),
     }

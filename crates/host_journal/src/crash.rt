@@ -81,8 +81,7 @@ pub fn crash_now(disk: MemoryDisk, image: Image) -> Result<MemoryDisk, Memory>
     ensures image { IfOk result (λ left. IsImage disk.history (bytes_now left.history)) }
     ensures crashed { IfOk result (λ left. IsCrashed left) }
 {
-    let calls = disk.calls();
-    disk.crashed(calls, image)
+    disk.crashed(image)
 }
 
 // The calls of an append before the one at which it stops, that one too where it is a write, and a crash.

@@ -101,6 +101,23 @@ impl KeptHost {
         }
     }
 
+    /// The disks behind an opening of which the call of the second disk after so many fails, where it makes more.
+    pub(crate) fn disks_behind(
+        alloc: Global,
+        clock: Moment,
+        disks: Disks,
+        calls: u64,
+    ) -> Result<Disks, TableFault>
+        requires { clock ≤ MAX_MOMENT }
+    {
+        let (first, mut second) = disks;
+        second.fail_at(Some(calls.saturating_add(1)));
+        match KeptHost::unless_fault(alloc, clock, (first, second))? {
+            Ok(host) => Ok(host.into_disks()),
+            Err(disks) => Ok(disks),
+        }
+    }
+
     pub(crate) fn config(&self) -> &Config
         ensures { result.now ≡ self.now }
     {
@@ -162,7 +179,8 @@ fn disk_of(alloc: Global, bytes: &[u8]) -> Result<MemoryDisk, TableFault> {
     Ok(MemoryDisk::new(alloc, bytes.to_vec(alloc)?, Vec::new(alloc)))
 }
 
-fn new_disks(alloc: Global) -> Result<Disks, TableFault> {
+/// Disks on which nothing is kept.
+pub(crate) fn new_disks(alloc: Global) -> Result<Disks, TableFault> {
     let first = disk_of(alloc, &FRESH_FIRST)?;
     let second = disk_of(alloc, &FRESH_SECOND)?;
     Ok((first, second))

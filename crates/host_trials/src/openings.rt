@@ -1,7 +1,7 @@
 //! What a crash in the first opening leaves.
 
 use crate::fault::TableFault;
-use crate::host::KeptHost;
+use crate::host::{KeptHost, new_disks};
 use ps_disks::image::Image;
 use std::alloc::Global;
 
@@ -10,10 +10,8 @@ const CALLS: u64 = 12;
 
 // Whether what a crash leaves after so many calls opens with one epoch.
 fn cut_letter(alloc: Global, calls: u64) -> Result<char, TableFault> {
-    let (first, second) = KeptHost::fresh(alloc, 1_000)?.into_disks();
-    let calls = calls.min(second.calls());
-    let second = second.crashed(calls, Image::Torn)?;
-    let host = KeptHost::on(alloc, 1_005, (first, second))?;
+    let (first, second) = KeptHost::disks_behind(alloc, 1_000, new_disks(alloc)?, calls)?;
+    let host = KeptHost::on(alloc, 1_005, (first, second.crashed(Image::Torn)?))?;
     let (_, _, epochs) = host.stands();
     if epochs == 1 { Ok('o') } else { Ok('?') }
 }

@@ -67,11 +67,11 @@ fn crash_letter(
     image: Image,
     books: &Books,
 ) -> Result<char, TableFault> {
-    let before = disks_before(alloc, step)?.1.calls();
-    let (first, second) = disks_after(alloc, step)?;
-    let calls = before.saturating_add(calls).min(second.calls());
-    let second = second.crashed(calls, image)?;
-    Ok(books.letter(&book_again(alloc, step, (first, second))?))
+    let clock = clock_of(step.line)?;
+    let before = disks_before(alloc, step)?;
+    let (first, second) = KeptHost::disks_behind(alloc, clock, before, calls)?;
+    let disks = (first, second.crashed(image)?);
+    Ok(books.letter(&book_again(alloc, step, disks)?))
 }
 
 fn put_fault_letters(

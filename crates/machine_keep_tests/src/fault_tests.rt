@@ -47,8 +47,7 @@ fn is_read(alloc: Global, call: u64, kept: bool) -> Result<bool, Memory> {
 
 fn crashed(pair: Pair, image: Image) -> Result<Pair, Memory> {
     let (first, second) = pair;
-    let (one, two) = (first.calls(), second.calls());
-    Ok((first.crashed(one, image)?, second.crashed(two, image)?))
+    Ok((first.crashed(image)?, second.crashed(image)?))
 }
 
 fn is_left(alloc: Global, call: u64, image: Image, kept: bool) -> Result<bool, Memory> {

@@ -127,22 +127,22 @@ fn what_is_set_after_a_fault_holds_for_the_next_step(rt: HostRuntime) -> Result<
     Ok(())
 }
 
-// The calls of the first disk that a crash lets stand of those since a byte was gathered, and whether the byte is kept: from
-// the sync behind its open gate on.
+// The calls of the first disk behind which a crash comes while a byte is gathered, since the next one fails, and whether the byte
+// is kept: from the sync behind its open gate on.
 static CRASHES: [(u64, bool); 5] = [(0, false), (1, false), (2, false), (3, false), (4, true)];
 
 fn crashed_after(alloc: Global, calls: u64) -> Result<Option<Pair>, Memory> {
     let Some(mut keep) = new_keep(alloc, 1_000)? else {
         return Ok(None);
     };
-    let before = keep.calls().0;
+    keep.fail_at(Some(calls.saturating_add(1)));
     let five = asked(alloc, Some(5))?;
-    if keep.apply(alloc, five) != Ok(0) {
+    let answered = keep.apply(alloc, five) == Ok(0);
+    if answered != (calls == 4) {
         return Ok(None);
     }
     let (first, second) = keep.into_disks();
-    let calls = before.saturating_add(calls).min(first.calls());
-    Ok(Some((first.crashed(calls, Image::Old)?, second)))
+    Ok(Some((first.crashed(Image::Old)?, second)))
 }
 
 fn each_crash(alloc: Global, crashes: &[(u64, bool)]) -> Result<bool, Memory> {

@@ -70,12 +70,22 @@ fn an_earlier_list_is_written_anew_at_its_first_opening(rt: HostRuntime) -> Resu
     Ok(())
 }
 
+// What an opening leaves that makes so many calls of the second disk, since the next one fails.
+fn cut_after(alloc: Global, calls: u64) -> Result<Pair, Memory> {
+    let (first, mut second) = pair_on(alloc, &EARLIER)?;
+    second.fail_at(Some(calls.saturating_add(1)));
+    match Kept::open(alloc, 1_000, first, second) {
+        Ok(keep) => Ok(keep.into_disks()),
+        Err(fault) => Ok((fault.first, fault.second)),
+    }
+}
+
 fn crashed_after(alloc: Global, calls: u64, image: Image) -> Result<bool, Memory> {
-    let Some((first, second)) = migrated(alloc)? else {
-        return Ok(false);
-    };
-    let calls = calls.min(second.calls());
-    Ok(has_bytes(alloc, (first, second.crashed(calls, image)?), &BYTES))
+    let (first, second) = cut_after(alloc, calls)?;
+    Ok(
+        second.calls() == calls.saturating_add(1).min(8)
+            && has_bytes(alloc, (first, second.crashed(image)?), &BYTES),
+    )
 }
 
 // A sync, and the seven calls of a snapshot.

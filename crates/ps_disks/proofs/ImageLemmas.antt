@@ -14,7 +14,7 @@ after_calls-push : (s : Standing) (log : List LoggedCall) (l : LoggedCall) → a
 after_calls-push s [] l = refl
 after_calls-push s (k ∷ log) l = after_calls-push (after_call s k) log l
 
-standing-push : (h : History) (call : DiskCall) (done : Bool) → standing (with_call h call done) ≡ after_call (standing h) (record { call = call; done = done })
+pub standing-push : (h : History) (call : DiskCall) (done : Bool) → standing (with_call h call done) ≡ after_call (standing h) (record { call = call; done = done })
 standing-push h call done = after_calls-push (record { fixed = h.start; since = [] }) h.log (record { call = call; done = done })
 
 parts-push : (bytes : List ℕ) (log : List LoggedCall) (l : LoggedCall) (c : List ℕ) → ArePartsOf bytes (log ++ l ∷ []) c → (d : List ℕ) × ArePartsOf bytes log d × MayMake l.done l.call d c

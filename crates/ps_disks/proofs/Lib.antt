@@ -1,6 +1,6 @@
 pub mod DiskLemmas
-mod HistoryLemmas
 mod ImageLemmas
 mod MemoryDiskLemmas
 mod RackLemmas
+mod RecentLemmas
 pub mod RunLemmas

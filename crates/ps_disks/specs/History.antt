@@ -1,10 +1,10 @@
 -- The calls of a disk in memory, and the images that they leave.
-use Rattle.std.specs.Prelude.{◌≡◌, ℕ, ◌+◌, ◌/◌, ◌^◌, ◌<◌, ◌≤◌, ⊤, Bool, true, false, if◌then◌else◌, IsTrue, List, [], ◌∷◌, ◌++◌, length, take, Option, Some, None, Vec}
-use Rattle.std.specs.declared.alloc.Global.{Global}
+use Rattle.std.specs.Prelude.{◌≡◌, ℕ, ◌+◌, ◌/◌, ◌^◌, ◌<◌, ◌≤◌, ⊤, Bool, true, false, if◌then◌else◌, IsTrue, List, [], ◌∷◌, ◌++◌, length, map, min, take}
 use Rattle.ps_disks.specs.Disk.{written, done_by, PartOf}
 use Rattle.ps_disks.specs.declared.disk.DiskCall.{DiskCall}
 use Rattle.ps_disks.specs.declared.disk.DiskCall.TheVariants.{Write, Cut, Sync}
 use Rattle.ps_disks.specs.declared.history.LoggedCall.{LoggedCall}
+use Rattle.ps_disks.specs.declared.history.RecentCall.{RecentCall}
 use Rattle.ps_disks.specs.declared.image.Image.{Image}
 use Rattle.ps_disks.specs.declared.image.Image.TheVariants.{Old, New, Torn}
 
@@ -54,11 +54,6 @@ abbrev pub is_sync : DiskCall → Bool
 is_sync (Write at bytes) = false
 is_sync (Cut len) = false
 is_sync Sync = true
-
--- the first of these calls is a sync
-abbrev pub begins_with_sync : List LoggedCall → Bool
-begins_with_sync [] = false
-begins_with_sync (l ∷ log) = is_sync l.call
 
 -- a sync that was done
 abbrev pub fixes : LoggedCall → Bool
@@ -114,7 +109,30 @@ abbrev pub AllEndInReach : List LoggedCall → Type 0
 AllEndInReach [] = ⊤
 AllEndInReach (l ∷ log) = (IsTrue l.done → EndsInReach l.call) × AllEndInReach log
 
--- the bytes before the first call: those that were kept, where there was one
-abbrev pub start_of : Option (Vec ℕ Global) → List ℕ → List ℕ
-start_of None bytes = bytes
-start_of (Some first) bytes = first.items
+-- ---- undoing calls
+-- from which place on a call changes so many bytes
+abbrev pub changed_from : DiskCall → ℕ → ℕ
+changed_from (Write at bytes) len = min at len
+changed_from (Cut left) len = min left len
+changed_from Sync len = len
+
+abbrev pub taken_from : LoggedCall → ℕ → ℕ
+taken_from l len = if l.done then changed_from l.call len else len
+
+abbrev pub undone_one : RecentCall → List ℕ → List ℕ
+undone_one r bytes = take r.at bytes ++ r.tail.items
+
+-- the last of these calls first
+abbrev pub undone : List RecentCall → List ℕ → List ℕ
+undone [] bytes = bytes
+undone (r ∷ recent) bytes = undone_one r (undone recent bytes)
+
+-- these are the calls since the last sync, and undone they leave what it fixed
+abbrev pub IsStanding : History → List RecentCall → List ℕ → Type 0
+IsStanding h recent bytes = standing h ≡ record { fixed = undone recent bytes; since = map (λ r. r.logged) recent }
+
+-- the bytes of each image, behind these calls since the last sync
+abbrev pub left_by : Image → List RecentCall → List ℕ → List ℕ
+left_by Old recent bytes = undone recent bytes
+left_by New recent bytes = bytes
+left_by Torn recent bytes = half_replayed (undone recent bytes) (map (λ r. r.logged) recent)

@@ -1,13 +1,15 @@
 //! The bytes of a disk in memory, and the calls that made them.
-ghost use Rattle.std.specs.Prelude.{◌≡◌, ◌+◌, ◌-◌, ◌≤◌, ◌++◌, [], ◌∷◌, ℕ, List, length, take, drop, replicate, min, IsTrue, IfOk, OnOk, OnErr, if◌then◌else◌};
-ghost use Rattle.ps_disks.specs.Disk.{AreBounded, ReadsAt, written, done_by};
-ghost use Rattle.ps_disks.specs.History.{with_call, first_calls, begins_with_sync, LeftSince, bytes_now, effect, replayed, half_replayed, half_done_by, fixes, standing, IsImage, image_bytes, EndsInReach, start_of};
+ghost use Rattle.std.specs.Prelude.{◌≡◌, ◌+◌, ◌-◌, ◌≤◌, ◌++◌, [], ◌∷◌, ℕ, List, length, map, take, drop, replicate, min, IsTrue, IfOk, OnOk, OnErr};
+ghost use Rattle.ps_disks.specs.Disk.{AreBounded, written, done_by};
+ghost use Rattle.ps_disks.specs.History.{EndsInReach, History as Story, IsImage, IsStanding, bytes_now, effect, fixes, half_done_by, half_replayed, image_bytes, left_by, taken_from, undone, undone_one, with_call};
+ghost use Rattle.ps_disks.specs.declared.history.RecentCall.{RecentCall as Recent};
 
 use crate::disk::DiskCall;
 use crate::image::Image;
 use ps_time::memory::Memory;
 use std::alloc::Global;
 use std::marker::Model;
+use std::snapshot::Snapshot;
 
 /// A call, and whether it was done. One that failed did nothing.
 #[derive(Drop)]
@@ -16,34 +18,49 @@ pub struct LoggedCall {
     pub done: bool,
 }
 
+/// A call that no sync has made sure of, and what undoes it: the bytes from this place on give way to this tail.
+#[derive(Drop)]
+pub struct RecentCall {
+    pub logged: LoggedCall,
+    pub at: usize,
+    pub tail: Vec<u8>,
+}
+
+/// Of the calls those since the last sync alone take memory.
 #[derive(Drop)]
 pub struct History {
     alloc: Global,
-    // The bytes before the first call, once there was one.
-    first: Option<Vec<u8>>,
     bytes: Vec<u8>,
-    log: Vec<LoggedCall>,
+    recent: Vec<RecentCall>,
+    // For proofs alone: the bytes before the first call, and all calls.
+    start: Snapshot<Vec<u8>>,
+    log: Vec<Snapshot<LoggedCall>>,
 }
 
 impl Model for History {
+    ghost use Rattle.std.specs.Prelude.{map};
+    ghost use Rattle.ps_disks.specs.History.{AllEndInReach, History as Story, IsStanding, bytes_now};
     ghost use Rattle.std.specs.Prelude.{◌≡◌};
-    ghost use Rattle.ps_disks.specs.History.{History as Story, start_of, replayed, AllEndInReach};
 
     ghost Value = { Story };
 
-    ghost view = { λ h. record { start = start_of h.first h.bytes.items; log = h.log.items } };
+    ghost view = { λ h. record { start = h.start.value.items; log = map (λ s. s.value) h.log.items } };
 
-    ghost invariant = { λ h. (replayed (start_of h.first h.bytes.items) h.log.items ≡ h.bytes.items) × AllEndInReach h.log.items };
+    ghost invariant = { λ h. (bytes_now (record { start = h.start.value.items; log = map (λ s. s.value) h.log.items }) ≡ h.bytes.items)
+        × AllEndInReach (map (λ s. s.value) h.log.items)
+        × IsStanding (record { start = h.start.value.items; log = map (λ s. s.value) h.log.items }) h.recent.items h.bytes.items };
 }
 
 impl History {
     pub fn new(alloc: Global, bytes: Vec<u8>) -> History
         ensures { result ≡ record { start = bytes.items; log = [] } }
     {
+        let start = Snapshot::of(&bytes);
         History {
             alloc,
-            first: None,
             bytes,
+            recent: Vec::new(alloc),
+            start,
             log: Vec::new(alloc),
         }
     }
@@ -64,22 +81,17 @@ impl History {
         self.log.len() as u64
     }
 
-    /// Whether the call after so many others was a sync.
-    pub fn is_sync(&self, before: usize) -> bool
-        requires { before ≤ length self.now.log }
-        ensures { result ≡ begins_with_sync (drop before self.now.log) }
-    {
-        begins_with_sync(&self.log[before..])
-    }
-
     /// Makes a call, or notes one that failed. Where memory is wanting nothing is changed.
     pub fn add(&mut self, call: DiskCall, done: bool) -> Result<(), Memory>
         requires { IsTrue done → EndsInReach call }
         ensures ok { OnOk result (self.new ≡ with_call self.old call done) }
         ensures err { OnErr result (self.new ≡ self.old) }
     {
-        keep_first(self.alloc, &mut self.first, &self.bytes)?;
-        log_call(&mut self.bytes, &mut self.log, LoggedCall { call, done })?;
+        self.log.reserve(1)?;
+        let logged = LoggedCall { call, done };
+        let noted = Snapshot::of(&logged);
+        make_call(self.alloc, &mut self.bytes, &mut self.recent, logged)?;
+        self.log.push(noted)?;
         Ok(())
     }
 
@@ -90,53 +102,84 @@ impl History {
         let _length = self.bytes.len();
     }
 
-    /// What a crash leaves after so many calls.
-    pub fn crashed(self, calls: u64, image: Image) -> Result<Vec<u8>, Memory>
-        requires { calls ≤ length self.log }
-        ensures bytes { IfOk result (λ bytes. bytes.items ≡ image_bytes image (first_calls calls self)) }
-        ensures image { IfOk result (λ bytes. IsImage (first_calls calls self) bytes.items) }
-        ensures left { IfOk result (λ bytes. LeftSince self calls bytes.items) }
+    /// What a crash leaves.
+    pub fn crashed(self, image: Image) -> Result<Vec<u8>, Memory>
+        ensures bytes { IfOk result (λ bytes. bytes.items ≡ image_bytes image self) }
+        ensures image { IfOk result (λ bytes. IsImage self bytes.items) }
     {
-        let start = first_bytes(self.first, self.bytes);
-        left_by_crash(start, &self.log[..calls as usize], image)
+        let History {
+            alloc: _,
+            bytes,
+            recent,
+            start: _,
+            log: _,
+        } = self;
+        left_by_crash(bytes, &recent, image)
     }
 }
 
-fn keep_first(alloc: Global, first: &mut Option<Vec<u8>>, bytes: &[u8]) -> Result<(), Memory>
-    ensures ok { OnOk result ((other : List ℕ) → start_of first.new other ≡ start_of first.old bytes.now) }
-    ensures err { OnErr result (start_of first.new bytes.now ≡ start_of first.old bytes.now) }
-{
-    if first.is_none() {
-        *first = Some(bytes.to_vec(alloc)?);
-    }
-    Ok(())
-}
-
-// Where memory is wanting neither is changed.
-fn log_call(
+// Makes a call, and keeps what undoes it until a sync makes sure of it. Where memory is wanting neither is changed.
+fn make_call(
+    alloc: Global,
     bytes: &mut Vec<u8>,
-    log: &mut Vec<LoggedCall>,
+    recent: &mut Vec<RecentCall>,
     logged: LoggedCall,
 ) -> Result<(), Memory>
     ensures bytes { OnOk result (bytes.new.items ≡ effect logged bytes.old.items) }
-    ensures log { OnOk result (log.new.items ≡ log.old.items ++ logged ∷ []) }
+    ensures stands { OnOk result ((h : Story) → IsStanding h recent.old.items bytes.old.items → bytes_now h ≡ bytes.old.items → IsStanding (with_call h logged.call logged.done) recent.new.items bytes.new.items) }
     ensures bytes_err { OnErr result (bytes.new.items ≡ bytes.old.items) }
-    ensures log_err { OnErr result (log.new.items ≡ log.old.items) }
+    ensures recent_err { OnErr result (recent.new.items ≡ recent.old.items) }
 {
-    log.reserve(1)?;
-    if logged.done {
-        make(bytes, &logged.call)?;
+    if is_fixing(&logged) {
+        recent.clear();
+        return Ok(());
     }
-    log.push(logged)?;
+    log_call(alloc, bytes, recent, logged)?;
     Ok(())
 }
 
-fn first_bytes(first: Option<Vec<u8>>, bytes: Vec<u8>) -> Vec<u8>
-    ensures { result.items ≡ start_of first bytes.items }
+// Makes a call that makes sure of nothing, and keeps what undoes it. Where memory is wanting neither is changed.
+fn log_call(
+    alloc: Global,
+    bytes: &mut Vec<u8>,
+    recent: &mut Vec<RecentCall>,
+    logged: LoggedCall,
+) -> Result<(), Memory>
+    ensures bytes { OnOk result (bytes.new.items ≡ effect logged bytes.old.items) }
+    ensures since { OnOk result (map (λ (r : Recent). r.logged) recent.new.items ≡ map (λ (r : Recent). r.logged) recent.old.items ++ logged ∷ []) }
+    ensures undone { OnOk result (undone recent.new.items bytes.new.items ≡ undone recent.old.items bytes.old.items) }
+    ensures bytes_err { OnErr result (bytes.new.items ≡ bytes.old.items) }
+    ensures since_err { OnErr result (recent.new.items ≡ recent.old.items) }
 {
-    match first {
-        Some(first) => first,
-        None => bytes,
+    recent.reserve(1)?;
+    let at = taken_from(&logged, bytes.len());
+    let tail = tail_of(alloc, bytes, at)?;
+    if logged.done {
+        make(bytes, &logged.call)?;
+    }
+    recent.push(RecentCall { logged, at, tail })?;
+    Ok(())
+}
+
+// The bytes from this place on.
+fn tail_of(alloc: Global, bytes: &[u8], at: usize) -> Result<Vec<u8>, Memory>
+    requires { at ≤ length bytes.now }
+    ensures { IfOk result (λ tail. tail.items ≡ drop at bytes.now) }
+{
+    Ok(bytes[at..].to_vec(alloc)?)
+}
+
+// From which place on a call changes so many bytes.
+fn taken_from(logged: &LoggedCall, len: usize) -> usize
+    ensures { result ≡ taken_from logged.now len }
+{
+    if !logged.done {
+        return len;
+    }
+    match &logged.call {
+        DiskCall::Write(at, _) => len.min(*at as usize),
+        DiskCall::Cut(left) => len.min(*left as usize),
+        DiskCall::Sync => len,
     }
 }
 
@@ -202,42 +245,38 @@ fn grow(bytes: &mut Vec<u8>, at: usize, tail: &[u8]) -> Result<(), Memory>
     Ok(())
 }
 
-fn left_by_crash(start: Vec<u8>, log: &[LoggedCall], image: Image) -> Result<Vec<u8>, Memory>
-    ensures { IfOk result (λ bytes. bytes.items ≡ image_bytes image (record { start = start.items; log = log.now })) }
+// What a crash leaves of bytes behind these calls.
+fn left_by_crash(bytes: Vec<u8>, recent: &[RecentCall], image: Image) -> Result<Vec<u8>, Memory>
+    ensures { IfOk result (λ left. left.items ≡ left_by image recent.now bytes.items) }
 {
-    let mut bytes = start;
-    let fixed = replay_fixed(&mut bytes, log)?;
-    let since = &log[fixed..];
+    let mut bytes = bytes;
     match image {
-        Image::Old => {}
-        Image::New => replay(&mut bytes, since)?,
-        Image::Torn => replay_half(&mut bytes, since)?,
+        Image::New => {}
+        Image::Old => undo_all(&mut bytes, recent)?,
+        Image::Torn => {
+            undo_all(&mut bytes, recent)?;
+            replay_half(&mut bytes, recent)?;
+        }
     }
     Ok(bytes)
 }
 
-// Replays the calls that a sync has fixed, and answers how many they are, syncs too.
-fn replay_fixed(bytes: &mut Vec<u8>, log: &[LoggedCall]) -> Result<usize, Memory>
-    ensures count { IfOk result (λ n. n ≤ length log.now) }
-    ensures standing { IfOk result (λ n. standing (record { start = bytes.old.items; log = log.now }) ≡ record { fixed = bytes.new.items; since = drop n log.now }) }
+// The last call is undone first.
+fn undo_all(bytes: &mut Vec<u8>, recent: &[RecentCall]) -> Result<(), Memory>
+    ensures { OnOk result (bytes.new.items ≡ undone recent.now bytes.old.items) }
 {
-    let mut fixed = 0;
-    for (at, logged) in log.iter().enumerate() {
-        if is_fixing(logged) {
-            replay(bytes, &log[fixed..at])?;
-            fixed = at + 1;
-        }
+    for place in (0..recent.len()).rev() {
+        undo(bytes, &recent[place])?;
     }
-    Ok(fixed)
+    Ok(())
 }
 
-fn begins_with_sync(log: &[LoggedCall]) -> bool
-    ensures { result ≡ begins_with_sync log.now }
+fn undo(bytes: &mut Vec<u8>, recent: &RecentCall) -> Result<(), Memory>
+    ensures { OnOk result (bytes.new.items ≡ undone_one recent.now bytes.old.items) }
 {
-    match log.first() {
-        Some(logged) => matches!(&logged.call, DiskCall::Sync),
-        None => false,
-    }
+    bytes.truncate(recent.at);
+    bytes.extend_from_slice(&recent.tail)?;
+    Ok(())
 }
 
 fn is_fixing(logged: &LoggedCall) -> bool
@@ -246,23 +285,12 @@ fn is_fixing(logged: &LoggedCall) -> bool
     logged.done && matches!(&logged.call, DiskCall::Sync)
 }
 
-fn replay(bytes: &mut Vec<u8>, log: &[LoggedCall]) -> Result<(), Memory>
-    ensures { OnOk result (bytes.new.items ≡ replayed bytes.old.items log.now) }
+fn replay_half(bytes: &mut Vec<u8>, recent: &[RecentCall]) -> Result<(), Memory>
+    ensures { OnOk result (bytes.new.items ≡ half_replayed bytes.old.items (map (λ (r : Recent). r.logged) recent.now)) }
 {
-    for logged in log {
-        if logged.done {
-            make(bytes, &logged.call)?;
-        }
-    }
-    Ok(())
-}
-
-fn replay_half(bytes: &mut Vec<u8>, log: &[LoggedCall]) -> Result<(), Memory>
-    ensures { OnOk result (bytes.new.items ≡ half_replayed bytes.old.items log.now) }
-{
-    for logged in log {
-        if logged.done {
-            make_half(bytes, &logged.call)?;
+    for call in recent {
+        if call.logged.done {
+            make_half(bytes, &call.logged.call)?;
         }
     }
     Ok(())

@@ -4,7 +4,7 @@ ghost use Rattle.std.specs.Io.{ReadsAtMost};
 ghost use Rattle.ps_disks.specs.Disk.{ReadsAt, written, Torn, Shortened, Follows, NoMore, Only, AreBounded, Elapses, CountsFault, Tells};
 ghost use Rattle.ps_ports.specs.Causes.{counted, raised};
 ghost use Rattle.ps_ports.specs.Memory.{called, fails_next};
-ghost use Rattle.ps_disks.specs.History.{IsImage, LeftSince, begins_with_sync, bytes_now, first_calls, image_bytes};
+ghost use Rattle.ps_disks.specs.History.{IsImage, LeftSince, bytes_now, image_bytes};
 ghost use Rattle.ps_disks.specs.MemoryDisk.{new_disk, armed, armed_number, after_read, after_starved, ends_too_far, is_to_fail, Makes, reopened, told_calls};
 ghost use Rattle.ps_disks.specs.Run.{IsArmed, Went};
 ghost use Rattle.ps_disks.specs.declared.disk.DiskCall.TheVariants.{Write, Cut, Sync};
@@ -20,8 +20,8 @@ use ps_time::memory::Memory;
 use std::alloc::Global;
 use std::marker::Model;
 
-/// A file in memory, which keeps its writes, cuts and syncs, and gives what a crash after any of them
-/// leaves. A call that finds no memory fails.
+/// A file in memory, which keeps its writes and cuts since the last sync, and gives what a crash leaves of them. A call that
+/// finds no memory fails.
 pub struct MemoryDisk {
     history: History,
     calls: FailingCalls,
@@ -105,16 +105,6 @@ impl MemoryDisk {
         self.starved
     }
 
-    /// Whether one of the writes, cuts and syncs was a sync, the first of them being number 1. A stop that
-    /// comes into a sync leaves it undone, one that comes into a write or a cut may have done it.
-    pub fn was_sync(&self, call: u64) -> bool
-        requires counted { 1 ≤ call }
-        requires made { call ≤ length self.now.history.log }
-        ensures { result ≡ begins_with_sync (drop (call - 1) self.now.history.log) }
-    {
-        self.history.is_sync((call - 1) as usize)
-    }
-
     /// Lets one of the writes, cuts and syncs fail, numbered from 1 from now on, or none.
     pub fn fail_at(&mut self, call: Option<u64>)
         ensures armed { self.new ≡ armed self.old (armed_number call) }
@@ -123,17 +113,15 @@ impl MemoryDisk {
         self.until_fault = call.unwrap_or(0);
     }
 
-    /// What a crash leaves after the first `calls` writes, cuts and syncs, as a disk of which no call
-    /// is to fail.
-    pub fn crashed(self, calls: u64, image: Image) -> Result<MemoryDisk, Memory>
-        requires { calls ≤ length self.history.log }
-        ensures disk { IfOk result (λ disk. disk ≡ new_disk (image_bytes image (first_calls calls self.history)) []) }
-        ensures image { IfOk result (λ disk. IsImage (first_calls calls self.history) (bytes_now disk.history)) }
+    /// What a crash leaves, as a disk of which no call is to fail.
+    pub fn crashed(self, image: Image) -> Result<MemoryDisk, Memory>
+        ensures disk { IfOk result (λ disk. disk ≡ new_disk (image_bytes image self.history) []) }
+        ensures image { IfOk result (λ disk. IsImage self.history (bytes_now disk.history)) }
         ensures size { IfOk result (λ disk. AreBounded (IsImage disk.history)) }
         ensures calm { IfOk result (λ disk. IsArmed disk 0) }
 
-        // The same in the words of the trait: these bytes are left since that moment, and then only these.
-        ensures left { IfOk result (λ disk. ⟦<MemoryDisk as Disk>⟧.left_since self calls (⟦<MemoryDisk as Disk>⟧.seen disk)) }
+        // The same in the words of the trait: a crash may leave these bytes, and then only these.
+        ensures left { IfOk result (λ disk. ⟦<MemoryDisk as Disk>⟧.may_leave self (⟦<MemoryDisk as Disk>⟧.seen disk)) }
         ensures only { IfOk result (λ disk. Only (⟦<MemoryDisk as Disk>⟧.seen disk) (⟦<MemoryDisk as Disk>⟧.may_leave disk)) }
     {
         let alloc = self.history.alloc();
@@ -144,7 +132,7 @@ impl MemoryDisk {
             faults: _,
             starved: _,
         } = self;
-        let bytes = history.crashed(calls, image)?;
+        let bytes = history.crashed(image)?;
         Ok(MemoryDisk::new(alloc, bytes, Vec::new(alloc)))
     }
 

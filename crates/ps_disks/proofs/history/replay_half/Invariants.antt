@@ -1,6 +1,7 @@
-use Rattle.std.proofs.Common.{◌≡◌, drop}
+use Rattle.std.proofs.Common.{◌≡◌, drop, map}
 use Rattle.ps_disks.specs.History.{half_replayed}
+use Rattle.ps_disks.specs.declared.history.RecentCall.{RecentCall}
 use Rattle.ps_disks.proofs.history.replay_half.Given as goal
 
-abbrev pub invariant-loop-logged : goal.invariant-loop-logged
-invariant-loop-logged l = half_replayed l.bytes.items (drop l.logged-index l.log) ≡ half_replayed l.fn.bytes.items l.log
+abbrev pub invariant-loop-call : goal.invariant-loop-call
+invariant-loop-call l = half_replayed l.bytes.items (map (λ (r : RecentCall). r.logged) (drop l.call-index l.recent)) ≡ half_replayed l.fn.bytes.items (map (λ (r : RecentCall). r.logged) l.recent)
