@@ -230,7 +230,9 @@ fn run_event(
     match event {
         ScriptLine::Host { .. } => add_ok(report, line),
         ScriptLine::Tools { host, tools } => retool(alloc, now, *host, tools, line, report),
-        ScriptLine::Limits { host, limits } => limit(alloc, now, *host, limits, line, report),
+        ScriptLine::Limits { host, limits } => {
+            limit(alloc, now, *host, limits.limits(), line, report)
+        }
         ScriptLine::Turn { at, host } => take_turn(alloc, hosts, now, *host, *at, line, report),
         ScriptLine::Crash { at: _, host, stop } => arm(now, *host, *stop, line, report),
         ScriptLine::Fail { at: _, host, call } => fail(now, *host, *call, line, report),
