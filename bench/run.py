@@ -1,29 +1,37 @@
 #!/usr/bin/env python3
 """Times `psched rehearse` on scripts of 5,000 to 50,000 bookings of three kinds, on one host that allows everything,
-beside a plain program of the same semantics with sorted maps, in one run, and prints seconds and ratios. Both must print the
-same report. For the mixed kind up to 20,000 a second plain program, which passes over all rows, must print it too.
+beside a plain program of the same semantics with sorted maps, in one run, and prints seconds of the processor and ratios. Both
+must print the same report. For the mixed kind up to 20,000 a second plain program, which passes over all rows, must print it too.
 
 usage: run.py PROGRAM    (make bench gives build/psched)
 """
+import os
 import pathlib
 import subprocess
 import sys
 import tempfile
-import time
 
 HERE = pathlib.Path(__file__).resolve().parent
 # How many bookings of each kind.
 SIZES = {kind: [5_000, 20_000, 50_000] for kind in ("mixed", "lapsing", "touching")}
-ROUNDS = 3
+ROUNDS = 9
 
 
 def timed(words: list[str], script: bytes) -> tuple[float, bytes]:
-    """The least of some runs, in seconds, and what was printed."""
+    """The least of some runs, in seconds of the processor, and what was printed."""
     best, printed = float("inf"), b""
-    for _ in range(ROUNDS):
-        begin = time.perf_counter()
-        done = subprocess.run(words, input=script, stdout=subprocess.PIPE, check=True)
-        best, printed = min(best, time.perf_counter() - begin), done.stdout
+    with tempfile.TemporaryFile() as source:
+        source.write(script)
+        for _ in range(ROUNDS):
+            source.seek(0)
+            with tempfile.TemporaryFile() as target:
+                child = subprocess.Popen(words, stdin=source, stdout=target)
+                _, status, usage = os.wait4(child.pid, 0)
+                if status != 0:
+                    sys.exit(f"{words}: status {status}")
+                best = min(best, usage.ru_utime + usage.ru_stime)
+                target.seek(0)
+                printed = target.read()
     return best, printed
 
 

@@ -13,7 +13,7 @@ import tempfile
 
 TASKS = 2_000
 PART = 100
-ROUNDS = 15
+ROUNDS = 60
 POST = '{{"schedule":{{"start":"2001-09-09T01:46:40Z","slip":"PT1H"}},"test":{{"type":"idle","spec":{{"duration":"PT{}S"}}}}}}'
 
 
