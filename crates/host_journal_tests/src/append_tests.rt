@@ -79,26 +79,28 @@ fn the_bytes_of_an_append(rt: HostRuntime) -> Result<(), Fail> {
     check_appends(rt.alloc(), &APPENDS)
 }
 
-// After so many calls on the first disk, of which the first is the sync of the opening and four are the
-// append's: whether the record stands in the old image, in the new one and in the torn one.
-static STOPS: [(u64, bool, bool, bool); 6] = [
+// After so many of the four calls that an append makes on the first disk: whether the record stands in the old image, in the
+// new one and in the torn one.
+static STOPS: [(u64, bool, bool, bool); 5] = [
     (0, false, false, false),
     (1, false, false, false),
     (2, false, false, false),
-    (3, false, false, false),
-    (4, false, true, false),
-    (5, true, true, true),
+    (3, false, true, false),
+    (4, true, true, true),
 ];
 
+// The call after so many fails, so that they are all that were made.
 fn left(alloc: Global, calls: u64, image: Image) -> Result<Option<Pair>, Memory> {
-    let Some(journal) = appended(alloc, &FRESH_FIRST)? else {
+    let Some(mut journal) = journal_on(alloc, &FRESH_FIRST, &FRESH_SECOND)? else {
         return Ok(None);
     };
-    let (first, second) = journal.into_disks();
-    if first.calls() < calls {
+    journal.fail_at(Some(calls.saturating_add(1)));
+    if add(&mut journal, &[1, 2])? != (calls == 4) {
         return Ok(None);
     }
-    Ok(Some((first.crashed(calls, image)?, second)))
+    journal.fail_at(None);
+    let (first, second) = journal.into_disks();
+    Ok(Some((first.crashed(image)?, second)))
 }
 
 fn is_left(alloc: Global, calls: u64, image: Image, stands: bool) -> Result<bool, Memory> {

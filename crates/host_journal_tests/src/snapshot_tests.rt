@@ -83,29 +83,31 @@ fn has_image(alloc: Global, pair: Pair, stands: bool) -> Result<bool, Memory> {
     }
 }
 
-// After so many calls on the second disk, of which the first is the sync of the opening and seven are
-// the snapshot's: whether it stands in the old image, in the new one and in the torn one.
-static STOPS: [(u64, bool, bool, bool); 9] = [
+// After so many of the seven calls that a snapshot makes on the second disk: whether it stands in the old image, in the new
+// one and in the torn one.
+static STOPS: [(u64, bool, bool, bool); 8] = [
     (0, false, false, false),
     (1, false, false, false),
     (2, false, false, false),
     (3, false, false, false),
     (4, false, false, false),
     (5, false, false, false),
-    (6, false, false, false),
-    (7, false, true, false),
-    (8, true, true, true),
+    (6, false, true, false),
+    (7, true, true, true),
 ];
 
+// The call after so many fails, so that they are all that were made.
 fn left(alloc: Global, calls: u64, image: Image) -> Result<Option<Pair>, Memory> {
-    let Some(journal) = snapped(alloc, &ONE_RECORD, &OLDER)? else {
+    let Some(mut journal) = journal_on(alloc, &ONE_RECORD, &OLDER)? else {
         return Ok(None);
     };
-    let (first, second) = journal.into_disks();
-    if second.calls() < calls {
+    journal.fail_at(Some(calls.saturating_add(1)));
+    if snap(&mut journal, &[0xab])? != (calls == 7) {
         return Ok(None);
     }
-    Ok(Some((first, second.crashed(calls, image)?)))
+    journal.fail_at(None);
+    let (first, second) = journal.into_disks();
+    Ok(Some((first, second.crashed(image)?)))
 }
 
 fn is_left(alloc: Global, calls: u64, image: Image, stands: bool) -> Result<bool, Memory> {
