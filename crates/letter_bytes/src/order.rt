@@ -1,6 +1,7 @@
 //! Orders as bytes.
-ghost use Rattle.std.specs.Prelude.{◌≡◌, ◌≤◌, All, IfErr, IfOk, IfSome, List, option_map, true, ℕ};
+ghost use Rattle.std.specs.Prelude.{◌≡◌, ◌≤◌, All, IfErr, IfOk, IfSome, IsTrue, List, Some, false, length, option_map, true, ℕ};
 ghost use Rattle.ps_time.specs.Name.{is_name};
+ghost use Rattle.ps_time.specs.Numbers.{most_request_bytes};
 ghost use Rattle.ps_time.specs.declared.moment.TheConstants.{MAX_MOMENT};
 ghost use Rattle.ps_http.specs.Answer.{IsMessage, requests};
 ghost use Rattle.ps_http.specs.Sendable.{IsSendable};
@@ -14,6 +15,7 @@ ghost use Rattle.api_law.specs.Sent.{HasKeys};
 ghost use Rattle.api_order.specs.Meant.{IsUnderstood, KeepsBounds, Knows};
 ghost use Rattle.api_order.specs.Ordered.{IsOrder, order_request_of, peer_named};
 ghost use Rattle.letter_bytes.specs.Carried.{CarriesFrom, CarriesOrder, letter_limits};
+ghost use Rattle.letter_bytes.specs.Texts.{HasWidth, orders_texts};
 
 use crate::read::{MOST_BODY, read_request};
 use api_input::refusal::Refusal;
@@ -22,7 +24,7 @@ use api_law::laws::law_request;
 use api_order::request::{find_named, order_request};
 use host_model::config::{Config, Peer};
 use host_model::input::Input;
-use host_model::order::Order;
+use host_model::order::{Order, OrderBody};
 use ps_http::law::law_requests_read_again;
 use ps_http::message::Request;
 use ps_http::reader::FieldSpans;
@@ -55,8 +57,44 @@ impl SentOrder {
     }
 }
 
-// No order's body comes near the limit: its texts are the material of a test, of at most 8,192 bytes, an address of at most 255, and
-// names; each byte of them is written with six at most. One that were longer is told as want of memory.
+// Whether the order tells texts for whose length there is no rule.
+fn orders_texts(body: &OrderBody) -> bool
+    ensures { result ≡ orders_texts body.now }
+{
+    match body {
+        OrderBody::Propose(_) => true,
+        OrderBody::Material(_) => true,
+        _ => false,
+    }
+}
+
+// The priority of a question has its width, as that of every value has. Does nothing.
+fn order_width(body: &OrderBody)
+    ensures { HasWidth body.now }
+{
+    match body {
+        OrderBody::Free(question) => {
+            let _priority = question.priority;
+        }
+        _ => {}
+    }
+}
+
+// Whether the body is within the limit. That of a question always is, and those of most others are empty. Only a proposal and material are
+// measured: what is known of an order (`IsOrder`) doesn't say how long the tool and the asker of a proposal are, nor how long material is.
+fn is_short(config: &Config, order: &Order, request: &Request) -> bool
+    requires request { order_request_of config.now order.now ≡ Some request.now }
+    requires order { IsOrder order.now.body }
+    ensures short { IsTrue result → length request.now.body ≤ most_request_bytes }
+    ensures measured { orders_texts order.now.body ≡ false → IsTrue result }
+{
+    order_width(&order.body);
+    if orders_texts(&order.body) {
+        return request.body.len() <= MOST_BODY as usize;
+    }
+    true
+}
+
 fn write_request(
     alloc: Global,
     config: &Config,
@@ -65,13 +103,14 @@ fn write_request(
     authority: &str,
 ) -> Result<Items<u8>, Memory>
     requires request { order_request_of config.now order.now ≡ Some request.now }
+    requires order { IsOrder order.now.body }
     requires keys { HasKeys config.now }
     requires authority { is_name authority.now ≡ true }
     ensures { IfOk result (λ bytes. IsMessage requests letter_limits bytes request.now) }
 {
     law_request();
     law_requests_read_again();
-    if request.body.len() > MOST_BODY as usize {
+    if !is_short(config, order, request) {
         return Err(Memory);
     }
     Ok(Items::from_vec(request_bytes(alloc, request, authority)?))
@@ -102,8 +141,8 @@ fn write_order(
     }))
 }
 
-/// The order of a host with this configuration as the bytes of its request; none where it has no such peer. An order whose body would
-/// be longer than 1,048,576 bytes is told as want of memory; none is.
+/// The order of a host with this configuration as the bytes of its request; none where it has no such peer. A proposal or material
+/// whose body would be longer than 1,048,576 bytes is told as want of memory. No other body is so long.
 pub fn send_order(
     alloc: Global,
     config: &Config,

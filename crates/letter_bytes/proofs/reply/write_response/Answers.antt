@@ -1,4 +1,4 @@
-use Rattle.std.proofs.Common.{◌≤◌, ◌∙◌, List, arith, length, subst, sym, ℕ}
+use Rattle.std.proofs.Common.{◌≤◌, ◌∙◌, List, length, refl, subst, sym, ℕ}
 use Rattle.ps_http.specs.Answer.{IsMessage, responses}
 use Rattle.ps_http.specs.Sendable.{IsReplying}
 use Rattle.ps_http.specs.declared.message.Response.{Response}
@@ -10,7 +10,7 @@ use Rattle.letter_bytes.proofs.reply.write_response.Goals as goal
 pub returns-clause-whole : goal.returns-clause-whole
 returns-clause-whole c =
     let response = c.args.response.now in
-    let short : length response.body ≤ 1_048_576 = omega arith in
+    let short : length response.body ≤ 1_048_576 = c.if-not-is_short.ensures.short refl in
     let is : IsReplying letter_limits response =
-    subst (IsReplying letter_limits) (sym c.requires) (replying c.args.config.now c.args.reply.now (subst (λ (r : Response). length r.body ≤ 1_048_576) c.requires short)) in
+    subst (IsReplying letter_limits) (sym c.requires.response) (replying c.args.config.now c.args.reply.now (subst (λ (r : Response). length r.body ≤ 1_048_576) c.requires.response short)) in
     subst (λ (bytes : List ℕ). IsMessage responses letter_limits bytes response) (sym (c.from_vec.ensures ∙ c.in_ok-response_bytes.ensures)) (c.law_responses_read_again.ensures letter_limits response is)
