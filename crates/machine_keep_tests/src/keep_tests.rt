@@ -141,6 +141,7 @@ fn crashed_after(alloc: Global, calls: u64) -> Result<Option<Pair>, Memory> {
     if answered != (calls == 4) {
         return Ok(None);
     }
+    keep.fail_at(None);
     let (first, second) = keep.into_disks();
     Ok(Some((first.crashed(Image::Old)?, second)))
 }
