@@ -5,3 +5,4 @@ pub mod again;
 pub mod opening;
 mod row;
 pub mod sqlite_keeper;
+pub mod work;

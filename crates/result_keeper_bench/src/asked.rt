@@ -5,6 +5,7 @@ use crate::fault::LineFault;
 use crate::given::{a_count, a_moment, a_number, a_page, cut, key};
 use ps_time::moment::MAX_MOMENT;
 use ps_time::text::Text;
+use result_keeper::work::KeeperWork;
 use result_table::keeper::Keeper;
 use result_table::listing::listing;
 use result_table::record::Record;
@@ -117,4 +118,21 @@ pub(crate) fn run_lines<Q: Keeper + Drop>(
     let done = run_each(rt, &mut keeper, lines);
     drop(keeper);
     done
+}
+
+/// Lines that are asked of a store, for one over files.
+#[derive(Clone, Copy)]
+pub(crate) struct Lines<'a> {
+    pub(crate) rt: &'a HostRuntime,
+    pub(crate) behind: &'a [String],
+}
+
+impl KeeperWork for Lines<'_> {
+    type Outcome = Result<(), LineFault>;
+
+    ghost comes = { λ _ _. Unit {0} };
+
+    fn work_on<Q: Keeper + Drop>(self, keeper: Q) -> Result<(), LineFault> {
+        run_lines(self.rt, keeper, self.behind)
+    }
 }

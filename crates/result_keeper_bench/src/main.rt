@@ -15,13 +15,13 @@ mod asked;
 mod fault;
 mod given;
 
-use crate::asked::run_lines;
+use crate::asked::{Lines, run_lines};
 use crate::fault::LineFault;
 use crate::given::cut;
 use result_keeper::opening::OpenFault;
 use result_keeper::sqlite_keeper::SqliteKeeper;
-use sqlite::{Alter, FileStore};
-use sqlite_disk::Disk;
+use result_keeper::work::work_on_files;
+use sqlite::Alter;
 use std::process::ExitCode;
 use std::{fs, print, println};
 
@@ -35,29 +35,28 @@ fn print_refusal(rt: &HostRuntime, fault: OpenFault) -> Result<(), LineFault> {
     Ok(())
 }
 
-// What was opened does what is asked of it, or it is said why there is no store.
-fn run_opened<S: Alter + Drop>(
+// What needs a store's methods is asked for over any store, so that the prover shows once that it has them.
+fn run_store<S: Alter + Drop>(
     rt: &HostRuntime,
-    opened: Result<SqliteKeeper<S>, OpenFault>,
+    keeper: SqliteKeeper<S>,
     behind: &[String],
 ) -> Result<(), LineFault> {
-    match opened {
-        Ok(keeper) => run_lines(rt, keeper, behind),
+    run_lines(rt, keeper, behind)
+}
+
+fn run_memory(rt: &HostRuntime, behind: &[String]) -> Result<(), LineFault> {
+    match SqliteKeeper::in_memory(rt.alloc()) {
+        Ok(keeper) => run_store(rt, keeper, behind),
         Err(fault) => print_refusal(rt, fault),
     }
 }
 
-// The same of files. That their store is an `Alter` is shown here alone, and over any disk, since it takes the prover long.
-fn run_files<D: Disk + Drop>(
-    rt: &HostRuntime,
-    opened: Result<SqliteKeeper<FileStore<D>>, OpenFault>,
-    behind: &[String],
-) -> Result<(), LineFault> {
-    run_opened(rt, opened, behind)
-}
-
-fn run_memory(rt: &HostRuntime, behind: &[String]) -> Result<(), LineFault> {
-    run_opened(rt, SqliteKeeper::in_memory(rt.alloc()), behind)
+// What was opened does what is asked of it, or it is said why there is no store.
+fn run_files(rt: &HostRuntime, path: &str, behind: &[String]) -> Result<(), LineFault> {
+    match SqliteKeeper::open(rt, path) {
+        Ok(keeper) => work_on_files(keeper, Lines { rt, behind }),
+        Err(fault) => print_refusal(rt, fault),
+    }
 }
 
 fn show(rt: &HostRuntime, path: &str) -> Result<(), LineFault> {
@@ -74,7 +73,7 @@ fn run_from(rt: &HostRuntime, lines: &[String]) -> Result<(), LineFault> {
     let (word, rest) = cut(line.as_str());
     match word {
         "memory" => run_memory(rt, behind),
-        "file" => run_files(rt, SqliteKeeper::open(rt, rest), behind),
+        "file" => run_files(rt, rest, behind),
         "show" => show(rt, rest),
         _ => Ok(()),
     }
