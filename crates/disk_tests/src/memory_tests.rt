@@ -53,7 +53,8 @@ static IMAGES: [(u64, &[u8], &[u8], &[u8]); 11] = [
 fn leaves(alloc: Global, calls: u64, image: Image, wanted: &[u8]) -> Result<bool, AllocError> {
     let mut disk = disk_of(alloc, b"abcdefgh", &[])?;
     disk.fail_at(Some(calls.saturating_add(1)));
-    if make_ten_calls(&mut disk).is_ok() != (calls == 10) {
+    let all_made = make_ten_calls(&mut disk).is_ok();
+    if all_made != (calls == 10) || disk.calls() != calls.saturating_add(1).min(10) {
         return Ok(false);
     }
     match disk.crashed(image) {

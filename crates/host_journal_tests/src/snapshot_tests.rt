@@ -107,6 +107,10 @@ fn left(alloc: Global, calls: u64, image: Image) -> Result<Option<Pair>, Memory>
     }
     journal.fail_at(None);
     let (first, second) = journal.into_disks();
+    // With the sync of the opening, and the call that failed.
+    if second.calls() != calls.saturating_add(2).min(8) {
+        return Ok(None);
+    }
     Ok(Some((first, second.crashed(image)?)))
 }
 

@@ -137,8 +137,12 @@ fn crashed_after(alloc: Global, calls: u64) -> Result<Option<Pair>, Memory> {
     };
     keep.fail_at(Some(calls.saturating_add(1)));
     let five = asked(alloc, Some(5))?;
-    let answered = keep.apply(alloc, five) == Ok(0);
-    if answered != (calls == 4) {
+    let wanted = if calls == 4 {
+        Ok(0)
+    } else {
+        Err(StepFault::Disk)
+    };
+    if keep.apply(alloc, five) != wanted {
         return Ok(None);
     }
     keep.fail_at(None);
