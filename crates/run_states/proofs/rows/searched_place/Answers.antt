@@ -6,7 +6,7 @@ use Rattle.ps_time.specs.Key.{key_cmp}
 use Rattle.run_states.specs.declared.row.RunRow.{RunRow}
 use Rattle.run_states.specs.Rows.{is_below}
 use Rattle.run_states.proofs.Place.{gap_found}
-use Rattle.run_states.proofs.rows.place_of.Goals as goal
+use Rattle.run_states.proofs.rows.searched_place.Goals as goal
 
 -- the row behind those below the key has another one
 pub returns-else-is_eq-clause-absent : goal.returns-else-is_eq-clause-absent
