@@ -37,7 +37,7 @@ module _ (hosts : List ScriptHost) (lawful : AreLawfulHosts hosts) (eight : leng
 
   made : (p : Play) (b : Scene) → IsSceneOf hosts p b → (m : ℕ) (deed : Deed) → IsDeed hosts b deed → MayDeed b deed → ArmsNone deed → m ≤ greatest_moment → IsSceneOf hosts (played hosts p m deed) (scene_played hosts b m deed)
   made p b x m deed is may none low = record {
-    is = deed_on comes hosts lawful p x.is m low deed (subst (λ (y : Scene). IsDeed hosts y deed) (sym x.scene_so) is) (subst (λ (y : Scene). MayDeed y deed) (sym x.scene_so) may);
+    is = deed_on hosts lawful p x.is m low deed (subst (λ (y : Scene). IsDeed hosts y deed) (sym x.scene_so) is) (subst (λ (y : Scene). MayDeed y deed) (sym x.scene_so) may);
     scene_so = ap (λ (y : Scene). scene_played hosts y m deed) x.scene_so;
     calm = deed_calm hosts b x.calm deed none;
   }

@@ -13,10 +13,9 @@ use Rattle.uuid.proofs.TextLemmas.{by_index_length}
 use Rattle.ps_time.specs.Numbers.{greatest_moment}
 use Rattle.ps_time.specs.Span.{Range}
 use Rattle.ps_time.specs.declared.key.RunKey.{RunKey}
-use Rattle.ps_time.proofs.PictureLemmas.{and_true}
 use Rattle.plugin_core.proofs.LengthLemmas.{items_short, member_short, put_short, text_short}
+use Rattle.task_spec.proofs.LengthLemmas.{all_tools, tool_short}
 use Rattle.plugin_core.specs.WriteTest.{names_data}
-use Rattle.plugin_tool.proofs.ChoiceLemmas.{tool_length}
 use Rattle.run_states.specs.State.{state_text}
 use Rattle.run_states.specs.declared.state.State.{State}
 use Rattle.run_states.specs.declared.state.State.TheVariants as state
@@ -61,14 +60,6 @@ state_length state.Cleanup = omega arith
 state_length state.Overdue = omega arith
 state_length state.OnDeck = omega arith
 state_length state.Pending = omega arith
-
-tool_short : (name : List ℕ) → is_tool name ≡ true → length (compact_text (string name)) ≤ 86
-tool_short name is = omega (arith, text_short name, tool_length name is)
-
-all_tools : (names : List (List ℕ)) → list_all is_tool names ≡ true → All (λ name. is_tool name ≡ true) names
-all_tools [] are = All-nil (λ name. is_tool name ≡ true)
-all_tools (x ∷ xs) are =
-    let each = and_true (is_tool x) (list_all is_tool xs) are in All-cons (λ name. is_tool name ≡ true) x xs each.0 (all_tools xs each.1)
 
 pub tools_short : (names : List (List ℕ)) → list_all is_tool names ≡ true → length names ≤ 4 → length (compact_text (names_data names)) ≤ 350
 tools_short names are few = omega (arith, few, items_short (λ name. is_tool name ≡ true) string 86 tool_short names false (all_tools names are))

@@ -1,5 +1,5 @@
 //! The bytes of a disk in memory, and the calls that made them.
-ghost use Rattle.std.specs.Prelude.{◌≡◌, ◌+◌, ◌-◌, ◌≤◌, ◌++◌, [], ◌∷◌, ℕ, List, length, map, take, drop, replicate, min, IsTrue, IfOk, OnOk, OnErr};
+ghost use Rattle.std.specs.Prelude.{◌≡◌, ◌+◌, ◌-◌, ◌≤◌, ◌++◌, [], ◌∷◌, length, map, take, drop, replicate, min, IsTrue, IfOk, OnOk, OnErr};
 ghost use Rattle.ps_disks.specs.Disk.{AreBounded, written, done_by};
 ghost use Rattle.ps_disks.specs.History.{EndsInReach, History as Story, IsImage, IsStanding, bytes_now, effect, fixes, half_done_by, half_replayed, image_bytes, left_by, taken_from, undone, undone_one, with_call};
 ghost use Rattle.ps_disks.specs.declared.history.RecentCall.{RecentCall as Recent};

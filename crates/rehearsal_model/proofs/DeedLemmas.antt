@@ -362,7 +362,7 @@ may_make b (Move.Arms place stop) line may = tt
 may_make b (Move.Crashes c) line may = absurd line
 may_make b (Move.Breaks c kept) line may = absurd line
 
-module _ (comes : Outcomes) (hosts : List ScriptHost) (lawful : AreLawfulHosts hosts) (p : Play) (is : IsPlay hosts p) where
+module _ (hosts : List ScriptHost) (lawful : AreLawfulHosts hosts) (p : Play) (is : IsPlay hosts p) where
   last_low : p.scene.last ≤ greatest_moment
   last_low = (is.reaches kept_all).last
 
@@ -372,11 +372,12 @@ module _ (comes : Outcomes) (hosts : List ScriptHost) (lawful : AreLawfulHosts h
   deed_on m low (Deed.Hears n) deed may = hears_on hosts lawful p is m low n
   deed_on m low (Deed.Reopens place clock) deed may = reopens_on hosts lawful p is m low place clock deed.0 deed.1
 
-  tried_on : (place clock : ℕ) → clock ≤ greatest_moment → place < length hosts → MayTry comes p.scene place clock → IsPlay hosts (tried comes hosts p place clock)
-  tried_on place clock low within may = deed_on clock low (try_at comes p.scene place clock) (try_is comes hosts p.scene place clock within low) may
-
   looked_on : (place clock : ℕ) → clock ≤ greatest_moment → place < length hosts → IsPlay hosts (looked hosts p place clock)
   looked_on place clock low within = does_on hosts lawful p is clock low (looking place clock) tt (within, low, refl, tt) tt
+
+module _ (comes : Outcomes) (hosts : List ScriptHost) (lawful : AreLawfulHosts hosts) (p : Play) (is : IsPlay hosts p) where
+  tried_on : (place clock : ℕ) → clock ≤ greatest_moment → place < length hosts → MayTry comes p.scene place clock → IsPlay hosts (tried comes hosts p place clock)
+  tried_on place clock low within may = deed_on hosts lawful p is clock low (try_at comes p.scene place clock) (try_is comes hosts p.scene place clock within low) may
 
 module _ (comes : Outcomes) (hosts : List ScriptHost) (lawful : AreLawfulHosts hosts) (p : Play) (is : IsPlay hosts p) where
   archived_on : (place clock : ℕ) → clock ≤ greatest_moment → place < length hosts → MayArchive comes hosts p.scene place clock → IsPlay hosts (record { worlds = worlds_archived comes hosts p place clock; scene = scene_archived comes hosts p.scene place clock })
@@ -388,11 +389,11 @@ module _ (comes : Outcomes) (hosts : List ScriptHost) (lawful : AreLawfulHosts h
             scene = if ready then scene_tried comes hosts p.scene place clock else (if answered then scene_tried comes hosts (scene_looked hosts p.scene place clock) place clock else scene_looked hosts p.scene place clock);
           })
       by true answered e f = tried_on comes hosts lawful p is place clock low within (may.0 e)
-      by false true e f = tried_on comes hosts lawful (looked hosts p place clock) (looked_on comes hosts lawful p is place clock low within) place clock low within (may.1 e f)
-      by false false e f = looked_on comes hosts lawful p is place clock low within
+      by false true e f = tried_on comes hosts lawful (looked hosts p place clock) (looked_on hosts lawful p is place clock low within) place clock low within (may.1 e f)
+      by false false e f = looked_on hosts lawful p is place clock low within
 
   plain_on : (l : ScriptLine) → IsLawfulLine (length hosts) l → MayDeed p.scene (deed_of comes p.scene l) → IsPlay hosts (played hosts p (moment_of_line l) (deed_of comes p.scene l))
-  plain_on l law may = deed_on comes hosts lawful p is (moment_of_line l) (moment_within (length hosts) l law) (deed_of comes p.scene l) (deed_is comes hosts p.scene (last_low comes hosts lawful p is) l law) may
+  plain_on l law may = deed_on hosts lawful p is (moment_of_line l) (moment_within (length hosts) l law) (deed_of comes p.scene l) (deed_is comes hosts p.scene (last_low hosts lawful p is) l law) may
 
   pub line_on : (l : ScriptLine) → IsLawfulLine (length hosts) l → MayLine comes hosts p.scene l → IsPlay hosts (play_line comes hosts p l)
   line_on (line.Archive at host) law may = archived_on host at law.0 law.1 may

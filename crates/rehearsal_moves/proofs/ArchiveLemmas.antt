@@ -108,9 +108,6 @@ module _ (comes : Outcomes) (hosts : List ScriptHost) (b : Scene) (place clock :
       may_lost = (λ e. absurd (let both : true ≡ false = sym e ∙ unsure in cc), λ e f. absurd (let both : true ≡ false = sym f ∙ lost in cc))
 
 -- ---- what holds of the input of an attempt that was made
-some_is : {A : Type 0} (a b : A) → Some a ≡ Some b → a ≡ b
-some_is a b e = cc
-
 pub of_some : {A : Type 0} (P : A → Type 0) (o : Option A) (x : A) → o ≡ Some x → IfSome o P → P x
 of_some P None x is all = absurd cc
-of_some P (Some y) x is all = let same : y ≡ x = some_is y x is in subst P same all
+of_some P (Some y) x is all = let same : y ≡ x = cc in subst P same all

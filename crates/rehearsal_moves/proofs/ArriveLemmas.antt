@@ -25,12 +25,9 @@ use Rattle.rehearsal_state.proofs.MoveLemmas.{arrival_crashed, order_faulted, or
 use Rattle.rehearsal_moves.specs.Arriving.{arrival_of, arrived_by}
 use Rattle.rehearsal_moves.specs.Playing.{IsPlaying}
 
-some_is : {A : Type 0} (a b : A) → Some a ≡ Some b → a ≡ b
-some_is a b e = cc
-
 -- there is one message of a number, and it was sent
 pub same_letter : (b : Scene) (n : ℕ) (l other : Letter) → message (as_read b) n ≡ Some l → message (as_read b) n ≡ Some other → l ≡ other
-same_letter b n l other is also = some_is l other (sym is ∙ also)
+same_letter b n l other is also = let both : Some l ≡ Some other = sym is ∙ also in cc
 
 pub was_sent : (b : Scene) (n : ℕ) (l : Letter) → message (as_read b) n ≡ Some l → n - 1 < length b.letters
 was_sent b n l is = slice_get_within b.letters (n - 1) l is

@@ -10,7 +10,7 @@ ghost use Rattle.psched_script.specs.declared.script.ScriptHost.{ScriptHost};
 ghost use Rattle.rehearsal_model.specs.Moves.{Move.Arms, Move.Retools};
 ghost use Rattle.rehearsal_model.specs.Reaching.{IsKnown};
 ghost use Rattle.rehearsal_model.specs.Rehearsal.{retooled};
-ghost use Rattle.rehearsal_model.specs.Scenes.{Deed.Does, Deed.Fails, Deed.Hears, Deed.Reopens, as_read, at_last, came_at, config_of, count_sent, flies, has_come, is_answered, is_broken, letter_number, nobody_seat, scene_deed, seat_at, seat_in};
+ghost use Rattle.rehearsal_model.specs.Scenes.{Deed.Does, Deed.Fails, Deed.Hears, Deed.Reopens, as_read, at_last, came_at, config_of, count_sent, flies, has_come, is_broken, letter_number, scene_deed, seat_at, seat_in};
 ghost use Rattle.rehearsal_model.specs.Seats.{answered, crashed_at};
 ghost use Rattle.rehearsal_model.specs.Seen.{disarmed, landed, message, stop_at, stop_in};
 ghost use Rattle.rehearsal_state.specs.Moved.{with_act, with_broken, with_crash, with_letters, with_step};

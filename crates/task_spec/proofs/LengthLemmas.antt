@@ -111,10 +111,10 @@ reference_short : (reference : Option (List ℕ)) → IfSome reference IsReferen
 reference_short None is = omega arith
 reference_short (Some bs) is = rw (is.reads, is.text) is.short
 
-tool_short : (name : List ℕ) → is_tool name ≡ true → length (compact_text (string name)) ≤ 86
+pub tool_short : (name : List ℕ) → is_tool name ≡ true → length (compact_text (string name)) ≤ 86
 tool_short name is = omega (arith, text_short name, tool_length name is)
 
-all_tools : (names : List (List ℕ)) → list_all is_tool names ≡ true → All (λ name. is_tool name ≡ true) names
+pub all_tools : (names : List (List ℕ)) → list_all is_tool names ≡ true → All (λ name. is_tool name ≡ true) names
 all_tools [] are = All-nil (λ name. is_tool name ≡ true)
 all_tools (x ∷ xs) are =
     let each = and_true (is_tool x) (list_all is_tool xs) are in All-cons (λ name. is_tool name ≡ true) x xs each.0 (all_tools xs each.1)
