@@ -18,8 +18,9 @@ use ps_json::fault::JsonFault;
 use ps_json::fields::Fields;
 use ps_json::kinds::{read_count, read_integer};
 use ps_time::asker::Verdict;
+use ps_time::boxed::Boxed;
 use ps_time::text::Text;
-use run_states::proposal::{BoxedProposal, Proposal};
+use run_states::proposal::Proposal;
 use run_states::why::{Denial, What};
 use serde_json::Value;
 use std::alloc::Global;
@@ -149,8 +150,8 @@ fn read_differs(alloc: Global, mut fields: Fields, lead: &str) -> Result<Denial,
 {
     let kept = take_proposal(alloc, &mut fields, "kept", lead)?;
     let sent = take_proposal(alloc, &mut fields, "sent", lead)?;
-    let kept = BoxedProposal::new(alloc, kept)?;
-    let sent = BoxedProposal::new(alloc, sent)?;
+    let kept = Boxed::new(alloc, kept)?;
+    let sent = Boxed::new(alloc, sent)?;
     end_denial(alloc, fields, Denial::Differs(kept, sent))
 }
 

@@ -132,7 +132,7 @@ pub fn write_denial(alloc: Global, name: &str, denial: &Denial) -> Result<Value,
             write_error_with(alloc, "conflict", "run", run.as_str())
         }
         Denial::Full(what, count) => write_full(alloc, *count, what_name(*what)),
-        Denial::Differs(kept, sent) => write_differs(alloc, kept.proposal(), sent.proposal()),
+        Denial::Differs(kept, sent) => write_differs(alloc, kept.value(), sent.value()),
         Denial::Closed(state) => write_error_with(alloc, "closed", "why", state.name()),
         Denial::NotParticipant => write_error_with(alloc, "not a participant", "host", name),
         Denial::NoTool(tool) => write_error_with(alloc, "no tool", "tool", tool.as_str()),

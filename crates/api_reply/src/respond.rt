@@ -65,7 +65,7 @@ fn write_reply(alloc: Global, config: &Config, reply: &Reply) -> Result<Value, M
         Reply::NotPoster => write_error(alloc, "not the poster"),
         Reply::NotFound => write_error(alloc, "not found"),
         Reply::NotLead => write_error(alloc, "not the lead"),
-        Reply::View(shown) => write_view(alloc, config, shown),
+        Reply::View(shown) => write_view(alloc, config, shown.value()),
         Reply::Free(answer) => write_free(alloc, answer),
         Reply::Accepted(moment) => write_moment(alloc, "accepted", *moment),
         Reply::Denied(denial) => write_denial(alloc, config.name.as_str(), denial),

@@ -14,6 +14,7 @@ use host_model::task_row::TaskRow;
 use limit_apply::limits::Limits;
 use plugin_core::test_spec::TestSpec;
 use ps_time::asker::Asker;
+use ps_time::boxed::Boxed;
 use ps_time::interval::Window;
 use ps_time::items::Items;
 use ps_time::key::RunKey;
@@ -85,7 +86,7 @@ fn read_accepted(alloc: Global, bytes: &[u8]) -> Result<(Change, &[u8]), CodeFau
     };
     Ok((
         Change::Accepted {
-            proposal,
+            proposal: Boxed::new(alloc, proposal)?,
             participants,
             epoch,
         },
@@ -144,7 +145,7 @@ fn read_asked(alloc: Global, bytes: &[u8]) -> Result<(Change, &[u8]), CodeFault>
     };
     Ok((
         Change::Asked {
-            question,
+            question: Boxed::new(alloc, question)?,
             participants,
             asker,
         },
@@ -159,7 +160,7 @@ pub fn read_fields(alloc: Global, number: u8, bytes: &[u8]) -> Result<(Change, &
     ensures fits { IfOk result (λ x. FitsChange x.0) }
 {
     match number {
-        1 => match TaskRow::read(alloc, bytes) {
+        1 => match Boxed::<TaskRow>::read(alloc, bytes) {
             Ok((row, rest)) => Ok((Change::Posted(row), rest)),
             Err(fault) => Err(fault),
         },
@@ -249,7 +250,7 @@ fn read_last_fields(alloc: Global, number: u8, bytes: &[u8]) -> Result<(Change, 
             Ok(((key, (index, state)), rest)) => Ok((Change::Tried { key, index, state }, rest)),
             Err(fault) => Err(fault),
         },
-        17 => match <Limits as Coded>::read(alloc, bytes) {
+        17 => match Boxed::<Limits>::read(alloc, bytes) {
             Ok((limits, rest)) => Ok((Change::LimitsSet(limits), rest)),
             Err(fault) => Err(fault),
         },
@@ -274,12 +275,12 @@ impl Coded for Change {
                 proposal,
                 participants,
                 epoch,
-            } => write_accepted(alloc, proposal, participants, *epoch, out),
+            } => write_accepted(alloc, proposal.value(), participants, *epoch, out),
             Change::Asked {
                 question,
                 participants,
                 asker,
-            } => write_asked(alloc, question, participants, asker, out),
+            } => write_asked(alloc, question.value(), participants, asker, out),
             Change::Planned {
                 key,
                 start,

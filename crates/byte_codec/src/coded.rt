@@ -4,6 +4,7 @@ ghost use Rattle.value_bytes.specs.Codec.{◌&◌, Codec};
 ghost use Rattle.value_bytes.specs.Gives.{Gives};
 ghost use Rattle.value_bytes.specs.Laws.{IsCodec};
 
+use ps_time::boxed::Boxed;
 use ps_time::memory::Memory;
 use std::alloc::Global;
 use value_bytes::fault::CodeFault;
@@ -75,6 +76,21 @@ impl<T: Coded> Coded for Option<T> {
     }
 
     ghost laws = { option_is T.codec T.laws };
+}
+
+impl<T: Coded> Coded for Boxed<T> {
+    ghost codec = { T.codec };
+
+    fn write(&self, alloc: Global, out: &mut Vec<u8>) -> Result<(), Memory> {
+        self.value().write(alloc, out)
+    }
+
+    fn read(alloc: Global, bytes: &[u8]) -> Result<(Boxed<T>, &[u8]), CodeFault> {
+        let (value, rest) = T::read(alloc, bytes)?;
+        Ok((Boxed::new(alloc, value)?, rest))
+    }
+
+    ghost laws = { T.laws };
 }
 
 /// Adds the bytes of two values, one behind the other.

@@ -6,6 +6,7 @@ ghost use Rattle.value_bytes.specs.Reasons.{FitsCause, FitsDenial, FitsWhy, caus
 use crate::coded::{Coded, write_three, write_two, write_variant, write_variant_2};
 use plugin_core::test_spec::TestSpec;
 use ps_time::asker::{Asker, Verdict};
+use ps_time::boxed::Boxed;
 use ps_time::key::RunKey;
 use ps_time::memory::Memory;
 use ps_time::text::Text;
@@ -14,7 +15,6 @@ use run_states::state::State;
 use run_states::why::{Cause, Closing, Denial, What, Why};
 use std::alloc::Global;
 use value_bytes::fault::CodeFault;
-use value_bytes::parts::boxed;
 
 type ProposalParts = ((RunKey, (TestSpec, Text)), (u64, (i16, Asker)));
 
@@ -46,15 +46,6 @@ impl Coded for Proposal {
     ghost laws = { proposal_is };
 }
 
-fn read_differs(alloc: Global, bytes: &[u8]) -> Result<(Denial, &[u8]), CodeFault>
-    ensures value { Gives (λ x. (x.0, x.1.now)) result (denial_cases 5 bytes.now) }
-    ensures fits { IfOk result (λ x. FitsDenial x.0) }
-{
-    let ((kept, sent), rest) = <(Proposal, Proposal)>::read(alloc, bytes)?;
-    let (kept, sent) = boxed(alloc, kept, sent)?;
-    Ok((Denial::Differs(kept, sent), rest))
-}
-
 fn read_denial(alloc: Global, number: u8, bytes: &[u8]) -> Result<(Denial, &[u8]), CodeFault>
     ensures value { Gives (λ x. (x.0, x.1.now)) result (denial_cases number bytes.now) }
     ensures fits { IfOk result (λ x. FitsDenial x.0) }
@@ -76,7 +67,10 @@ fn read_denial(alloc: Global, number: u8, bytes: &[u8]) -> Result<(Denial, &[u8]
             Ok(((full, count), rest)) => Ok((Denial::Full(full, count), rest)),
             Err(fault) => Err(fault),
         },
-        5 => read_differs(alloc, bytes),
+        5 => match <(Boxed<Proposal>, Boxed<Proposal>)>::read(alloc, bytes) {
+            Ok(((kept, sent), rest)) => Ok((Denial::Differs(kept, sent), rest)),
+            Err(fault) => Err(fault),
+        },
         6 => match State::read(alloc, bytes) {
             Ok((name, rest)) => Ok((Denial::Closed(name), rest)),
             Err(fault) => Err(fault),
@@ -101,9 +95,7 @@ impl Coded for Denial {
             Denial::Past(moment, start) => write_variant_2(alloc, 2, moment, start, out),
             Denial::Conflict(run) => write_variant(alloc, 3, run, out),
             Denial::Full(full, count) => write_variant_2(alloc, 4, full, count, out),
-            Denial::Differs(kept, sent) => {
-                write_variant_2(alloc, 5, kept.proposal(), sent.proposal(), out)
-            }
+            Denial::Differs(kept, sent) => write_variant_2(alloc, 5, kept, sent, out),
             Denial::Closed(name) => write_variant(alloc, 6, name, out),
             Denial::NotParticipant => 7u8.write(alloc, out),
             Denial::NoTool(tool) => write_variant(alloc, 8, tool, out),

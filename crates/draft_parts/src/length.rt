@@ -35,7 +35,7 @@ fn fields_length(alloc: Global, change: &Change) -> Result<u64, Memory>
             question,
             participants,
             asker,
-        } => asked_length(alloc, question, participants.as_slice(), asker),
+        } => asked_length(alloc, question.value(), participants.as_slice(), asker),
         Change::Planned { tool, .. } => plus(24, text_length(tool)?),
         Change::Closed { why, .. } => plus(12, why_length(alloc, why)?),
         Change::Ended { body, .. } => plus(13, text_length(body)?),
@@ -131,8 +131,8 @@ fn denial_length(alloc: Global, denial: &Denial) -> Result<u64, Memory>
         Denial::Conflict(_) => Ok(13),
         Denial::Full(_, _) => Ok(10),
         Denial::Differs(kept, sent) => {
-            let first = plus(1, proposal_length(alloc, kept.proposal())?)?;
-            plus(first, proposal_length(alloc, sent.proposal())?)
+            let first = plus(1, proposal_length(alloc, kept.value())?)?;
+            plus(first, proposal_length(alloc, sent.value())?)
         }
         Denial::Closed(_) => Ok(2),
         Denial::NotParticipant => Ok(1),

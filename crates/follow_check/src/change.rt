@@ -32,18 +32,30 @@ fn fits(alloc: Global, number: u16, book: &HostBook, change: &Change) -> Result<
     ensures { IfOk result (λ fits. IsTrue fits ↔ Fits number book.now.book change.now) }
 {
     match change {
-        Change::Posted(task) => Ok(fits_task(number, book, task)),
+        Change::Posted(task) => Ok(fits_task(number, book, task.value())),
         Change::TaskClosed(serial) => Ok(fits_task_closed(number, book, *serial)),
         Change::Accepted {
             proposal,
             participants,
             epoch,
-        } => Ok(fits_accepted(number, book, proposal, participants.as_slice(), *epoch)),
+        } => Ok(fits_accepted(
+            number,
+            book,
+            proposal.value(),
+            participants.as_slice(),
+            *epoch,
+        )),
         Change::Asked {
             question,
             participants,
             asker,
-        } => Ok(fits_asked(number, book, question, participants.as_slice(), asker)),
+        } => Ok(fits_asked(
+            number,
+            book,
+            question.value(),
+            participants.as_slice(),
+            asker,
+        )),
         Change::Planned {
             key,
             start,
@@ -67,7 +79,7 @@ fn fits(alloc: Global, number: u16, book: &HostBook, change: &Change) -> Result<
         } => fits_result(alloc, number, book, *key, *place, told),
         Change::Merged { key, body } => fits_merged(alloc, number, book, *key, body),
         Change::Tried { key, index, state } => Ok(fits_tried(number, book, *key, *index, state)),
-        Change::LimitsSet(limits) => Ok(fits_limits(number, book, limits)),
+        Change::LimitsSet(limits) => Ok(fits_limits(number, book, limits.value())),
         Change::Purged(key) => Ok(fits_purged(number, book, *key)),
     }
 }

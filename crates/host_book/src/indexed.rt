@@ -316,7 +316,7 @@ impl IndexedBook {
                 participants,
                 epoch,
             } => self.accept(
-                proposal,
+                proposal.into_value(),
                 participants,
                 epoch,
                 others,
@@ -327,7 +327,7 @@ impl IndexedBook {
                 participants,
                 asker,
             } => self.ask(
-                question,
+                question.into_value(),
                 participants,
                 asker,
                 others,
@@ -350,7 +350,7 @@ impl IndexedBook {
         ensures room { self.old.room ≤ self.new.room + 1 }
     {
         match change {
-            Change::Posted(task) => self.post(task),
+            Change::Posted(task) => self.post(task.into_value()),
             Change::TaskClosed(serial) => self.close_task(serial),
             Change::Planned {
                 key,
@@ -368,7 +368,7 @@ impl IndexedBook {
             Change::MaterialHeard(key) => self.hear_material(key),
             Change::ResultHeard { key, place, result } => self.hear_result(key, place, result),
             Change::Tried { key, index, state } => self.set_archive(key, index, state),
-            Change::LimitsSet(limits) => self.set_limits(limits),
+            Change::LimitsSet(limits) => self.set_limits(limits.into_value()),
             Change::Purged(key) => self.purge(key),
             Change::Accepted { .. } | Change::Asked { .. } | Change::Merged { .. } =>
                 unreachable!(),

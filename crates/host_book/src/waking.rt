@@ -71,8 +71,8 @@ pub(crate) fn touched(change: &Change, number: u16) -> Option<u32>
     match change {
         Change::Posted(_) | Change::LimitsSet(_) => None,
         Change::TaskClosed(serial) => Some(*serial),
-        Change::Accepted { proposal, .. } => own_task(proposal.key, number),
-        Change::Asked { question, .. } => own_task(question.key, number),
+        Change::Accepted { proposal, .. } => own_task(proposal.value().key, number),
+        Change::Asked { question, .. } => own_task(question.value().key, number),
         Change::Planned { key, .. }
         | Change::Closed { key, .. }
         | Change::Ended { key, .. }

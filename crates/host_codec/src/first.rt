@@ -16,6 +16,7 @@ use host_model::change::{Change, Changes};
 use host_model::task_row::TaskRow;
 use plugin_core::test_spec::TestSpec;
 use ps_time::asker::Asker;
+use ps_time::boxed::Boxed;
 use ps_time::items::Items;
 use ps_time::key::RunKey;
 use ps_time::memory::Memory;
@@ -45,7 +46,7 @@ fn read_accepted(alloc: Global, bytes: &[u8]) -> Result<(Change, &[u8]), CodeFau
         asker,
     };
     let change = Change::Accepted {
-        proposal,
+        proposal: Boxed::new(alloc, proposal)?,
         participants,
         epoch: 0,
     };

@@ -21,6 +21,7 @@ use draft_parts::overlay::{find_over, touch};
 use host_book::merging::{archive_places, states_due};
 use host_model::change::Change;
 use ps_time::asker::Asker;
+use ps_time::boxed::Boxed;
 use ps_time::items::Items;
 use ps_time::key::RunKey;
 use ps_time::memory::Memory;
@@ -254,7 +255,7 @@ impl<'a> Draft<'a> {
     fn make_asked(
         &mut self,
         alloc: Global,
-        question: Question,
+        question: Boxed<Question>,
         participants: Items<Text>,
         asker: Asker,
         length: u64,
@@ -265,7 +266,7 @@ impl<'a> Draft<'a> {
     {
         self.log.reserve()?;
         self.touched.reserve(1)?;
-        let row = asked_row(alloc, self.moment, &question, &participants, &asker)?;
+        let row = asked_row(alloc, self.moment, question.value(), &participants, &asker)?;
         self.touched.put(row);
         self.count += 1;
         let change = Change::Asked {

@@ -26,6 +26,7 @@ use plugin_core::participants::participants_of;
 use plugin_core::test_spec::{Sleep, TestSpec, class_of};
 use plugin_tool::tool::{Tool, tool_name};
 use ps_time::asker::Asker;
+use ps_time::boxed::Boxed;
 use ps_time::class::Class;
 use ps_time::interval::Interval;
 use ps_time::items::Items;
@@ -217,7 +218,7 @@ pub fn acceptance<R: Reading>(
 {
     let participants = participants_of(alloc, &proposal.test, lead)?;
     Ok(Change::Accepted {
-        proposal,
+        proposal: Boxed::new(alloc, proposal)?,
         participants,
         epoch: rows.epoch(),
     })

@@ -9,6 +9,7 @@ use crate::outcome::{answered, one};
 use host_model::change::Change;
 use host_model::reply::{LimitsWrong, Outcome, Reply};
 use limit_apply::limits::Limits;
+use ps_time::boxed::Boxed;
 use ps_time::memory::Memory;
 use std::alloc::Global;
 
@@ -33,7 +34,7 @@ pub fn set_limits<R: Hosting>(alloc: Global, rows: &R, limits: Limits) -> Result
         drop(limits);
         return Ok(answered(alloc, Reply::LimitsWrong(wrong)));
     }
-    let list = one(alloc, Change::LimitsSet(limits))?;
+    let list = one(alloc, Change::LimitsSet(Boxed::new(alloc, limits)?))?;
     Ok(Outcome {
         reply: Reply::LimitsSet(epoch + 1),
         list,

@@ -4,6 +4,7 @@ use crate::task_row::TaskRow;
 use archive_retry::state::ArchiveState;
 use limit_apply::limits::Limits;
 use ps_time::asker::Asker;
+use ps_time::boxed::Boxed;
 use ps_time::items::Items;
 use ps_time::key::RunKey;
 use ps_time::moment::Moment;
@@ -12,16 +13,17 @@ use run_states::answer::{FreeAnswer, Told};
 use run_states::proposal::{Proposal, Question};
 use run_states::why::Why;
 
-/// One change of a book. Where it names a place, that is the position of another participant among those of the run.
+/// One change of a book. Where it names a place, that is the position of another participant among those of the run. What is large
+/// has a place of its own, so that all changes stay small.
 #[derive(Drop)]
 pub enum Change {
     /// A task is kept.
-    Posted(TaskRow),
+    Posted(Boxed<TaskRow>),
     /// The task of this serial is canceled.
     TaskClosed(u32),
     /// A proposal is accepted: it gets a row, and each booked row in conflict with it is preempted.
     Accepted {
-        proposal: Proposal,
+        proposal: Boxed<Proposal>,
         /// The names of the hosts that take part, the lead's first.
         participants: Items<Text>,
         /// The number of the limits under which it was accepted; 0 where the book had none.
@@ -29,7 +31,7 @@ pub enum Change {
     },
     /// The lead asks when the participants are free for a run, which gets a row.
     Asked {
-        question: Question,
+        question: Boxed<Question>,
         /// The names of the hosts that take part, the lead's first.
         participants: Items<Text>,
         asker: Asker,
@@ -93,7 +95,7 @@ pub enum Change {
         state: ArchiveState,
     },
     /// The limits from now on: a new epoch.
-    LimitsSet(Limits),
+    LimitsSet(Boxed<Limits>),
     /// The row of a run that is long past goes.
     Purged(RunKey),
 }

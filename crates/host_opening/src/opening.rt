@@ -17,6 +17,7 @@ use host_model::reply::{LimitsWrong, Outcome, Reply};
 use host_pages::showing::Showing;
 use host_wishes::ending::restart_run;
 use limit_apply::limits::Limits;
+use ps_time::boxed::Boxed;
 use ps_time::items::Items;
 use ps_time::key::RunKey;
 use ps_time::memory::Memory;
@@ -86,7 +87,8 @@ fn first_limits(alloc: Global, limits: &Limits, is_new: bool) -> Result<Items<Ch
 {
     let mut list = Items::new(alloc);
     if is_new {
-        list.push(Change::LimitsSet(limits.copy(alloc)?))?;
+        let limits = Boxed::new(alloc, limits.copy(alloc)?)?;
+        list.push(Change::LimitsSet(limits))?;
     }
     Ok(list)
 }

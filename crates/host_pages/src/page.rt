@@ -17,6 +17,7 @@ use host_model::reply::{Outcome, Reply};
 use host_model::task_row::TaskRow;
 use host_model::view::{Page, View};
 use plugin_core::kind::{class_of_kind, read_kind};
+use ps_time::boxed::Boxed;
 use ps_time::items::Items;
 use ps_time::key::RunKey;
 use ps_time::memory::Memory;
@@ -37,20 +38,20 @@ pub fn show<R: Showing>(
     ensures { IfOk result (λ o. o ≡ shown (view_of config.now (book_of (R.at rows.now) (R.seen rows.now) (R.kept rows.now)) (R.at rows.now) page)) }
 {
     let view = view_of(alloc, rows, config, page)?;
-    Ok(shown(alloc, view))
+    shown(alloc, view)
 }
 
-fn shown(alloc: Global, view: Option<View>) -> Outcome
-    ensures { result ≡ shown view }
+fn shown(alloc: Global, view: Option<View>) -> Result<Outcome, Memory>
+    ensures { IfOk result (λ o. o ≡ shown view) }
 {
     let reply = match view {
-        Some(view) => Reply::View(view),
+        Some(view) => Reply::View(Boxed::new(alloc, view)?),
         None => Reply::NotFound,
     };
-    Outcome {
+    Ok(Outcome {
         reply,
         list: Items::new(alloc),
-    }
+    })
 }
 
 fn view_of<R: Showing>(

@@ -96,10 +96,8 @@ fn lets_go(change: &Change, rows: &Rows, moment: Moment) -> bool
 {
     match change {
         Change::Asked { question, .. } => {
-            is_past_at(
-                rows.newest_of_task(question.key.lead, question.key.task),
-                moment,
-            )
+            let key = question.value().key;
+            is_past_at(rows.newest_of_task(key.lead, key.task), moment)
         }
         _ => false,
     }

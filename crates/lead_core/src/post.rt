@@ -15,6 +15,7 @@ use part_core::reading::Reading;
 use plugin_core::participants::participants_of;
 use plugin_core::test_spec::TestSpec;
 use ps_time::asker::{Asker, Verdict};
+use ps_time::boxed::Boxed;
 use ps_time::items::Items;
 use ps_time::memory::Memory;
 use ps_time::text::Text;
@@ -122,7 +123,7 @@ fn posted(alloc: Global, task: TaskRow) -> Result<Outcome, Memory>
 {
     let reply = Reply::Posted(task.serial);
     let mut list = Items::new(alloc);
-    list.push(Change::Posted(task))?;
+    list.push(Change::Posted(Boxed::new(alloc, task)?))?;
     Ok(Outcome { reply, list })
 }
 

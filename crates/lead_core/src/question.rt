@@ -13,6 +13,7 @@ use host_model::lead::Attempt;
 use host_model::task_row::TaskRow;
 use part_core::fit::full;
 use plugin_core::participants::participants_of;
+use ps_time::boxed::Boxed;
 use ps_time::key::RunKey;
 use ps_time::memory::Memory;
 use run_states::proposal::Question;
@@ -63,7 +64,7 @@ fn asked(
         window: attempt.window,
     };
     Ok(Change::Asked {
-        question,
+        question: Boxed::new(alloc, question)?,
         participants,
         asker,
     })

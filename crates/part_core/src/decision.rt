@@ -15,10 +15,11 @@ use crate::fit::denial_of;
 use crate::reading::Reading;
 use host_model::config::Config;
 use host_model::part::Decision;
+use ps_time::boxed::Boxed;
 use ps_time::memory::Memory;
 use run_states::content::{has_content, proposal_of};
 use run_states::life::state_of_closed;
-use run_states::proposal::{BoxedProposal, Proposal};
+use run_states::proposal::Proposal;
 use run_states::row::RunRow;
 use run_states::why::{Closing, Denial};
 use std::alloc::Global;
@@ -93,8 +94,8 @@ fn decide_known(
     if has_content(row, proposal, lead) {
         return Ok(decided_before(row));
     }
-    let kept = BoxedProposal::new(alloc, proposal_of(alloc, row)?)?;
-    let sent = BoxedProposal::new(alloc, proposal.copy(alloc)?)?;
+    let kept = Boxed::new(alloc, proposal_of(alloc, row)?)?;
+    let sent = Boxed::new(alloc, proposal.copy(alloc)?)?;
     Ok(Decision::Denied(Denial::Differs(kept, sent)))
 }
 

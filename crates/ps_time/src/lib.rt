@@ -2,6 +2,7 @@
 #![tactic(auto)]
 
 pub mod asker;
+pub mod boxed;
 pub mod calendar;
 pub mod class;
 pub mod duplicate;

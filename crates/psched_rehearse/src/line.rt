@@ -4,11 +4,11 @@ ghost use Rattle.host_model.specs.Conditions.{IsConfig};
 ghost use Rattle.psched_script.specs.Lawful.{IsLawfulLine};
 ghost use Rattle.psched_script.specs.declared.script.ScriptHost.{ScriptHost};
 ghost use Rattle.report_text.specs.Line.{line_text};
-ghost use Rattle.rehearsal_model.specs.Moves.{Move.Arms, Move.Retools, Move.Turns, Outcomes, moment_of_line};
+ghost use Rattle.rehearsal_model.specs.Moves.{Move.Arms, Move.Retools, Move.Turns, Outcomes};
 ghost use Rattle.rehearsal_model.specs.Plays.{MayLine};
 ghost use Rattle.rehearsal_model.specs.Reaching.{IsScriptPeer};
 ghost use Rattle.rehearsal_model.specs.Rehearsal.{retooled};
-ghost use Rattle.rehearsal_model.specs.Scenes.{Deed.Does, Deed.Fails, at_last, config_of, deed_of, scene_deed, scene_line};
+ghost use Rattle.rehearsal_model.specs.Scenes.{Deed.Does, Deed.Fails, config_of, deed_of, scene_deed, scene_line};
 ghost use Rattle.rehearsal_model.specs.Telling.{line_said, turn_said};
 ghost use Rattle.rehearsal_moves.specs.Ready.{IsReady};
 ghost use Rattle.rehearsal_moves.specs.Playing.{AreLawful, IsPlaying, is_archive, is_asked, is_at_path, is_of_message};
@@ -231,7 +231,7 @@ fn run_event(
         ScriptLine::Host { .. } => add_ok(report, line),
         ScriptLine::Tools { host, tools } => retool(alloc, now, *host, tools, line, report),
         ScriptLine::Limits { host, limits } => {
-            limit(alloc, now, *host, limits.limits(), line, report)
+            limit(alloc, now, *host, limits.value(), line, report)
         }
         ScriptLine::Turn { at, host } => take_turn(alloc, hosts, now, *host, *at, line, report),
         ScriptLine::Crash { at: _, host, stop } => arm(now, *host, *stop, line, report),

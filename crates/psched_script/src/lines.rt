@@ -5,11 +5,12 @@ ghost use Rattle.psched_script.specs.Line.{host_line, tools_line, limits_line, b
 use crate::fields::Fields;
 use crate::hosts::{is_used, read_asked, read_name, read_place};
 use crate::kind::Kind;
-use crate::script::{BoxedLimits, MAX_HOSTS, Reason, ScriptHost, ScriptLine, Stop};
+use crate::script::{MAX_HOSTS, Reason, ScriptHost, ScriptLine, Stop};
 use crate::tools::read_tools;
 use crate::words::{read_image, read_moment, read_number, read_numeral, read_priority};
 use limit_apply::limits::Limits;
 use limit_ident::fault::LimitFault;
+use ps_time::boxed::Boxed;
 use ps_time::class::read_class;
 use ps_time::memory::Memory;
 use ps_time::moment::{MAX_LENGTH, MAX_MOMENT};
@@ -70,13 +71,13 @@ fn read_tools_line(alloc: Global, hosts: &[ScriptHost], fields: &Fields<'_>) -> 
 
 // The limits that a line's fields from the third on are.
 #[tactic(auto, unfolding(crate::specs::Line::limits_of))]
-fn read_limits(alloc: Global, fields: &Fields<'_>) -> Result<Option<BoxedLimits>, Memory>
+fn read_limits(alloc: Global, fields: &Fields<'_>) -> Result<Option<Boxed<Limits>>, Memory>
     requires { 2 ≤ length fields.now }
     ensures { IfOk result (λ limits. limits ≡ limits_of (drop 2 fields.now)) }
 {
     let text = fields.rest(alloc, 2)?;
     match Limits::from_text(alloc, text.as_str().as_bytes()) {
-        Ok(limits) => Ok(Some(BoxedLimits::new(alloc, limits)?)),
+        Ok(limits) => Ok(Some(Boxed::new(alloc, limits)?)),
         Err(LimitFault::Memory) => Err(Memory),
         Err(_) => Ok(None),
     }

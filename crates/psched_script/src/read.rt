@@ -57,7 +57,7 @@ fn law_kept_limits(content: &Content)
     ensures { HasKeptLimits content.now }
 {
     if let Content::Event(ScriptLine::Limits { limits, .. }) = content {
-        law_one_kept(limits.limits());
+        law_one_kept(limits.value());
     }
 }
 

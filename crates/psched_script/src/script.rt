@@ -1,17 +1,15 @@
 //! Scripts as they were read, and why a script is refused.
-ghost use Rattle.std.specs.Prelude.{◌≡◌, IfOk};
+ghost use Rattle.std.specs.Prelude.{◌≡◌};
 
 use limit_apply::limits::Limits;
 use ps_disks::image::Image;
+use ps_time::boxed::Boxed;
 use ps_time::class::Class;
 use ps_time::items::Items;
-use ps_time::memory::Memory;
 use ps_time::moment::{Length, Moment};
 use ps_time::text::Text;
-use std::alloc::Global;
 use std::error::Error;
 use std::fmt;
-use std::marker::Model;
 
 /// The most hosts that a script may declare.
 pub const MAX_HOSTS: usize = 16;
@@ -33,38 +31,6 @@ pub struct Stop {
     pub image: Image,
 }
 
-/// Limits in a place of their own, so that a line that may hold them stays small. Contracts see the limits.
-#[derive(Drop)]
-pub struct BoxedLimits {
-    place: Box<Limits>,
-}
-
-impl Model for BoxedLimits {
-    ghost use Rattle.limit_apply.specs.Limits.{Config};
-
-    ghost Value = { Config };
-
-    ghost view = { λ b. b.place.value };
-}
-
-impl BoxedLimits {
-    /// Puts the limits into a place.
-    pub fn new(alloc: Global, limits: Limits) -> Result<BoxedLimits, Memory>
-        ensures { IfOk result (λ made. made ≡ limits) }
-    {
-        Ok(BoxedLimits {
-            place: Box::new(alloc, limits)?,
-        })
-    }
-
-    /// Lends the limits.
-    pub fn limits(&self) -> &Limits
-        ensures { result.now ≡ self.now }
-    {
-        &self.place
-    }
-}
-
 /// What happens at one line of a script. A host is told by its place among the script's hosts, a message by
 /// its number, which may be of none.
 pub enum ScriptLine {
@@ -80,7 +46,7 @@ pub enum ScriptLine {
     /// `limits NAME JSON`: from now on the host has these limits.
     Limits {
         host: usize,
-        limits: BoxedLimits,
+        limits: Boxed<Limits>,
     },
     /// `T NAME book CLASS PRIORITY START LENGTH`: a run is booked on a host.
     Book {

@@ -13,7 +13,7 @@ fn is_denial(denial: &Denial) -> bool
     match denial {
         Denial::Past(moment, start) => *moment <= MAX_MOMENT && *start <= MAX_MOMENT,
         Denial::Differs(kept, sent) => {
-            kept.proposal().start <= MAX_MOMENT && sent.proposal().start <= MAX_MOMENT
+            kept.value().start <= MAX_MOMENT && sent.value().start <= MAX_MOMENT
         }
         _ => true,
     }

@@ -11,7 +11,6 @@ use ps_time::moment::Moment;
 use ps_time::same::Same;
 use ps_time::text::Text;
 use std::alloc::Global;
-use std::marker::Model;
 
 /// A run at a start. Its class, length and participants follow from the test and the lead's name.
 #[derive(Drop)]
@@ -62,46 +61,6 @@ impl Same for Proposal {
             && self.start == other.start
             && self.priority == other.priority
             && self.asker.same(&other.asker)
-    }
-}
-
-/// A proposal in a place of its own, so that a row that may hold one stays small. Contracts see the proposal.
-#[derive(Drop)]
-pub struct BoxedProposal {
-    place: Box<Proposal>,
-}
-
-impl Model for BoxedProposal {
-    ghost use Rattle.run_states.specs.declared.proposal.Proposal.{Proposal};
-
-    ghost Value = { Proposal };
-
-    ghost view = { λ b. b.place.value };
-}
-
-impl BoxedProposal {
-    /// Puts the proposal into a place.
-    pub fn new(alloc: Global, proposal: Proposal) -> Result<BoxedProposal, Memory>
-        ensures { IfOk result (λ made. made ≡ proposal) }
-    {
-        Ok(BoxedProposal {
-            place: Box::new(alloc, proposal)?,
-        })
-    }
-
-    /// Lends the proposal.
-    pub fn proposal(&self) -> &Proposal
-        ensures { result.now ≡ self.now }
-    {
-        &self.place
-    }
-
-    /// The same proposal once more, in a place of its own.
-    pub fn copy(&self, alloc: Global) -> Result<BoxedProposal, Memory>
-        ensures { IfOk result (λ made. made ≡ self.now) }
-    {
-        let copy = self.proposal().copy(alloc)?;
-        BoxedProposal::new(alloc, copy)
     }
 }
 

@@ -1,9 +1,10 @@
 //! Why a host denies a run, and why a row was closed.
 ghost use Rattle.std.specs.Prelude.{◌≡◌, IfOk};
 
-use crate::proposal::BoxedProposal;
+use crate::proposal::Proposal;
 use crate::state::State;
 use ps_time::asker::Verdict;
+use ps_time::boxed::Boxed;
 use ps_time::duplicate::Duplicate;
 use ps_time::key::RunKey;
 use ps_time::memory::Memory;
@@ -34,7 +35,7 @@ pub enum Denial {
     /// This is full, and so much is there.
     Full(What, u64),
     /// The key's row has other content: first the kept one, then the one that was sent.
-    Differs(BoxedProposal, BoxedProposal),
+    Differs(Boxed<Proposal>, Boxed<Proposal>),
     /// The key's row is closed, for the reason that this state names.
     Closed(State),
     /// It isn't a participant of the test.
@@ -69,8 +70,8 @@ impl Denial {
             Denial::Conflict(key) => Ok(Denial::Conflict(*key)),
             Denial::Full(what, count) => Ok(Denial::Full(*what, *count)),
             Denial::Differs(kept, sent) => Ok(Denial::Differs(
-                kept.copy(alloc)?,
-                sent.copy(alloc)?,
+                kept.duplicate(alloc)?,
+                sent.duplicate(alloc)?,
             )),
             Denial::Closed(state) => Ok(Denial::Closed(*state)),
             Denial::NotParticipant => Ok(Denial::NotParticipant),
@@ -93,7 +94,7 @@ impl Same for Denial {
             (Denial::Conflict(a), Denial::Conflict(b)) => a == b,
             (Denial::Full(a, m), Denial::Full(b, n)) => a == b && m == n,
             (Denial::Differs(a, s), Denial::Differs(b, t)) => {
-                a.proposal().same(b.proposal()) && s.proposal().same(t.proposal())
+                a.value().same(b.value()) && s.value().same(t.value())
             }
             (Denial::Closed(a), Denial::Closed(b)) => a == b,
             (Denial::NotParticipant, Denial::NotParticipant) => true,

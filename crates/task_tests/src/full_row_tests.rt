@@ -3,13 +3,14 @@ use crate::row_tests::{Held, KEY, an_asker, is_row_copied};
 use archive_retry::state::ArchiveState;
 use plugin_core::test_spec::{Sleep, TestSpec};
 use ps_time::asker::Asker;
+use ps_time::boxed::Boxed;
 use ps_time::interval::{Interval, Window};
 use ps_time::items::Items;
 use ps_time::memory::Memory;
 use ps_time::text::Text;
 use ps_time::tiers::Tiers;
 use run_states::answer::{FreeAnswer, Other};
-use run_states::proposal::{BoxedProposal, Proposal};
+use run_states::proposal::Proposal;
 use run_states::row::{Ending, RunRow};
 use run_states::why::{Cause, Closing, Denial, Why};
 use std::alloc::Global;
@@ -115,8 +116,8 @@ fn proposal(alloc: Global, start: u64) -> Result<Proposal, Memory> {
 
 // The row of the key has a start at 60, and one at 61 was sent.
 fn denial(alloc: Global) -> Result<Denial, Memory> {
-    let kept = BoxedProposal::new(alloc, proposal(alloc, 60)?)?;
-    let sent = BoxedProposal::new(alloc, proposal(alloc, 61)?)?;
+    let kept = Boxed::new(alloc, proposal(alloc, 60)?)?;
+    let sent = Boxed::new(alloc, proposal(alloc, 61)?)?;
     Ok(Denial::Differs(kept, sent))
 }
 

@@ -1,5 +1,5 @@
 //! Values of their parts, once these were read.
-ghost use Rattle.std.specs.Prelude.{◌≡◌, IfOk};
+ghost use Rattle.std.specs.Prelude.{◌≡◌};
 ghost use Rattle.value_bytes.specs.Rows.{row_of};
 
 use archive_retry::state::ArchiveState;
@@ -8,37 +8,10 @@ use ps_time::asker::Asker;
 use ps_time::interval::{Interval, Window};
 use ps_time::items::Items;
 use ps_time::key::RunKey;
-use ps_time::memory::Memory;
 use ps_time::text::Text;
 use run_states::answer::Other;
-use run_states::proposal::{BoxedProposal, Proposal};
 use run_states::row::{Ending, RunRow};
 use run_states::why::Closing;
-use std::alloc::Global;
-
-/// Both proposals, each in a place of its own.
-pub fn boxed(
-    alloc: Global,
-    kept: Proposal,
-    sent: Proposal,
-) -> Result<(BoxedProposal, BoxedProposal), Memory>
-    ensures { IfOk result (λ both. (both.0 ≡ kept) × (both.1 ≡ sent)) }
-{
-    let kept = match BoxedProposal::new(alloc, kept) {
-        Ok(kept) => kept,
-        Err(Memory) => {
-            drop(sent);
-            return Err(Memory);
-        }
-    };
-    match BoxedProposal::new(alloc, sent) {
-        Ok(sent) => Ok((kept, sent)),
-        Err(Memory) => {
-            drop(kept);
-            Err(Memory)
-        }
-    }
-}
 
 type Work = (RunKey, (TestSpec, (Option<Text>, (Option<Interval>, i16))));
 

@@ -1,6 +1,7 @@
 use Rattle.std.proofs.Common.{◌-◌, ◌++◌, ◌∷◌, ◌∙◌, [], refl, ap, ap₂}
 use Rattle.host_model.specs.declared.change.Change.TheVariants.{Asked}
 use Rattle.run_states.specs.Rows.{put_row}
+use Rattle.run_states.specs.declared.proposal.Question.{Question}
 use Rattle.host_model.specs.NewRow.{asked_row}
 use Rattle.host_book.proofs.AcceptLemmas.{asked_bytes}
 use Rattle.host_draft.specs.Draft.{book_now}
@@ -18,7 +19,7 @@ invariant_of-self-2 c =
     (asked_bytes d.moment c.args.question c.args.participants c.args.asker)
     c.push.new.self.changes c.put.new.self.list c.push.new.self.left
     (c.push.ensures.changes ∙ ap (λ l. l ++ Asked c.args.question c.args.participants c.args.asker ∷ []) c.in_ok-reserve.ensures.changes)
-    (c.put.ensures.rows ∙ ap₂ put_row c.in_ok-reserve-2.ensures.same c.in_ok-row.ensures)
+    (c.put.ensures.rows ∙ ap₂ put_row c.in_ok-reserve-2.ensures.same (c.in_ok-row.ensures ∙ ap (λ (q : Question). asked_row d.moment q c.args.participants c.args.asker) c.value.ensures))
     (c.push.ensures.left ∙ ap (λ n. n - c.args.length) c.in_ok-reserve.ensures.left)
 
 pub returns-clause-made : goal.returns-clause-made
