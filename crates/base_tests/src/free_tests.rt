@@ -1,5 +1,5 @@
 //! Free starts: a case by hand, and made timelines against a plain program that tries each start.
-use crate::held::{Held, Line, booked, key, put};
+use crate::held::{Held, Line, booked, booking_of, key, put};
 use host_timeline::booking::{Booking, firm_from};
 use host_timeline::timeline::Timeline;
 use ps_time::class::Class::{self, Background, BackgroundMulti, Exclusive, Normal};
@@ -9,6 +9,7 @@ use ps_time::key::RunKey;
 use ps_time::memory::Memory;
 use std::alloc::Global;
 use std::test::Fail;
+use tiered_list::lent::Lent;
 
 // One exclusive run from 1010 on, before 1020.
 static ONE_RUN: [Line; 1] = [(1, Exclusive, 0, 1010, 1020)];
@@ -258,9 +259,9 @@ static APART: [Line; 3] = [
 
 static OVERLAPPING: [Line; 2] = [(2, Normal, 0, 100, 200), (3, Normal, 0, 120, 130)];
 
-fn has_ranges(ranges: &[Interval], wanted: &[(u64, u64)]) -> bool {
+fn has_ranges(ranges: Lent<'_, Interval>, wanted: &[(u64, u64)]) -> bool {
     ranges.len() == wanted.len()
-        && ranges.iter().zip(wanted.iter()).all(|(range, (start, end))| range.start == *start
+        && ranges.zip(wanted.iter()).all(|(range, (start, end))| range.start == *start
             && range.end == *end)
 }
 
@@ -293,5 +294,52 @@ fn what_is_taken_is_lent_as_ranges(rt: HostRuntime) -> Result<(), Fail> {
     assert!(rt; is_left(alloc, &APART, 9, Background, &[])?);
     assert!(rt; is_left(alloc, &APART, 2, Normal, &FIRST_HALF)?);
     assert!(rt; is_left(alloc, &OVERLAPPING, 2, Exclusive, &INNER)?);
+    Ok(())
+}
+
+// How many runs lie apart: more than a block of a list has.
+const MANY: u32 = 3_000;
+
+// Books normal runs of five seconds, ten seconds after one another, though in another order.
+fn fill_apart(timeline: &mut Timeline) -> Result<(), Memory> {
+    for step in 0..MANY {
+        let number = step.wrapping_mul(1_999) % MANY;
+        let start = u64::from(number).saturating_mul(10);
+        if let Some(booking) = booking_of(&(number, Normal, 0, start, start.saturating_add(5))) {
+            put(timeline, booking)?;
+        }
+    }
+    Ok(())
+}
+
+// Whether these are the seconds of runs that lie apart.
+fn are_apart(ranges: Lent<'_, Interval>) -> bool {
+    let count = ranges.len();
+    let mut start = 0_u64;
+    for range in ranges {
+        if range.start != start || range.end != start.saturating_add(5) {
+            return false;
+        }
+        start = start.saturating_add(10);
+    }
+    count == MANY as usize
+}
+
+// Whether a run over all of them joins their ranges, and leaves them as they were once it is released.
+fn are_joined_for_a_while(alloc: Global) -> Result<bool, Memory> {
+    let mut held = Held::new(alloc);
+    fill_apart(&mut held.timeline)?;
+    let were_apart = are_apart(held.timeline.busy(Exclusive));
+    if let Some(booking) = booking_of(&(MANY, Normal, 0, 0, 30_000)) {
+        put(&mut held.timeline, booking)?;
+    }
+    let is_one = has_ranges(held.timeline.busy(Exclusive), &[(0, 30_000)]);
+    held.timeline.release(key(MANY));
+    Ok(were_apart && is_one && are_apart(held.timeline.busy(Exclusive)))
+}
+
+#[test]
+fn ranges_of_many_blocks_are_joined_and_parted(rt: HostRuntime) -> Result<(), Fail> {
+    assert!(rt; are_joined_for_a_while(rt.alloc())?);
     Ok(())
 }

@@ -1,5 +1,5 @@
 -- Ranges that are apart: what they cover as an interval comes or goes, and what a search finds in them.
-use Rattle.std.proofs.Common.{◌≡◌, ◌∙◌, ◌<◌, ◌≤◌, ◌+◌, ◌-◌, ℕ, zero, suc, List, [], ◌∷◌, ◌++◌, length, get_or, set, take, drop, Bool, true, false, cond, not, ltb, max, min, Option, Some, None, ◌&&◌, ◌||◌, inl, inr, refl, sym, ap, ap₂, subst, arith}
+use Rattle.std.proofs.Common.{◌≡◌, ◌∙◌, ◌<◌, ◌≤◌, ◌+◌, ◌-◌, ℕ, zero, suc, List, [], ◌∷◌, ◌++◌, length, get_or, set, take, drop, Bool, true, false, cond, not, ltb, max, min, Option, Some, None, ◌&&◌, ◌||◌, inl, inr, add-one, refl, sym, ap, ap₂, subst, arith}
 use Rattle.std.specs.List.{AllByRecursion, insert, remove, remove_range}
 use Rattle.std.specs.List.Sorted.{IsNonDecreasingBy, IsPartitionPoint}
 use Rattle.std.specs.Option.{option_to_list}
@@ -404,6 +404,17 @@ pub closed : (rs : List Span) (m : Span) (first end : ℕ) → first < end → e
 closed rs m first end more within =
     ap₂ (λ a b. a ++ b) (take_more_set rs first m (omega (arith, more, within))) (drop-set-lt end rs first m more)
     ∙ append_assoc (take first rs) (m ∷ []) (drop end rs)
+
+-- where some are out, the next one goes too
+pub removed_one : (rs : List Span) (i j : ℕ) → i ≤ j → j < length rs → remove (remove_range rs i j) i ≡ remove_range rs i (j + 1)
+removed_one rs i j le within = rw (add-one j) (go rs i j le within)
+  where
+    go : (rs : List Span) (i j : ℕ) → i ≤ j → j < length rs → remove (remove_range rs i j) i ≡ remove_range rs i (suc j)
+    go [] i j le within = absurd (omega (arith, within))
+    go (r ∷ rs) zero zero le within = refl
+    go (r ∷ rs) zero (suc j) le within = go rs zero j (omega arith) (omega (arith, within))
+    go (r ∷ rs) (suc i) zero le within = absurd (omega (arith, le))
+    go (r ∷ rs) (suc i) (suc j) le within = ap (λ l. r ∷ l) (go rs i j (omega (arith, le)) (omega (arith, within)))
 
 -- the range in which an interval lies
 module _ (rs : List Span) (s : Span) (i : ℕ)

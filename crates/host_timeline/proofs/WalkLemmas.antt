@@ -1,5 +1,5 @@
 -- A walk over the bookings in conflict with a run, from key to key, and what is left where they go.
-use Rattle.std.proofs.Common.{◌≡◌, ◌∙◌, ◌<◌, ◌≤◌, List, [], ◌∷◌, length, Bool, true, false, cond, not, ◌&&◌, ◌||◌, Option, Some, None, refl, sym, ap, subst, arith}
+use Rattle.std.proofs.Common.{◌≡◌, ◌∙◌, ◌<◌, ◌≤◌, ℕ, ℤ, List, [], ◌∷◌, length, Bool, true, false, cond, not, ◌&&◌, ◌||◌, Option, Some, None, refl, sym, ap, subst, arith}
 use Rattle.std.specs.List.{filter, list_all, AllByRecursion}
 use Rattle.std.specs.Option.{IfNone}
 use Rattle.std.specs.Ordering.{is_eq, ordering_reverse}
@@ -10,7 +10,7 @@ use Rattle.ps_time.specs.declared.class.Class.{Class}
 use Rattle.ps_time.specs.declared.key.RunKey.{RunKey}
 use Rattle.ps_time.proofs.KeyLemmas.{key_cmp_same, key_cmp_total, same_key}
 use Rattle.host_timeline.specs.declared.booking.Booking.{Booking}
-use Rattle.host_timeline.specs.Booking.{conflicting, conflicting_after, conflicts_with, is_after, key_and, keys_of, least_key, without_conflicts}
+use Rattle.host_timeline.specs.Booking.{can_preempt, conflicting, conflicting_after, conflicts_with, firm, is_after, key_and, keys_of, least_key, without_conflicts}
 use Rattle.host_timeline.specs.Lane.{Decide}
 use Rattle.host_timeline.specs.Timeline.{find_booking, without_booking, IsAscendingBookings}
 use Rattle.host_timeline.proofs.HoldLemmas.{IsOnly}
@@ -177,6 +177,16 @@ none_after class s after (b ∷ bs) none =
     let cases = elim (conflicts_with class s b) as (λ t. cond t (b ∷ conflicting class s bs) (conflicting class s bs) ≡ [] → cond (is_after after b.key && t) (b ∷ conflicting_after class s after bs) (conflicting_after class s after bs) ≡ []) [
       | true ↦ λ e. cc
       | false ↦ λ e. rw (and_false (is_after after b.key)) (none_after class s after bs e)
+    ] in
+    cases none
+
+-- where nothing is in conflict with a run, nothing stands in its way
+pub none_firm : (class : Class) (s : Span) (priority : ℤ) (moment : ℕ) (bs : List Booking) → conflicting class s bs ≡ [] → firm class s priority moment bs ≡ []
+none_firm class s priority moment [] none = refl
+none_firm class s priority moment (b ∷ bs) none =
+    let cases = elim (conflicts_with class s b) as (λ t. cond t (b ∷ conflicting class s bs) (conflicting class s bs) ≡ [] → cond (t && not (can_preempt priority moment b)) (b ∷ firm class s priority moment bs) (firm class s priority moment bs) ≡ []) [
+      | true ↦ λ e. cc
+      | false ↦ λ e. none_firm class s priority moment bs e
     ] in
     cases none
 

@@ -13,6 +13,7 @@ use ps_time::memory::Memory;
 use ps_time::moment::Moment;
 use std::alloc::Global;
 use std::marker::Model;
+use tiered_list::lent::Lent;
 
 /// What bookings of conflicting classes take, for a normal and for an exclusive run.
 #[derive(Drop)]
@@ -54,9 +55,9 @@ impl Busy {
     }
 
     /// What is taken for a class.
-    pub(crate) fn of(&self, class: Class) -> &[Interval]
-        ensures covered { (bookings : List SeenBooking) (places : ℕ) → AreBusy bookings places self.now → (second : ℕ) → covers result.now second ≡ is_busy class bookings second }
-        ensures apart { IsApart result.now }
+    pub(crate) fn of(&self, class: Class) -> Lent<'_, Interval>
+        ensures covered { (bookings : List SeenBooking) (places : ℕ) → AreBusy bookings places self.now → (second : ℕ) → covers result second ≡ is_busy class bookings second }
+        ensures apart { IsApart result }
     {
         match class {
             Class::Exclusive => self.exclusive.ranges(),

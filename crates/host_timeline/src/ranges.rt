@@ -1,7 +1,7 @@
 //! Maximal ranges of seconds, ascending.
 ghost use Rattle.std.specs.Prelude.{◌≡◌, ◌+◌, ◌++◌, ◌<◌, ◌≤◌, ◌||◌, [], ℕ, Bool, OnOk, drop, length, nat_lt, slice_index_or, take, true, false};
 ghost use Rattle.std.specs.List.Sorted.{IsPartitionPoint};
-ghost use Rattle.std.specs.List.{list_any};
+ghost use Rattle.std.specs.List.{list_any, remove_range};
 ghost use Rattle.ps_time.specs.Span.{Span};
 ghost use Rattle.host_timeline.specs.Busy.{begin_at, conflicts_begin_at, covers, has_second, pieces, range_places, span_between, takes_beside, with_range, without_range, HavePlacesFor, IsApart, IsCovered};
 
@@ -10,14 +10,15 @@ use ps_time::class::Class;
 use ps_time::interval::Interval;
 use ps_time::memory::Memory;
 use ps_time::moment::Moment;
-use sliding_list::sliding_list::SlidingList;
 use std::alloc::Global;
 use std::marker::Model;
+use tiered_list::lent::Lent;
+use tiered_list::tiered_list::TieredList;
 
 /// Ranges of seconds, each maximal, and places that are reserved for more.
 #[derive(Drop)]
 pub(crate) struct Ranges {
-    ranges: SlidingList<Interval>,
+    ranges: TieredList<Interval>,
 }
 
 impl Model for Ranges {
@@ -36,7 +37,7 @@ impl Ranges {
         ensures { result.list ≡ [] }
     {
         Ranges {
-            ranges: SlidingList::new(alloc),
+            ranges: TieredList::new(alloc),
         }
     }
 
@@ -50,18 +51,18 @@ impl Ranges {
     }
 
     /// All of them.
-    pub(crate) fn ranges(&self) -> &[Interval]
-        ensures list { result.now ≡ self.now.list }
+    pub(crate) fn ranges(&self) -> Lent<'_, Interval>
+        ensures list { result ≡ self.now.list }
         ensures apart { IsApart self.now.list }
     {
-        self.ranges.as_slice()
+        self.ranges.in_order()
     }
 
     /// None of them.
-    pub(crate) fn nothing(&self) -> &[Interval]
-        ensures { result.now ≡ [] }
+    pub(crate) fn nothing(&self) -> Lent<'_, Interval>
+        ensures { result ≡ [] }
     {
-        &self.ranges.as_slice()[..0]
+        self.ranges.in_order().until(0)
     }
 
     /// A moment before which nothing starts that takes time, is covered throughout and ends behind `from`: the start of the
@@ -69,7 +70,7 @@ impl Ranges {
     pub(crate) fn reach_back(&self, from: Moment) -> Moment
         ensures { (s : Span) → s.start < s.end → IsCovered self.now.list s → from < s.end → result ≤ s.start }
     {
-        let at = ending_by(self.ranges.as_slice(), from);
+        let at = ending_by(&self.ranges.in_order(), from);
         if at < self.ranges.len() {
             self.ranges[at].start
         } else {
@@ -85,13 +86,13 @@ impl Ranges {
         ensures apart { IsApart self.new.list }
         ensures places { range_places self.new ≡ range_places self.old }
     {
-        let first = ending_before(self.ranges.as_slice(), interval.start);
-        let end = starting_by(self.ranges.as_slice(), interval.end);
+        let first = ending_before(&self.ranges.in_order(), interval.start);
+        let end = starting_by(&self.ranges.in_order(), interval.end);
         if first < end {
             let start = self.ranges[first].start.min(interval.start);
             let last = self.ranges[end - 1].end.max(interval.end);
             self.ranges.set(first, Interval { start, end: last });
-            self.ranges.remove_range(first + 1, end);
+            take_out(&mut self.ranges, first + 1, end);
         } else {
             self.ranges.insert(first, *interval)
         }
@@ -105,7 +106,7 @@ impl Ranges {
         ensures apart { IsApart self.new.list }
         ensures places { range_places self.new ≡ range_places self.old }
     {
-        let at = containing(self.ranges.as_slice(), interval);
+        let at = containing(&self.ranges.in_order(), interval);
         let range = self.ranges[at];
         let before = span_between(range.start, interval.start);
         let behind = span_between(interval.end, range.end);
@@ -123,8 +124,20 @@ impl Ranges {
     }
 }
 
+// Takes the ranges out from one place on, before another.
+fn take_out(ranges: &mut TieredList<Interval>, from: usize, until: usize)
+    requires ordered { from ≤ until }
+    requires within { until ≤ length ranges.old.list }
+    ensures list { ranges.new.list ≡ remove_range ranges.old.list from until }
+    ensures places { ranges.new.places ≡ ranges.old.places }
+{
+    for _taken in from..until {
+        ranges.remove(from);
+    }
+}
+
 // Where the range is that has the interval.
-fn containing(ranges: &[Interval], interval: &Interval) -> usize
+fn containing(ranges: &Lent<'_, Interval>, interval: &Interval) -> usize
     requires apart { IsApart ranges.now }
     requires covered { IsCovered ranges.now interval.now }
     ensures within { result < length ranges.now }
@@ -145,7 +158,7 @@ fn span_between(start: Moment, end: Moment) -> Option<Interval>
 }
 
 // How many of the ranges end before the moment.
-fn ending_before(ranges: &[Interval], moment: Moment) -> usize
+fn ending_before(ranges: &Lent<'_, Interval>, moment: Moment) -> usize
     requires { IsApart ranges.now }
     ensures within { result ≤ length ranges.now }
     ensures parted { IsPartitionPoint (λ r. nat_lt r.end moment ≡ true) (λ r. nat_lt r.end moment ≡ false) ranges.now result }
@@ -154,7 +167,7 @@ fn ending_before(ranges: &[Interval], moment: Moment) -> usize
 }
 
 // How many of the ranges end by the moment.
-fn ending_by(ranges: &[Interval], moment: Moment) -> usize
+fn ending_by(ranges: &Lent<'_, Interval>, moment: Moment) -> usize
     requires { IsApart ranges.now }
     ensures within { result ≤ length ranges.now }
     ensures parted { IsPartitionPoint (λ r. nat_lt moment r.end ≡ false) (λ r. nat_lt moment r.end ≡ true) ranges.now result }
@@ -163,7 +176,7 @@ fn ending_by(ranges: &[Interval], moment: Moment) -> usize
 }
 
 // How many of the ranges start by the moment.
-fn starting_by(ranges: &[Interval], moment: Moment) -> usize
+fn starting_by(ranges: &Lent<'_, Interval>, moment: Moment) -> usize
     requires { IsApart ranges.now }
     ensures within { result ≤ length ranges.now }
     ensures parted { IsPartitionPoint (λ r. nat_lt moment r.start ≡ false) (λ r. nat_lt moment r.start ≡ true) ranges.now result }

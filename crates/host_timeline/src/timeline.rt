@@ -29,6 +29,7 @@ use ps_time::moment::{Length, Moment};
 use ps_time::tiers::Tiers;
 use std::alloc::Global;
 use std::marker::Model;
+use tiered_list::lent::Lent;
 
 /// The bookings of a host, at most one of a key, and places that are reserved for more.
 #[derive(Drop)]
@@ -99,9 +100,9 @@ impl Timeline {
     }
 
     /// The seconds that bookings take which conflict with a run of the class, as maximal intervals, ascending.
-    pub fn busy(&self, class: Class) -> &[Interval]
-        ensures same { (second : ℕ) → covers result.now second ≡ is_busy class self.now.list second }
-        ensures apart { IsApart result.now }
+    pub fn busy(&self, class: Class) -> Lent<'_, Interval>
+        ensures same { (second : ℕ) → covers result second ≡ is_busy class self.now.list second }
+        ensures apart { IsApart result }
     {
         let _ = &self.bookings;
         self.busy.of(class)
@@ -118,6 +119,9 @@ impl Timeline {
         ensures least { result ≡ least_key (keys_of (firm class interval.now priority moment self.now.list)) }
         ensures none { is_none result ≡ list_all (can_preempt priority moment) (conflicting class interval.now self.now.list) }
     {
+        if self.is_clear(class, interval) {
+            return None;
+        }
         let (exclusive, normal) = self.beside(class, interval.start, Some(interval.end));
         lesser_of(
             least_firm(exclusive, class, interval, priority, moment),

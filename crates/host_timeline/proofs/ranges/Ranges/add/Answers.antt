@@ -14,14 +14,14 @@ returns-then-first-end-clause-list c =
     let first = c.ending_before-first.result in
     let end = c.starting_by-end.result in
     let seen : rs ≡ c.args.self.now.list = ap (λ (r : Ranges). r.list) c.self.view_is in
-    let early : IsPartitionPoint (λ r. ltb r.end s.start ≡ true) (λ r. ltb r.end s.start ≡ false) rs first = subst (λ l. IsPartitionPoint (λ r. ltb r.end s.start ≡ true) (λ r. ltb r.end s.start ≡ false) l first) c.as_slice.ensures.value c.ending_before-first.ensures.parted in
-    let late : IsPartitionPoint (λ r. ltb s.end r.start ≡ false) (λ r. ltb s.end r.start ≡ true) rs end = subst (λ l. IsPartitionPoint (λ r. ltb s.end r.start ≡ false) (λ r. ltb s.end r.start ≡ true) l end) c.as_slice-2.ensures.value c.starting_by-end.ensures.parted in
+    let early : IsPartitionPoint (λ r. ltb r.end s.start ≡ true) (λ r. ltb r.end s.start ≡ false) rs first = subst (λ l. IsPartitionPoint (λ r. ltb r.end s.start ≡ true) (λ r. ltb r.end s.start ≡ false) l first) c.in_order.ensures c.ending_before-first.ensures.parted in
+    let late : IsPartitionPoint (λ r. ltb s.end r.start ≡ false) (λ r. ltb s.end r.start ≡ true) rs end = subst (λ l. IsPartitionPoint (λ r. ltb s.end r.start ≡ false) (λ r. ltb s.end r.start ≡ true) l end) c.in_order-2.ensures c.starting_by-end.ensures.parted in
     let d = c.index.result.now in
     let e = c.index-then-first-end.result.now in
-    let within : end ≤ length rs = omega (arith, c.starting_by-end.ensures.within, ap length c.as_slice-2.ensures.value) in
+    let within : end ≤ length rs = omega (arith, c.starting_by-end.ensures.within, ap length c.in_order-2.ensures) in
     let start : c.min-start.result ≡ min (get_or rs first d).start s.start = c.min-start.ensures ∙ ap (λ (r : Span). min r.start s.start) (c.behind-self.view_is ∙ c.index.ensures) in
     let last : c.max-last.result ≡ max (get_or rs (end - 1) e).end s.end = c.max-last.ensures ∙ ap (λ (r : Span). max r.end s.end) (c.behind-self-then-first-end.view_is ∙ c.index-then-first-end.ensures) in
-    c.remove_range.ensures.list
+    c.take_out.ensures.list
     ∙ ap (λ l. remove_range l (first + 1) end) c.set.ensures.list
     ∙ closed rs (record { start = c.min-start.result; end = c.max-last.result }) first end c.if-first-end.true within
     ∙ ap₂ (λ a b. take first rs ++ (record { start = a; end = b }) ∷ drop end rs) start last
@@ -41,9 +41,9 @@ returns-else-first-end-clause-list c =
     let first = c.ending_before-first.result in
     let end = c.starting_by-end.result in
     let seen : rs ≡ c.args.self.now.list = ap (λ (r : Ranges). r.list) c.self.view_is in
-    let early : IsPartitionPoint (λ r. ltb r.end s.start ≡ true) (λ r. ltb r.end s.start ≡ false) rs first = subst (λ l. IsPartitionPoint (λ r. ltb r.end s.start ≡ true) (λ r. ltb r.end s.start ≡ false) l first) c.as_slice.ensures.value c.ending_before-first.ensures.parted in
-    let late : IsPartitionPoint (λ r. ltb s.end r.start ≡ false) (λ r. ltb s.end r.start ≡ true) rs end = subst (λ l. IsPartitionPoint (λ r. ltb s.end r.start ≡ false) (λ r. ltb s.end r.start ≡ true) l end) c.as_slice-2.ensures.value c.starting_by-end.ensures.parted in
-    let within : first ≤ length rs = omega (arith, c.ending_before-first.ensures.within, ap length c.as_slice.ensures.value) in
+    let early : IsPartitionPoint (λ r. ltb r.end s.start ≡ true) (λ r. ltb r.end s.start ≡ false) rs first = subst (λ l. IsPartitionPoint (λ r. ltb r.end s.start ≡ true) (λ r. ltb r.end s.start ≡ false) l first) c.in_order.ensures c.ending_before-first.ensures.parted in
+    let late : IsPartitionPoint (λ r. ltb s.end r.start ≡ false) (λ r. ltb s.end r.start ≡ true) rs end = subst (λ l. IsPartitionPoint (λ r. ltb s.end r.start ≡ false) (λ r. ltb s.end r.start ≡ true) l end) c.in_order-2.ensures c.starting_by-end.ensures.parted in
+    let within : first ≤ length rs = omega (arith, c.ending_before-first.ensures.within, ap length c.in_order.ensures) in
     rw c.insert.ensures.list (sym (put_between rs s first end c.interval.invariant c.self.invariant early late c.if-first-end.false within)) ∙ ap₂ with_range seen c.interval.view_is
 
 pub invariant_of-self-else-first-end : goal.invariant_of-self-else-first-end

@@ -1,12 +1,22 @@
-use Rattle.std.proofs.Common.{◌∙◌, ◌&&◌, Bool, not, Some, ap, ap₂, subst}
+use Rattle.std.proofs.Common.{◌∙◌, ◌&&◌, Bool, not, Some, ap, ap₂, subst, sym}
 use Rattle.std.proofs.Math.Facts.{to_z-of_z}
+use Rattle.std.specs.List.{list_all}
 use Rattle.std.specs.Option.{is_none}
 use Rattle.ps_time.specs.Span.{Span}
 use Rattle.host_timeline.specs.declared.booking.Booking.{Booking}
-use Rattle.host_timeline.specs.Booking.{conflicts_with, can_preempt, is_firm, lesser_of}
+use Rattle.host_timeline.specs.Booking.{conflicts_with, can_preempt, is_firm, keys_of, least_key, lesser_of}
 use Rattle.host_timeline.specs.Lane.{Decide}
 use Rattle.host_timeline.proofs.Least.{decided_least, none_least}
+use Rattle.host_timeline.proofs.WalkLemmas.{none_firm}
 use Rattle.host_timeline.proofs.timeline.Timeline.firm_conflict.Goals as goal
+
+-- nothing that is busy is in conflict with it
+pub returns-then-is_clear-clause-least : goal.returns-then-is_clear-clause-least
+returns-then-is_clear-clause-least c =
+    ap (λ l. least_key (keys_of l)) (sym (none_firm c.args.class c.args.interval.now c.args.priority c.args.moment c.args.self.now.list (c.is_clear.ensures c.if-is_clear.true)))
+
+pub returns-then-is_clear-clause-none : goal.returns-then-is_clear-clause-none
+returns-then-is_clear-clause-none c = ap (list_all (can_preempt c.args.priority c.args.moment)) (sym (c.is_clear.ensures c.if-is_clear.true))
 
 -- the least of the two lists
 pub returns-clause-least : goal.returns-clause-least
