@@ -6,5 +6,6 @@ pub mod LapseLemmas
 pub mod LastLemmas
 pub mod LedgerLemmas
 pub mod LiveLemmas
+pub mod ReverseLemmas
 pub mod RowLemmas
 pub mod StayLemmas

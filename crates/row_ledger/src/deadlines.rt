@@ -1,5 +1,5 @@
 //! The moments from which rows lapse, in order, so that those which have come are found first.
-ghost use Rattle.std.specs.Prelude.{◌≡◌, ◌≤◌, ◌<◌, ◌+◌, [], All, IfErr, IfOk, IfSome, OnOk, drop, false, length, true};
+ghost use Rattle.std.specs.Prelude.{◌≡◌, ◌≤◌, ◌<◌, ◌+◌, ◌-◌, [], All, IfErr, IfOk, IfSome, OnOk, drop, false, length, reverse, true};
 ghost use Rattle.std.specs.List.{remove};
 ghost use Rattle.std.specs.List.Sorted.{IsPartitionPoint};
 ghost use Rattle.run_states.specs.Life.{HasMoments};
@@ -23,20 +23,23 @@ pub struct Deadline {
 }
 
 /// Different deadlines in ascending order, in places that were reserved. Each stays in a cell of its own: where one comes or goes,
-/// only numbers of cells move, as `PlacedList` says. Where one goes, another is found by a search and moves into its cell.
+/// only numbers of cells move, as `PlacedList` says. Where one goes, another is found by a search and moves into its cell. They are
+/// kept the latest first, as those that come soon come and go most: behind them few numbers move.
 #[derive(Drop)]
 pub struct Deadlines {
+    // the latest first
     entries: PlacedList<Deadline>,
 }
 
 impl Model for Deadlines {
+    ghost use Rattle.std.specs.Prelude.{reverse};
     ghost use Rattle.row_ledger.specs.Deadlines.{Deadlines as Seen, IsAscendingDeadlines};
 
     ghost Value = { Seen };
 
-    ghost view = { λ d. record { list = d.entries.list; places = d.entries.places } };
+    ghost view = { λ d. record { list = reverse d.entries.list; places = d.entries.places } };
 
-    ghost invariant = { λ d. IsAscendingDeadlines d.entries.list };
+    ghost invariant = { λ d. IsAscendingDeadlines (reverse d.entries.list) };
 }
 
 impl Deadlines {
@@ -73,10 +76,11 @@ impl Deadlines {
         ensures walk { due_keys moment (drop place self.now.list) ≡ key_then result (due_keys moment (drop (place + 1) self.now.list)) }
         ensures ascending { IsAscendingDeadlines self.now.list }
     {
-        if self.entries.len() <= place {
+        let count = self.entries.len();
+        if count <= place {
             return None;
         }
-        let deadline = self.entries[place];
+        let deadline = self.entries[count - 1 - place];
         if deadline.moment <= moment {
             Some(deadline.key)
         } else {
@@ -133,7 +137,10 @@ impl Deadlines {
         let deadline = Deadline { moment, key };
         match self.search(&deadline) {
             Ok(_) => {}
-            Err(at) => self.entries.insert(at, deadline),
+            Err(at) => {
+                let behind = self.entries.len() - at;
+                self.entries.insert(behind, deadline)
+            }
         }
     }
 
@@ -142,11 +149,12 @@ impl Deadlines {
         ensures found { IfOk result (IsPlaceOf self.now.list deadline.now) }
         ensures absent { IfErr result (IsGapFor self.now.list deadline.now) }
     {
-        let at = count_before(&self.entries, deadline);
-        if at == self.entries.len() {
+        let behind = count_from(&self.entries, deadline);
+        let at = self.entries.len() - behind;
+        if behind == 0 {
             return Err(at);
         }
-        if self.entries[at].cmp(deadline).is_eq() {
+        if self.entries[behind - 1].cmp(deadline).is_eq() {
             Ok(at)
         } else {
             Err(at)
@@ -160,25 +168,26 @@ impl Deadlines {
         ensures ascending { IsAscendingDeadlines self.old.list }
         ensures places { self.new.places ≡ self.old.places }
     {
-        let moved = place_of_moved(&self.entries, at);
-        self.entries.remove(at, moved);
+        let place = self.entries.len() - 1 - at;
+        let moved = place_of_moved(&self.entries, place);
+        self.entries.remove(place, moved);
     }
 }
 
-// How many deadlines stand before it.
-fn count_before(entries: &PlacedList<Deadline>, deadline: &Deadline) -> usize
-    requires { IsAscendingDeadlines entries.now.list }
+// How many deadlines, the latest first, are no earlier than this one.
+fn count_from(entries: &PlacedList<Deadline>, deadline: &Deadline) -> usize
+    requires { IsAscendingDeadlines (reverse entries.now.list) }
     ensures within { result ≤ length entries.now.list }
-    ensures parted { IsPartitionPoint (λ e. is_before deadline.now e ≡ true) (λ e. is_before deadline.now e ≡ false) entries.now.list result }
+    ensures parted { IsPartitionPoint (λ e. is_before deadline.now e ≡ true) (λ e. is_before deadline.now e ≡ false) (reverse entries.now.list) (length entries.now.list - result) }
 {
     entries
         .in_order()
-        .partition_point(|entry| entry.cmp(deadline).is_lt())
+        .partition_point(|entry| !entry.cmp(deadline).is_lt())
 }
 
 // The place of the deadline in the last cell, as the one at this place goes: often it is that one, else it is found by a search.
 fn place_of_moved(entries: &PlacedList<Deadline>, at: usize) -> usize
-    requires ascending { IsAscendingDeadlines entries.now.list }
+    requires ascending { IsAscendingDeadlines (reverse entries.now.list) }
     requires within { at < length entries.now.list }
     ensures { result ≡ entries.now.last }
 {
@@ -186,7 +195,7 @@ fn place_of_moved(entries: &PlacedList<Deadline>, at: usize) -> usize
     if entries[at].cmp(last).is_eq() {
         return at;
     }
-    count_before(entries, last)
+    count_from(entries, last) - 1
 }
 
 /// The deadlines of rows, in these places, where there is one for each row.

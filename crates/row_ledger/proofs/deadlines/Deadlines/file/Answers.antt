@@ -1,23 +1,27 @@
-use Rattle.std.proofs.Common.{◌≡◌, Some, ap, sym, subst, ◌∙◌}
+use Rattle.std.proofs.Common.{◌≡◌, ◌-◌, Some, ap, reverse, sym, subst, ◌∙◌, arith}
+use Rattle.std.proofs.lemmas.List.{length-reverse}
+use Rattle.std.specs.List.{insert}
 use Rattle.row_ledger.specs.Deadlines.{filed, Deadlines, IsAscendingDeadlines, IsGapFor, IsPlaceOf}
 use Rattle.row_ledger.specs.declared.deadlines.Deadline.{Deadline}
 use Rattle.row_ledger.proofs.DeadlineLemmas.{ascending_put, put_gap, put_place}
+use Rattle.row_ledger.proofs.ReverseLemmas.{reverse_insert}
 use Rattle.row_ledger.proofs.deadlines.Deadlines.file.Goals as goal
 
 -- the deadline goes into the gap
 pub invariant_of-self : goal.invariant_of-self
 invariant_of-self c =
     let d : Deadline = record { moment = c.in-Some.moment; key = c.args.key } in
-    let items = c.self.inside.entries.list in
-    let seen : items ≡ c.args.self.now.list = ap (λ (t : Deadlines). t.list) c.self.view_is in
-    let gap : IsGapFor items d c.in-Err.at = rw seen c.in-Err.ensures.absent in
-    subst IsAscendingDeadlines (sym c.insert.ensures.list) (ascending_put items d c.in-Err.at c.self.invariant gap)
+    let ds = c.self.inside.entries.list in
+    let seen : reverse ds ≡ c.args.self.now.list = ap (λ (t : Deadlines). t.list) c.self.view_is in
+    let gap : IsGapFor (reverse ds) d c.in-Err.at = rw seen c.in-Err.ensures.absent in
+    let put : reverse c.insert.new.self.list ≡ insert (reverse ds) c.in-Err.at d = ap reverse c.insert.ensures.list ∙ ap (λ n. reverse (insert ds (n - c.in-Err.at) d)) c.len.ensures.value ∙ reverse_insert ds c.in-Err.at d (omega (arith, gap.within, length-reverse ds)) in
+    subst IsAscendingDeadlines (sym put) (ascending_put (reverse ds) d c.in-Err.at c.self.invariant gap)
 
 -- one that is there already stays
 pub returns-in-Ok-clause-list : goal.returns-in-Ok-clause-list
 returns-in-Ok-clause-list c =
     let d : Deadline = record { moment = c.in-Some.moment; key = c.args.key } in
-    let items = c.self.inside.entries.list in
+    let items = reverse c.self.inside.entries.list in
     let seen : items ≡ c.args.self.now.list = ap (λ (t : Deadlines). t.list) c.self.view_is in
     let place : IsPlaceOf items d c.in-Ok.field-0 = rw seen c.in-Ok.ensures.found in
     rw (← seen) (sym (ap (λ o. filed c.args.key o items) c.in-Some.is ∙ put_place items c.self.invariant d c.in-Ok.field-0 place))
@@ -25,7 +29,8 @@ returns-in-Ok-clause-list c =
 pub returns-in-Err-clause-list : goal.returns-in-Err-clause-list
 returns-in-Err-clause-list c =
     let d : Deadline = record { moment = c.in-Some.moment; key = c.args.key } in
-    let items = c.self.inside.entries.list in
-    let seen : items ≡ c.args.self.now.list = ap (λ (t : Deadlines). t.list) c.self.view_is in
-    let gap : IsGapFor items d c.in-Err.at = rw seen c.in-Err.ensures.absent in
-    c.insert.ensures.list ∙ (sym (put_gap items d c.in-Err.at gap) ∙ (ap (λ l. filed c.args.key (Some c.in-Some.moment) l) seen ∙ sym (ap (λ o. filed c.args.key o c.args.self.now.list) c.in-Some.is)))
+    let ds = c.self.inside.entries.list in
+    let seen : reverse ds ≡ c.args.self.now.list = ap (λ (t : Deadlines). t.list) c.self.view_is in
+    let gap : IsGapFor (reverse ds) d c.in-Err.at = rw seen c.in-Err.ensures.absent in
+    let put : reverse c.insert.new.self.list ≡ insert (reverse ds) c.in-Err.at d = ap reverse c.insert.ensures.list ∙ ap (λ n. reverse (insert ds (n - c.in-Err.at) d)) c.len.ensures.value ∙ reverse_insert ds c.in-Err.at d (omega (arith, gap.within, length-reverse ds)) in
+    put ∙ (sym (put_gap (reverse ds) d c.in-Err.at gap) ∙ (ap (λ l. filed c.args.key (Some c.in-Some.moment) l) seen ∙ sym (ap (λ o. filed c.args.key o c.args.self.now.list) c.in-Some.is)))
