@@ -1,5 +1,5 @@
 //! Proposals, and why a run was denied or closed, as bytes.
-ghost use Rattle.std.specs.Prelude.{◌≡◌, IfOk};
+ghost use Rattle.std.specs.Prelude.{IfOk};
 ghost use Rattle.value_bytes.specs.Gives.{Gives};
 ghost use Rattle.value_bytes.specs.Reasons.{FitsCause, FitsDenial, FitsWhy, cause_cases, denial_cases, why_cases};
 

@@ -354,14 +354,11 @@ fn place_of(rows: &PlacedList<RunRow>, key: RunKey) -> Result<usize, usize>
 fn numbered_place(rows: &PlacedList<RunRow>, key: RunKey) -> Option<usize>
     ensures { IfSome result (IsPlaceOf rows.now.list key) }
 {
-    if rows.len() == 0 {
+    let first = rows.in_order().front()?;
+    if !first.is_of_task(key.lead, key.task) || key.number < first.key.number {
         return None;
     }
-    let first = rows[0].key;
-    if first.lead != key.lead || first.task != key.task || key.number < first.number {
-        return None;
-    }
-    let at = (key.number - first.number) as usize;
+    let at = (key.number - first.key.number) as usize;
     if at < rows.len() && rows[at].key.order(&key).is_eq() {
         Some(at)
     } else {
