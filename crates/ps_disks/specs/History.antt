@@ -119,8 +119,17 @@ changed_from Sync len = len
 abbrev pub taken_from : LoggedCall → ℕ → ℕ
 taken_from l len = if l.done then changed_from l.call len else len
 
+-- before which place it changes or takes so many bytes
+abbrev pub changed_until : DiskCall → ℕ → ℕ
+changed_until (Write at bytes) len = min (at + length bytes) len
+changed_until (Cut left) len = len
+changed_until Sync len = len
+
+abbrev pub taken_until : LoggedCall → ℕ → ℕ
+taken_until l len = if l.done then changed_until l.call len else len
+
 abbrev pub undone_one : RecentCall → List ℕ → List ℕ
-undone_one r bytes = take r.at bytes ++ r.tail.items
+undone_one r bytes = take r.len (written r.at r.piece.items bytes)
 
 -- the last of these calls first
 abbrev pub undone : List RecentCall → List ℕ → List ℕ

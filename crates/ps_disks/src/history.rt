@@ -1,7 +1,7 @@
 //! The bytes of a disk in memory, and the calls that made them.
 ghost use Rattle.std.specs.Prelude.{◌≡◌, ◌+◌, ◌-◌, ◌≤◌, ◌++◌, [], ◌∷◌, length, map, take, drop, replicate, min, IsTrue, IfOk, OnOk, OnErr};
 ghost use Rattle.ps_disks.specs.Disk.{AreBounded, written, done_by};
-ghost use Rattle.ps_disks.specs.History.{EndsInReach, History as Story, IsImage, IsStanding, bytes_now, effect, fixes, half_done_by, half_replayed, image_bytes, left_by, taken_from, undone, undone_one, with_call};
+ghost use Rattle.ps_disks.specs.History.{EndsInReach, History as Story, IsImage, IsStanding, bytes_now, effect, fixes, half_done_by, half_replayed, image_bytes, left_by, taken_from, taken_until, undone, undone_one, with_call};
 ghost use Rattle.ps_disks.specs.declared.history.RecentCall.{RecentCall as Recent};
 
 use crate::disk::DiskCall;
@@ -18,12 +18,13 @@ pub struct LoggedCall {
     pub done: bool,
 }
 
-/// A call that no sync has made sure of, and what undoes it: the bytes from this place on give way to this tail.
+/// A call that no sync has made sure of, and what undoes it: this piece is written at this place, and so many bytes are left.
 #[derive(Drop)]
 pub struct RecentCall {
     pub logged: LoggedCall,
     pub at: usize,
-    pub tail: Vec<u8>,
+    pub piece: Vec<u8>,
+    pub len: usize,
 }
 
 /// Of the calls those since the last sync alone take memory.
@@ -152,21 +153,29 @@ fn log_call(
     ensures since_err { OnErr result (recent.new.items ≡ recent.old.items) }
 {
     recent.reserve(1)?;
-    let at = taken_from(&logged, bytes.len());
-    let tail = tail_of(alloc, bytes, at)?;
+    let len = bytes.len();
+    let at = taken_from(&logged, len);
+    let until = taken_until(&logged, len);
+    let piece = piece_of(alloc, bytes, at, until)?;
     if logged.done {
         make(bytes, &logged.call)?;
     }
-    recent.push(RecentCall { logged, at, tail })?;
+    recent.push(RecentCall {
+        logged,
+        at,
+        piece,
+        len,
+    })?;
     Ok(())
 }
 
-// The bytes from this place on.
-fn tail_of(alloc: Global, bytes: &[u8], at: usize) -> Result<Vec<u8>, Memory>
-    requires { at ≤ length bytes.now }
-    ensures { IfOk result (λ tail. tail.items ≡ drop at bytes.now) }
+// The bytes from one place on, before another.
+fn piece_of(alloc: Global, bytes: &[u8], at: usize, until: usize) -> Result<Vec<u8>, Memory>
+    requires ordered { at ≤ until }
+    requires within { until ≤ length bytes.now }
+    ensures { IfOk result (λ piece. piece.items ≡ take (until - at) (drop at bytes.now)) }
 {
-    Ok(bytes[at..].to_vec(alloc)?)
+    Ok(bytes[at..until].to_vec(alloc)?)
 }
 
 // From which place on a call changes so many bytes.
@@ -179,6 +188,23 @@ fn taken_from(logged: &LoggedCall, len: usize) -> usize
     match &logged.call {
         DiskCall::Write(at, _) => len.min(*at as usize),
         DiskCall::Cut(left) => len.min(*left as usize),
+        DiskCall::Sync => len,
+    }
+}
+
+// Before which place a call changes or takes so many bytes.
+fn taken_until(logged: &LoggedCall, len: usize) -> usize
+    ensures { result ≡ taken_until logged.now len }
+{
+    if !logged.done {
+        return len;
+    }
+    match &logged.call {
+        DiskCall::Write(at, piece) => {
+            let end = at.saturating_add(piece.len() as u64);
+            len.min(end as usize)
+        }
+        DiskCall::Cut(_) => len,
         DiskCall::Sync => len,
     }
 }
@@ -274,8 +300,8 @@ fn undo_all(bytes: &mut Vec<u8>, recent: &[RecentCall]) -> Result<(), Memory>
 fn undo(bytes: &mut Vec<u8>, recent: &RecentCall) -> Result<(), Memory>
     ensures { OnOk result (bytes.new.items ≡ undone_one recent.now bytes.old.items) }
 {
-    bytes.truncate(recent.at);
-    bytes.extend_from_slice(&recent.tail)?;
+    overwrite(bytes, recent.at as u64, &recent.piece)?;
+    bytes.truncate(recent.len);
     Ok(())
 }
 
