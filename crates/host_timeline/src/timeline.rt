@@ -1,5 +1,5 @@
 //! The timeline: the bookings of a host, ascending by key, with reserved places.
-ghost use Rattle.std.specs.Prelude.{◌≡◌, ◌+◌, ◌<◌, ◌≤◌, ◌&&◌, [], ℕ, Bool, false, None, Some, IfOk, IfErr, IfNone, IfSome, OnOk, is_some, if◌then◌else◌, length, IsTrue};
+ghost use Rattle.std.specs.Prelude.{◌≡◌, ◌+◌, ◌<◌, ◌≤◌, ◌&&◌, [], ℕ, Bool, false, None, Some, IfOk, IfErr, IfNone, IfSome, OnOk, is_some, if◌then◌else◌, length};
 ghost use Rattle.std.specs.List.{filter_map, list_all};
 ghost use Rattle.std.specs.Option.{is_none};
 ghost use Rattle.ps_time.specs.Key.{key_cmp};
@@ -119,10 +119,7 @@ impl Timeline {
         ensures least { result ≡ least_key (keys_of (firm class interval.now priority moment self.now.list)) }
         ensures none { is_none result ≡ list_all (can_preempt priority moment) (conflicting class interval.now self.now.list) }
     {
-        if self.is_clear(class, interval) {
-            return None;
-        }
-        let (exclusive, normal) = self.beside(class, interval.start, Some(interval.end));
+        let (exclusive, normal) = self.at_odds(class, interval)?;
         lesser_of(
             least_firm(exclusive, class, interval, priority, moment),
             least_firm(normal, class, interval, priority, moment),
@@ -174,10 +171,7 @@ impl Timeline {
         ensures walk { keys_of (conflicting_after class interval.now after self.now.list) ≡ key_and result (λ key. keys_of (conflicting_after class interval.now (Some key) self.now.list)) }
     {
         let _ = &self.bookings;
-        if self.is_clear(class, interval) {
-            return None;
-        }
-        let (exclusive, normal) = self.beside(class, interval.start, Some(interval.end));
+        let (exclusive, normal) = self.at_odds(class, interval)?;
         lesser_of(
             least_conflict(exclusive, class, interval, after),
             least_conflict(normal, class, interval, after),
@@ -307,25 +301,31 @@ impl Timeline {
         ensures ordered { IsAscendingBookings self.now.list }
     {
         let _ = &self.bookings;
-        if self.is_clear(class, interval) {
-            return None;
-        }
-        let (exclusive, normal) = self.beside(class, interval.start, Some(interval.end));
+        let (exclusive, normal) = self.at_odds(class, interval)?;
         match first_conflict(exclusive, class, interval) {
             Some(key) => Some(key),
             None => first_conflict(normal, class, interval),
         }
     }
 
-    // Whether what is busy tells that no booking is in conflict with a run.
-    fn is_clear(&self, class: Class, interval: &Interval) -> bool
-        ensures { IsTrue result → conflicting class interval.now self.now.list ≡ [] }
+    // The exclusive and the normal bookings among which those in conflict with a run are; `None` where what is busy tells that
+    // there are none.
+    fn at_odds(
+        &self,
+        class: Class,
+        interval: &Interval,
+    ) -> Option<(LentBookings<'_>, LentBookings<'_>)>
+        ensures clear { IfNone result (conflicting class interval.now self.now.list ≡ []) }
+        ensures decide { IfSome result (λ lanes. Decide class interval.now.start (Some interval.now.end) self.now.list lanes.0 lanes.1) }
     {
         let _ = &self.bookings;
         let from = interval.start;
+        let until = Some(interval.end);
         let earliest = self.busy.reach_back(class, from);
-        self.lanes
-            .are_clear(class, earliest, from, Some(interval.end))
+        if self.lanes.are_clear(class, earliest, from, until) {
+            return None;
+        }
+        Some(self.lanes.beside(class, earliest, from, until))
     }
 
     // The exclusive and the normal bookings that a run of the class has to look at.
