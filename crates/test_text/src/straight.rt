@@ -2,14 +2,12 @@
 ghost use Rattle.std.specs.Prelude.{◌≡◌, ◌≤◌, [], IfOk, OnOk};
 ghost use Rattle.std.specs.Str.{IsUtf8};
 ghost use Rattle.std.specs.String.{string_bytes};
-ghost use Rattle.ps_time.specs.declared.moment.TheConstants.{MAX_LENGTH};
-ghost use Rattle.plugin_core.specs.Bounds.{IsTest};
 ghost use Rattle.plugin_core.specs.declared.test_spec.TestSpec.{TestSpec};
 ghost use Rattle.test_text.specs.Straight.{with_duration, with_hosts, with_kind, with_length, with_names, with_note, with_notes, with_sleep, with_test, with_text};
 
+use crate::lengths::push_length_text;
 use plugin_core::test_spec::{Sleep, TestSpec};
 use ps_time::items::Items;
-use ps_time::length_text::length_text;
 use ps_time::memory::Memory;
 use ps_time::moment::Length;
 use ps_time::text::Text;
@@ -36,12 +34,13 @@ fn push_note(out: &mut String, head: &str, note: &Option<Text>) -> Result<(), Me
     }
 }
 
-fn push_length(out: &mut String, alloc: Global, head: &str, length: Length) -> Result<(), Memory>
-    requires { length ≤ MAX_LENGTH }
+fn push_length(out: &mut String, head: &str, length: Length) -> Result<(), Memory>
     ensures { OnOk result (string_bytes out.new ≡ with_length (string_bytes out.old) head.now length) }
 {
-    let text = length_text(alloc, length)?;
-    push_text(out, head, text.as_str())
+    out.push_str(head)?;
+    push_length_text(out, length)?;
+    out.push_str("\"")?;
+    Ok(())
 }
 
 fn push_names(out: &mut String, names: &[Text]) -> Result<(), Memory>
@@ -66,11 +65,10 @@ fn push_hosts(out: &mut String, hosts: &[Text]) -> Result<(), Memory>
     }
 }
 
-fn push_duration(out: &mut String, alloc: Global, sleep: &Sleep) -> Result<(), Memory>
-    requires { sleep.now.duration ≤ MAX_LENGTH }
+fn push_duration(out: &mut String, sleep: &Sleep) -> Result<(), Memory>
     ensures { OnOk result (string_bytes out.new ≡ with_duration (string_bytes out.old) sleep.now) }
 {
-    push_length(out, alloc, "{\"spec\":{\"duration\":\"", sleep.duration)
+    push_length(out, "{\"spec\":{\"duration\":\"", sleep.duration)
 }
 
 fn push_notes(out: &mut String, sleep: &Sleep) -> Result<(), Memory>
@@ -88,81 +86,65 @@ fn push_kind(out: &mut String, kind: &str) -> Result<(), Memory>
     Ok(())
 }
 
-fn push_paced(
-    out: &mut String,
-    alloc: Global,
-    sleep: &Sleep,
-    interval: Length,
-) -> Result<(), Memory>
-    requires { (sleep.now.duration ≤ MAX_LENGTH) × (interval ≤ MAX_LENGTH) }
+fn push_paced(out: &mut String, sleep: &Sleep, interval: Length) -> Result<(), Memory>
     ensures { OnOk result (string_bytes out.new
         ≡ with_test (string_bytes out.old) (TestSpec.Idlebgm sleep.now interval)) }
 {
-    push_duration(out, alloc, sleep)?;
-    push_length(out, alloc, ",\"interval\":\"", interval)?;
+    push_duration(out, sleep)?;
+    push_length(out, ",\"interval\":\"", interval)?;
     push_notes(out, sleep)?;
     push_kind(out, "idlebgm")
 }
 
-fn push_many(
-    out: &mut String,
-    alloc: Global,
-    sleep: &Sleep,
-    hosts: &Items<Text>,
-) -> Result<(), Memory>
-    requires { sleep.now.duration ≤ MAX_LENGTH }
+fn push_many(out: &mut String, sleep: &Sleep, hosts: &Items<Text>) -> Result<(), Memory>
     ensures { OnOk result (string_bytes out.new
         ≡ with_test (string_bytes out.old) (TestSpec.Idlemany sleep.now hosts.now)) }
 {
-    push_duration(out, alloc, sleep)?;
+    push_duration(out, sleep)?;
     push_hosts(out, hosts.as_slice())?;
     push_notes(out, sleep)?;
     push_kind(out, "idlemany")
 }
 
-fn push_sleep(out: &mut String, alloc: Global, sleep: &Sleep, kind: &str) -> Result<(), Memory>
-    requires { sleep.now.duration ≤ MAX_LENGTH }
+fn push_sleep(out: &mut String, sleep: &Sleep, kind: &str) -> Result<(), Memory>
     ensures { OnOk result (string_bytes out.new ≡ with_sleep (string_bytes out.old) sleep.now kind.now) }
 {
-    push_duration(out, alloc, sleep)?;
+    push_duration(out, sleep)?;
     push_notes(out, sleep)?;
     push_kind(out, kind)
 }
 
 fn push_stream(
     out: &mut String,
-    alloc: Global,
     dest: &Text,
     material: &Text,
     dawdle: Length,
     timeout: Length,
 ) -> Result<(), Memory>
-    requires { (dawdle ≤ MAX_LENGTH) × (timeout ≤ MAX_LENGTH) }
     ensures { OnOk result (string_bytes out.new
         ≡ with_test (string_bytes out.old) (TestSpec.Simplestream dest.now material.now dawdle timeout)) }
 {
-    push_length(out, alloc, "{\"spec\":{\"dawdle\":\"", dawdle)?;
+    push_length(out, "{\"spec\":{\"dawdle\":\"", dawdle)?;
     push_text(out, ",\"dest\":\"", dest.as_str())?;
     push_text(out, ",\"test-material\":\"", material.as_str())?;
-    push_length(out, alloc, ",\"timeout\":\"", timeout)?;
+    push_length(out, ",\"timeout\":\"", timeout)?;
     push_kind(out, "simplestream")
 }
 
-fn push_test(out: &mut String, alloc: Global, test: &TestSpec) -> Result<(), Memory>
-    requires { IsTest test.now }
+fn push_test(out: &mut String, test: &TestSpec) -> Result<(), Memory>
     ensures { OnOk result (string_bytes out.new ≡ with_test (string_bytes out.old) test.now) }
 {
     match test {
-        TestSpec::Idle(sleep) => push_sleep(out, alloc, sleep, "idle"),
-        TestSpec::Idleex(sleep) => push_sleep(out, alloc, sleep, "idleex"),
-        TestSpec::Idlebgm { sleep, interval } => push_paced(out, alloc, sleep, *interval),
-        TestSpec::Idlemany { sleep, hosts } => push_many(out, alloc, sleep, hosts),
+        TestSpec::Idle(sleep) => push_sleep(out, sleep, "idle"),
+        TestSpec::Idleex(sleep) => push_sleep(out, sleep, "idleex"),
+        TestSpec::Idlebgm { sleep, interval } => push_paced(out, sleep, *interval),
+        TestSpec::Idlemany { sleep, hosts } => push_many(out, sleep, hosts),
         TestSpec::Simplestream {
             dest,
             test_material,
             dawdle,
             timeout,
-        } => push_stream(out, alloc, dest, test_material, *dawdle, *timeout),
+        } => push_stream(out, dest, test_material, *dawdle, *timeout),
     }
 }
 
@@ -178,12 +160,11 @@ fn room(test: &TestSpec) -> usize {
 
 /// The text of a test, each byte of its texts as it is.
 pub fn straight_text(alloc: Global, test: &TestSpec) -> Result<Text, Memory>
-    requires { IsTest test.now }
     ensures text { IfOk result (λ text. text ≡ with_test [] test.now) }
     ensures utf8 { IfOk result IsUtf8 }
 {
     let mut out = String::with_capacity(alloc, room(test))?;
-    push_test(&mut out, alloc, test)?;
+    push_test(&mut out, test)?;
     let text = Text::from_string(out);
     let _ = text.as_str();
     Ok(text)
