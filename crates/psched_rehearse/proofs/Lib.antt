@@ -1,4 +1,5 @@
 mod LineLemmas
 pub mod PlayLemmas
+mod SeatLemmas
 mod SettleLemmas
 mod TurnLemmas

@@ -9,7 +9,7 @@ ghost use Rattle.rehearsal_model.specs.Rehearsal.{stage_table};
 ghost use Rattle.rehearsal_model.specs.Scenes.{Turns, first_scene, last_scene, world_of};
 ghost use Rattle.rehearsal_model.specs.Seats.{opened_anew};
 ghost use Rattle.rehearsal_model.specs.Telling.{lines_said, report_of};
-ghost use Rattle.rehearsal_moves.specs.Kept.{AreKeptOn, IsKeptOn};
+ghost use Rattle.rehearsal_moves.specs.Kept.{AreKeptOn};
 
 use crate::line::run_line;
 use archivers::by_name::Archivers;
@@ -27,6 +27,7 @@ use rehearsal_moves::state::seat::Seat;
 use report_text::report::ReportText;
 use report_text::table::add_table;
 use std::alloc::Global;
+use std::mem::forget;
 
 /// The hosts of a script, opened at moment 0.
 pub fn open_hosts(alloc: Global, hosts: &[ScriptHost]) -> Result<Vec<Seat>, Memory>
@@ -98,6 +99,57 @@ fn add_host_table(
     add_table(alloc, report, name, seat.book().rows().in_order(), moment)
 }
 
+// The host, once its table at a moment, in seconds since 1970 UTC, is in the report.
+fn tell(alloc: Global, seat: Seat, moment: Moment, report: &mut ReportText) -> Result<Seat, Memory>
+    requires config { IsConfig seat.state.config }
+    requires moment { moment ≤ MAX_MOMENT }
+    ensures report { OnOk result (report.new ≡ report.old ++ stage_table moment seat.state) }
+    ensures state { IfOk result (λ told. told.state ≡ seat.state) }
+{
+    let seat = settle(alloc, seat, moment)?;
+    add_host_table(alloc, &seat, moment, report)?;
+    Ok(seat)
+}
+
+fn tell_all(
+    alloc: Global,
+    seats: Vec<Seat>,
+    moment: Moment,
+    report: &mut ReportText,
+) -> Result<Vec<Seat>, Memory>
+    requires configs { All (λ seat. IsConfig seat.state.config) seats.items }
+    requires moment { moment ≤ MAX_MOMENT }
+    ensures report { OnOk result (report.new ≡ report.old ++ flat_map (λ seat. stage_table moment seat.state) seats.items) }
+    ensures states { IfOk result (λ told. map (λ seat. seat.state) told.items ≡ map (λ seat. seat.state) seats.items) }
+{
+    let mut told = Vec::new(alloc);
+    for seat in seats {
+        told.push(tell(alloc, seat, moment, report)?)?;
+    }
+    Ok(told)
+}
+
+// Runs the hosts of a script, each opened with an empty book at moment 0: the report on what they do, and the hosts as they stand then.
+fn run_through<A: Archivers>(
+    alloc: Global,
+    script: &Script,
+    archivers: &mut A,
+) -> Result<(ReportText, Vec<Seat>), Memory>
+    requires { IsLawful script.now }
+    ensures report { IfOk result (λ made. made.0 ≡ report_of (A.comes archivers.old) script.now) }
+    ensures states { IfOk result (λ made. map (λ seat. seat.state) made.1.items ≡ map (λ seat. seat.state) (last_scene (A.comes archivers.old) script.now).seats) }
+    ensures safe { (turns : Turns) → OnOk result (Safe (world_of (A.comes archivers.old) script.now turns)) }
+    ensures stays { A.comes archivers.new ≡ A.comes archivers.old }
+{
+    let seats = open_hosts(alloc, script.hosts.as_slice())?;
+    let mut now = Rehearsal::new(alloc, seats)?;
+    let mut report = ReportText::new(alloc);
+    run_lines(alloc, script, archivers, &mut now, &mut report)?;
+    let moment = now.last();
+    let seats = tell_all(alloc, now.into_seats(), moment, &mut report)?;
+    Ok((report, seats))
+}
+
 /// The disks of a host, in their order.
 pub type Disks = (MemoryDisk, MemoryDisk);
 
@@ -109,42 +161,12 @@ pub struct Rehearsed {
     pub disks: Vec<Disks>,
 }
 
-// The table of a host at a moment, in seconds since 1970 UTC, and its disks.
-fn finish(
-    alloc: Global,
-    seat: Seat,
-    moment: Moment,
-    report: &mut ReportText,
-) -> Result<Disks, Memory>
-    requires config { IsConfig seat.state.config }
-    requires moment { moment ≤ MAX_MOMENT }
-    ensures report { OnOk result (report.new ≡ report.old ++ stage_table moment seat.state) }
-    ensures kept { IfOk result (λ disks. IsKeptOn seat.state disks.0 disks.1) }
-{
-    let seat = settle(alloc, seat, moment)?;
-    match add_host_table(alloc, &seat, moment, report) {
-        Ok(()) => seat.into_disks(),
-        Err(fault) => {
-            drop(seat);
-            Err(fault)
-        }
-    }
-}
-
-fn finish_all(
-    alloc: Global,
-    seats: Vec<Seat>,
-    moment: Moment,
-    report: &mut ReportText,
-) -> Result<Vec<Disks>, Memory>
-    requires configs { All (λ seat. IsConfig seat.state.config) seats.items }
-    requires moment { moment ≤ MAX_MOMENT }
-    ensures report { OnOk result (report.new ≡ report.old ++ flat_map (λ seat. stage_table moment seat.state) seats.items) }
-    ensures kept { IfOk result (λ disks. AreKeptOn seats.items disks.items) }
+fn disks_of(alloc: Global, seats: Vec<Seat>) -> Result<Vec<Disks>, Memory>
+    ensures { IfOk result (λ disks. AreKeptOn seats.items disks.items) }
 {
     let mut disks = Vec::new(alloc);
     for seat in seats {
-        disks.push(finish(alloc, seat, moment, report)?)?;
+        disks.push(seat.into_disks()?)?;
     }
     Ok(disks)
 }
@@ -164,19 +186,16 @@ pub fn run_script<A: Archivers>(
     ensures safe { (turns : Turns) → OnOk result (Safe (world_of (A.comes archivers.old) script.now turns)) }
     ensures stays { A.comes archivers.new ≡ A.comes archivers.old }
 {
-    let seats = open_hosts(alloc, script.hosts.as_slice())?;
-    let mut now = Rehearsal::new(alloc, seats)?;
-    let mut report = ReportText::new(alloc);
-    run_lines(alloc, script, archivers, &mut now, &mut report)?;
-    let moment = now.last();
-    let disks = finish_all(alloc, now.into_seats(), moment, &mut report)?;
+    let (report, seats) = run_through(alloc, script, archivers)?;
+    let disks = disks_of(alloc, seats)?;
     Ok(Rehearsed {
         report: report.into_bytes(),
         disks,
     })
 }
 
-/// The report alone.
+/// The report alone. Its hosts keep their memory until the program ends: to free their rows one by one would take as long as to
+/// book some of them.
 pub fn rehearse<A: Archivers>(
     alloc: Global,
     script: &Script,
@@ -187,7 +206,7 @@ pub fn rehearse<A: Archivers>(
     ensures safe { (turns : Turns) → OnOk result (Safe (world_of (A.comes archivers.old) script.now turns)) }
     ensures stays { A.comes archivers.new ≡ A.comes archivers.old }
 {
-    let Rehearsed { report, disks } = run_script(alloc, script, archivers)?;
-    drop(disks);
-    Ok(report)
+    let (report, seats) = run_through(alloc, script, archivers)?;
+    forget(seats);
+    Ok(report.into_bytes())
 }

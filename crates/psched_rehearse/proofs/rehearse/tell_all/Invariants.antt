@@ -1,13 +1,11 @@
 use Rattle.std.specs.Prelude.{All, flat_map}
-use Rattle.std.proofs.Common.{◌≡◌, ◌++◌, List}
+use Rattle.std.proofs.Common.{◌≡◌, ◌++◌, map}
 use Rattle.std.specs.Vec.Iter.{into_iter_items}
 use Rattle.host_model.specs.Conditions.{IsConfig}
 use Rattle.machine_seat.specs.Held.{Held}
-use Rattle.ps_disks.specs.MemoryDisk.{DiskState}
 use Rattle.psched_world.specs.World.{Stage}
 use Rattle.rehearsal_model.specs.Rehearsal.{stage_table}
-use Rattle.rehearsal_moves.specs.Kept.{AreKeptOn}
-use Rattle.psched_rehearse.proofs.rehearse.finish_all.Given as goal
+use Rattle.psched_rehearse.proofs.rehearse.tell_all.Given as goal
 
 -- with those of the hosts that are left they are those of all
 abbrev pub invariant-loop-seat : goal.invariant-loop-seat
@@ -15,6 +13,6 @@ invariant-loop-seat l = record {
   can_next : (goal.iterator-loop-seat).can_next l.seat-iterator;
   is_finite : (goal.iterator-loop-seat).is_finite l.seat-iterator;
   configs : All (λ (h : Held Stage). IsConfig h.state.config) (into_iter_items l.seat-iterator);
-  told : l.report ++ flat_map (λ (h : Held Stage). stage_table l.moment h.state) (into_iter_items l.seat-iterator) ≡ l.fn.report ++ flat_map (λ (h : Held Stage). stage_table l.moment h.state) l.fn.seats.items;
-  kept : (more : List (DiskState × DiskState)) → AreKeptOn (into_iter_items l.seat-iterator) more → AreKeptOn l.fn.seats.items (l.disks.items ++ more);
+  tables : l.report ++ flat_map (λ (h : Held Stage). stage_table l.moment h.state) (into_iter_items l.seat-iterator) ≡ l.fn.report ++ flat_map (λ (h : Held Stage). stage_table l.moment h.state) l.fn.seats.items;
+  states : map (λ (h : Held Stage). h.state) l.told.items ++ map (λ (h : Held Stage). h.state) (into_iter_items l.seat-iterator) ≡ map (λ (h : Held Stage). h.state) l.fn.seats.items;
 }
