@@ -71,8 +71,11 @@ unfoldable pub length_of : List ℕ → Result ℕ TimeFault
 length_of bs = if slice_index bs 0 == 80 then length_shown (amount_of (drop 1 bs)) else Err Syntax
 
 -- a count with its designator, where it isn't 0
+abbrev pub counted : ℕ → List ℕ → List ℕ
+counted n designator = if n == 0 then [] else decimal n ++ designator
+
 abbrev pub count_text : ℕ → ℕ → List ℕ
-count_text n designator = if n == 0 then [] else decimal n ++ designator ∷ []
+count_text n designator = counted n (designator ∷ [])
 
 -- the part of a second of the day, where it isn't the first
 abbrev pub clock_part : ℕ → List ℕ

@@ -1,86 +1,61 @@
 //! The text of a length.
-ghost use Rattle.std.specs.Prelude.{◌≡◌, ◌≤◌, ◌<◌, ℕ, Ok, IfOk};
-ghost use Rattle.ps_time.specs.Length.{length_of, length_text_of};
+ghost use Rattle.std.specs.Prelude.{◌≡◌, ◌++◌, ◌≤◌, ℕ, Ok, IfOk, OnOk};
+ghost use Rattle.std.specs.String.{string_bytes};
+ghost use Rattle.ps_time.specs.Length.{clock_part, counted, length_of, length_text_of};
 
 use crate::memory::Memory;
 use crate::moment::{Length, MAX_LENGTH};
 use crate::text::Text;
+use itoa::Buffer;
 use std::alloc::Global;
-use std::fmt;
-
-/// A count with its designator, nothing for 0.
-#[derive(Drop)]
-struct ShownCount {
-    count: u64,
-    designator: char,
-    ghost ascii: { designator < 128 },
-}
-
-impl fmt::Display for ShownCount {
-    ghost use Rattle.std.specs.Prelude.{Some};
-    ghost use Rattle.ps_time.specs.Length.{count_text};
-
-    ghost output = { λ c. Some (count_text c.count c.designator) };
-
-    fn fmt<W: fmt::Write>(&self, f: &mut fmt::Formatter<W>) -> fmt::Result {
-        let count = self.count;
-        let designator = self.designator;
-        if count == 0 {
-            return Ok(());
-        }
-        write!(f, "{count}{designator}")
-    }
-}
-
-/// The part of a second of the day, nothing for the first.
-#[derive(Drop)]
-struct ShownClockPart {
-    second: u64,
-}
-
-impl fmt::Display for ShownClockPart {
-    ghost use Rattle.std.specs.Prelude.{Some};
-    ghost use Rattle.ps_time.specs.Length.{clock_part};
-
-    ghost output = { λ c. Some (clock_part c.second) };
-
-    fn fmt<W: fmt::Write>(&self, f: &mut fmt::Formatter<W>) -> fmt::Result {
-        if self.second == 0 {
-            return Ok(());
-        }
-        let hours = ShownCount {
-            count: self.second / 3_600,
-            designator: 'H',
-        };
-        let minutes = ShownCount {
-            count: self.second % 3_600 / 60,
-            designator: 'M',
-        };
-        let seconds = ShownCount {
-            count: self.second % 60,
-            designator: 'S',
-        };
-        write!(f, "T{hours}{minutes}{seconds}")
-    }
-}
 
 /// The text of a length: its days, hours, minutes and seconds, without those that are 0; `PT0S` for 0.
-#[tactic(auto, unfolding(crate::specs::Length::length_text_of))]
 pub fn length_text(alloc: Global, length: Length) -> Result<Text, Memory>
-    requires { length ≤ MAX_LENGTH }
     ensures { IfOk result (λ text. text ≡ length_text_of length) }
 {
+    let mut out = String::new(alloc);
+    push_length_text(&mut out, length)?;
+    Ok(Text::from_string(out))
+}
+
+/// Puts the text of a length behind what was written before.
+#[tactic(auto, unfolding(crate::specs::Length::length_text_of))]
+pub fn push_length_text(out: &mut String, length: Length) -> Result<(), Memory>
+    ensures { OnOk result (string_bytes out.new ≡ string_bytes out.old ++ length_text_of length) }
+{
     if length == 0 {
-        return Text::new(alloc, "PT0S");
+        out.push_str("PT0S")?;
+        return Ok(());
     }
-    let days = ShownCount {
-        count: length / 86_400,
-        designator: 'D',
-    };
-    let clock = ShownClockPart {
-        second: length % 86_400,
-    };
-    Ok(Text::from_string(format!(in alloc; "P{days}{clock}")?))
+    out.push_str("P")?;
+    push_count(out, length / 86_400, "D")?;
+    push_clock(out, length % 86_400)
+}
+
+// The part of a second of the day, nothing for the first.
+fn push_clock(out: &mut String, second: u64) -> Result<(), Memory>
+    ensures { OnOk result (string_bytes out.new ≡ string_bytes out.old ++ clock_part second) }
+{
+    if second == 0 {
+        return Ok(());
+    }
+    out.push_str("T")?;
+    push_count(out, second / 3_600, "H")?;
+    push_count(out, second % 3_600 / 60, "M")?;
+    push_count(out, second % 60, "S")
+}
+
+// A count with its designator, nothing for 0.
+fn push_count(out: &mut String, count: u64, designator: &str) -> Result<(), Memory>
+    ensures { OnOk result (string_bytes out.new ≡ string_bytes out.old ++ counted count designator.now) }
+{
+    if count == 0 {
+        return Ok(());
+    }
+    let mut buffer = Buffer::new();
+    out.push_str(buffer.format(count))?;
+    out.push_str(designator)?;
+    Ok(())
 }
 
 /// A law: the text of every length is read again with its value.

@@ -1,6 +1,5 @@
 -- The text of a test as it is written straight: each piece behind what was written before.
-use Rattle.std.specs.Prelude.{ℕ, List, [], ◌∷◌, ◌++◌, Option, Some, None, codes, if◌then◌else◌, ◌==◌}
-use Rattle.std.specs.Fmt.{decimal}
+use Rattle.std.specs.Prelude.{ℕ, List, [], ◌∷◌, ◌++◌, Option, Some, None, codes}
 use Rattle.ps_time.specs.Length.{length_text_of}
 use Rattle.plugin_core.specs.declared.test_spec.Sleep.{Sleep}
 use Rattle.plugin_core.specs.declared.test_spec.TestSpec.{TestSpec}
@@ -13,10 +12,6 @@ with_text out head bs = ((out ++ head) ++ bs) ++ codes "\""
 abbrev pub with_note : List ℕ → List ℕ → Option (List ℕ) → List ℕ
 with_note out head None = out
 with_note out head (Some bs) = with_text out head bs
-
--- a count with its designator, where it isn't 0
-abbrev pub counted : ℕ → List ℕ → List ℕ
-counted n designator = if n == 0 then [] else decimal n ++ designator
 
 abbrev pub with_length : List ℕ → List ℕ → ℕ → List ℕ
 with_length out head len = with_text out head (length_text_of len)

@@ -1,7 +1,6 @@
 //! The compact JSON text of a test, written straight where its texts need no escapes.
 #![tactic(auto)]
 
-mod lengths;
 mod plain;
 mod straight;
 pub mod written;

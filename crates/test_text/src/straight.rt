@@ -1,13 +1,13 @@
 //! The text of a test, piece by piece.
-ghost use Rattle.std.specs.Prelude.{◌≡◌, ◌≤◌, [], IfOk, OnOk};
+ghost use Rattle.std.specs.Prelude.{◌≡◌, [], IfOk, OnOk};
 ghost use Rattle.std.specs.Str.{IsUtf8};
 ghost use Rattle.std.specs.String.{string_bytes};
 ghost use Rattle.plugin_core.specs.declared.test_spec.TestSpec.{TestSpec};
 ghost use Rattle.test_text.specs.Straight.{with_duration, with_hosts, with_kind, with_length, with_names, with_note, with_notes, with_sleep, with_test, with_text};
 
-use crate::lengths::push_length_text;
 use plugin_core::test_spec::{Sleep, TestSpec};
 use ps_time::items::Items;
+use ps_time::length_text::push_length_text;
 use ps_time::memory::Memory;
 use ps_time::moment::Length;
 use ps_time::text::Text;
