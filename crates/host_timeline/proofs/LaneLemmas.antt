@@ -7,7 +7,7 @@ use Rattle.std.specs.Ordering.{nat_cmp, match_ordering, is_eq}
 use Rattle.std.specs.declared.cmp.Ordering.TheVariants.{Less, Equal, Greater}
 use Rattle.std.proofs.lemmas.Bool.Decides.{nat_tests}
 use Rattle.std.proofs.lemmas.Cmp.{nat_cmp_total, on_total, then_total}
-use Rattle.std.proofs.lemmas.List.{length-drop, get_or-drop, get_or_default}
+use Rattle.std.proofs.lemmas.List.{length-drop, get_or-drop}
 use Rattle.std.proofs.lemmas.List.Sorted.{IsPartitionedBy-ltb, IsNonDecreasingBy-from_all_adjacent}
 use Rattle.ps_time.proofs.KeyLemmas.{key_cmp_total}
 use Rattle.ps_time.proofs.SortedLemmas.{ascending_at, searchable, find_in_gap, insert_in_gap, find_at, without_at, without_in_gap, ascending-without, ascending-insert, set_changes, ascending-change, change_in_gap}
@@ -73,7 +73,7 @@ module _ (bookings : List Booking) (longest : ℕ) (lane : IsLane bookings longe
           short = short_filter _ longest bookings lane.short;
         })
 
-    pub start_found : set bookings i (started_booking (get_or bookings i d)) ≡ with_started_place bookings p
+    start_found : set bookings i (started_booking (get_or bookings i d)) ≡ with_started_place bookings p
     start_found = set_changes place_cmp_total place_of started_booking bookings p i d lane.ascending found.within (found.same d)
 
   pub lane_after_start : IsLane (with_started_place bookings p) longest
@@ -81,6 +81,11 @@ module _ (bookings : List Booking) (longest : ℕ) (lane : IsLane bookings longe
     ascending = ascending-change place_cmp_total place_of started_booking (λ b. refl) bookings p lane.ascending;
     short = short_change p longest bookings lane.short;
   }
+
+pub started_found : (bookings new : List Booking) (longest : ℕ) (lane : IsLane bookings longest) (p : Place) (i : ℕ) → IsFoundAt bookings p i → ((d : Booking) → new ≡ set bookings i (started_booking (get_or bookings i d))) →
+    new ≡ with_started_place bookings p
+started_found [] new longest lane p i found set_there = absurd (omega (arith, found.within))
+started_found (b ∷ bs) new longest lane p i found set_there = set_there b ∙ start_found (b ∷ bs) longest lane p i b found
 
 module _ (bookings : List Booking) (p : Place) (i : ℕ) (gap : IsOpenAt bookings p i) where
   pub find_open : find_place bookings p ≡ None
@@ -123,10 +128,10 @@ pub parts_at : (moment : ℕ) (bs : List Booking) → IsAscendingPlaces bs → I
 parts_at moment bs up = IsPartitionedBy-ltb (λ b. b.interval.start) bs moment (starts_rise bs up)
 
 -- what stands behind one that doesn't start before the moment doesn't either
-pub late_behind : (moment : ℕ) (bs : List Booking) → IsAscendingPlaces bs → (i : ℕ) (d : Booking) → i < length bs → moment ≤ (get_or bs i d).interval.start → AllWithin (λ b. ltb b.interval.start moment ≡ false) bs i (length bs)
-late_behind moment bs up i d within late = λ j e low high.
-    let rise : (get_or bs i e).interval.start ≤ (get_or bs j e).interval.start = starts_rise bs up i j e low high in
-    let same : moment ≤ (get_or bs i e).interval.start = subst (λ (b : Booking). moment ≤ b.interval.start) (get_or_default bs i d e within) late in
+pub late_from : (moment : ℕ) (bs : List Booking) → IsAscendingPlaces bs → (i : ℕ) → i < length bs → ((d : Booking) → moment ≤ (get_or bs i d).interval.start) → AllWithin (λ b. ltb b.interval.start moment ≡ false) bs i (length bs)
+late_from moment bs up i within late = λ j d low high.
+    let rise : (get_or bs i d).interval.start ≤ (get_or bs j d).interval.start = starts_rise bs up i j d low high in
+    let here : moment ≤ (get_or bs i d).interval.start = late d in
     grind (arith, nat_tests)
 
 module _ (test : Booking → Bool) where

@@ -13,6 +13,7 @@ mod NearLemmas
 mod Place
 pub mod PutLemmas
 mod RangeLemmas
+mod StartLemmas
 mod SweepLemmas
 mod Tests
 mod WalkLemmas

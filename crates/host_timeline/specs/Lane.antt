@@ -1,7 +1,7 @@
 -- The bookings of one class, ascending by start, and those of all classes.
 use Rattle.std.specs.List.{AllByRecursion, list_all}
 use Rattle.std.specs.Ordering.{nat_cmp, on, then_cmp}
-use Rattle.std.specs.Prelude.{◌≡◌, ◌+◌, ◌<◌, ◌≤◌, ◌&&◌, ◌||◌, ℕ, Bool, true, false, List, [], ◌∷◌, Option, None, Some, if◌then◌else◌, length, nat_le, nat_lt, not, slice_index_or}
+use Rattle.std.specs.Prelude.{◌≡◌, ◌+◌, ◌<◌, ◌≤◌, ◌&&◌, ◌||◌, ℕ, Bool, true, false, List, [], ◌∷◌, Option, None, Some, if◌then◌else◌, length, map, nat_le, nat_lt, not, slice_index_or}
 use Rattle.std.specs.List.Sorted.{IsPartitionPoint}
 use Rattle.std.specs.declared.cmp.Ordering.{Ordering}
 use Rattle.std.specs.declared.cmp.Ordering.TheVariants.{Less, Equal, Greater}
@@ -46,6 +46,10 @@ without_place = without_key place_cmp place_of
 -- the bookings, of which the one that has the place can't be preempted any more
 abbrev pub with_started_place : List Booking → Place → List Booking
 with_started_place = change_key place_cmp place_of started_booking
+
+-- when each of them starts
+abbrev pub starts_of : List Booking → List ℕ
+starts_of = map (λ b. b.interval.start)
 
 -- each place is below those after it
 abbrev pub IsAscendingPlaces : List Booking → Type 0

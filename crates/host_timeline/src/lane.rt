@@ -5,9 +5,9 @@ ghost use Rattle.std.specs.List.{list_all, AllWithin};
 ghost use Rattle.host_timeline.specs.declared.booking.Booking.{Booking as SeenBooking};
 ghost use Rattle.host_timeline.specs.Lane.{find_place, how_many, place_cmp, place_of, places_of, reaches, spans, starts_between, starts_by, with_place, without_place, with_started_place, IsAscendingPlaces, IsFoundAt, IsLane, IsOpenAt, FailsOthers, FailsOutside};
 
-use crate::booking::{Booking, started};
+use crate::booking::Booking;
+use crate::booking_list::BookingList;
 use crate::lent::LentBookings;
-use placed_list::placed_list::PlacedList;
 use ps_time::key::RunKey;
 use ps_time::memory::Memory;
 use ps_time::moment::{Length, Moment};
@@ -44,7 +44,7 @@ pub(crate) fn place_of(booking: &Booking) -> Place
 /// Bookings, ascending by start and then by key, and places that are reserved for more.
 #[derive(Drop)]
 pub(crate) struct Lane {
-    bookings: PlacedList<Booking>,
+    bookings: BookingList,
     // no booking is longer
     longest: Length,
 }
@@ -65,7 +65,7 @@ impl Lane {
         ensures { result.list ≡ [] }
     {
         Lane {
-            bookings: PlacedList::new(alloc),
+            bookings: BookingList::new(alloc),
             longest: 0,
         }
     }
@@ -84,7 +84,7 @@ impl Lane {
         ensures list { result ≡ self.now.list }
         ensures ascending { IsAscendingPlaces self.now.list }
     {
-        LentBookings::of(self.bookings.in_order())
+        self.bookings.in_order()
     }
 
     /// Takes a booking in.
@@ -99,7 +99,7 @@ impl Lane {
             Ok(_) => unreachable!(),
             Err(at) => {
                 self.longest = self.longest.max(interval.end - interval.start);
-                self.bookings.insert(at, *booking)
+                self.bookings.insert(at, booking)
             }
         }
     }
@@ -111,8 +111,7 @@ impl Lane {
     {
         match self.search(place) {
             Ok(at) => {
-                let last = last_place(&self.bookings);
-                self.bookings.remove(at, last);
+                self.bookings.remove(at);
             }
             Err(_) => {}
         }
@@ -125,8 +124,7 @@ impl Lane {
     {
         match self.search(place) {
             Ok(at) => {
-                let booking = self.bookings[at];
-                self.bookings[at] = started(&booking);
+                self.bookings.mark_started(at);
             }
             Err(_) => {}
         }
@@ -144,7 +142,7 @@ impl Lane {
         ensures { (test : SeenBooking → Bool) → FailsOutside (spans from until) test → how_many test result ≡ how_many test self.now.list }
     {
         let first = from.saturating_sub(self.longest).max(earliest);
-        between(&self.bookings(), first, until)
+        between(&self.bookings, first, until)
     }
 
     /// Whether none of them has a second from `from` on, before `until`, as far as that is known without a look at them.
@@ -168,31 +166,21 @@ impl Lane {
         ensures found { IfOk result (IsFoundAt self.now.list place) }
         ensures absent { IfErr result (IsOpenAt self.now.list place) }
     {
-        self.bookings().search_place(place)
+        self.bookings.search(place)
     }
-}
-
-// Where the booking in the last cell stands.
-fn last_place(bookings: &PlacedList<Booking>) -> usize
-    requires some { 0 < length bookings.now.list }
-    requires ascending { IsAscendingPlaces bookings.now.list }
-    ensures { result ≡ bookings.now.last }
-{
-    let place = place_of(bookings.last_cell());
-    LentBookings::of(bookings.in_order()).before_place(place)
 }
 
 // Those that start from one moment on, before an end.
-fn between<'a>(bookings: &LentBookings<'a>, from: Moment, until: Option<Moment>) -> LentBookings<'a>
-    requires { IsAscendingPlaces bookings.now }
-    ensures { (test : SeenBooking → Bool) → FailsOthers bookings.now (starts_between from until) test → how_many test result ≡ how_many test bookings.now }
+fn between(bookings: &BookingList, from: Moment, until: Option<Moment>) -> LentBookings<'_>
+    requires { IsAscendingPlaces bookings.now.list }
+    ensures { (test : SeenBooking → Bool) → FailsOthers bookings.now.list (starts_between from until) test → how_many test result ≡ how_many test bookings.now.list }
 {
     if !starts_by(until, from) {
-        return bookings.part(0, 0);
+        return bookings.in_order().part(0, 0);
     }
     let first = bookings.starting_before(from);
     let end = start_by(bookings, first, until);
-    bookings.part(first, end)
+    bookings.in_order().part(first, end)
 }
 
 // Whether a start is before an end, if there is one.
@@ -206,12 +194,12 @@ fn starts_by(until: Option<Moment>, start: Moment) -> bool
 }
 
 // Where those end, from a place on, that start before an end.
-fn start_by(bookings: &LentBookings<'_>, first: usize, until: Option<Moment>) -> usize
-    requires ascending { IsAscendingPlaces bookings.now }
-    requires place { first ≤ length bookings.now }
+fn start_by(bookings: &BookingList, first: usize, until: Option<Moment>) -> usize
+    requires ascending { IsAscendingPlaces bookings.now.list }
+    requires place { first ≤ length bookings.now.list }
     ensures behind { first ≤ result }
-    ensures within { result ≤ length bookings.now }
-    ensures others { AllWithin (λ b. starts_by until b.interval.start ≡ false) bookings.now result (length bookings.now) }
+    ensures within { result ≤ length bookings.now.list }
+    ensures others { AllWithin (λ b. starts_by until b.interval.start ≡ false) bookings.now.list result (length bookings.now.list) }
 {
     match until {
         Some(until) => first_from(bookings, first, until),
@@ -221,15 +209,15 @@ fn start_by(bookings: &LentBookings<'_>, first: usize, until: Option<Moment>) ->
 
 // The place of the first one, from a place on, that starts no earlier than the moment. One after another is tested: those
 // before it are looked at anyway, and mostly there are few.
-fn first_from(bookings: &LentBookings<'_>, first: usize, moment: Moment) -> usize
-    requires ascending { IsAscendingPlaces bookings.now }
-    requires place { first ≤ length bookings.now }
+fn first_from(bookings: &BookingList, first: usize, moment: Moment) -> usize
+    requires ascending { IsAscendingPlaces bookings.now.list }
+    requires place { first ≤ length bookings.now.list }
     ensures behind { first ≤ result }
-    ensures within { result ≤ length bookings.now }
-    ensures others { AllWithin (λ b. nat_lt b.interval.start moment ≡ false) bookings.now result (length bookings.now) }
+    ensures within { result ≤ length bookings.now.list }
+    ensures others { AllWithin (λ b. nat_lt b.interval.start moment ≡ false) bookings.now.list result (length bookings.now.list) }
 {
     for place in first..bookings.len() {
-        if moment <= bookings.at(place).interval.start {
+        if moment <= bookings.start_at(place) {
             return place;
         }
     }

@@ -10,7 +10,6 @@ use crate::booking::Booking;
 use crate::lane::{Place, place_of};
 use placed_list::lent::Lent;
 use ps_time::key::RunKey;
-use ps_time::moment::Moment;
 use std::cmp::Ordering;
 use std::marker::Model;
 
@@ -64,16 +63,6 @@ impl<'a> LentBookings<'a> {
         }
     }
 
-    /// How many of them start before the moment.
-    pub(crate) fn starting_before(&self, moment: Moment) -> usize
-        requires { IsAscendingPlaces self.now }
-        ensures within { result ≤ length self.now }
-        ensures parted { IsPartitionPoint (λ b. nat_lt b.interval.start moment ≡ true) (λ b. nat_lt b.interval.start moment ≡ false) self.now result }
-    {
-        self.bookings
-            .partition_point(|booking| booking.interval.start < moment)
-    }
-
     /// How many of them stand before the place.
     pub(crate) fn before_place(&self, place: Place) -> usize
         requires { IsAscendingPlaces self.now }
@@ -92,22 +81,6 @@ impl<'a> LentBookings<'a> {
     {
         self.bookings
             .partition_point(|booking| booking.key.order(&key).is_lt())
-    }
-
-    /// Where the booking with the place is, or where it would go.
-    pub(crate) fn search_place(&self, place: Place) -> Result<usize, usize>
-        requires { IsAscendingPlaces self.now }
-        ensures found { IfOk result (IsFoundAt self.now place) }
-        ensures absent { IfErr result (IsOpenAt self.now place) }
-    {
-        let at = self.before_place(place);
-        if at == self.len() {
-            return Err(at);
-        }
-        match place_of(self.at(at)).order(&place) {
-            Ordering::Equal => Ok(at),
-            _ => Err(at),
-        }
     }
 
     /// Where the booking with the key is, or where it would go.

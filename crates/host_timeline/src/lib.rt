@@ -2,6 +2,7 @@
 #![tactic(auto)]
 
 pub mod booking;
+mod booking_list;
 mod busy;
 pub mod free_starts;
 pub mod lane;

@@ -1,4 +1,4 @@
-use Rattle.std.proofs.Common.{◌≡◌, ◌∙◌, true, false, not, ap, sym}
+use Rattle.std.proofs.Common.{◌≡◌, ◌∙◌, true, false, ap, sym}
 use Rattle.std.specs.List.{list_all}
 use Rattle.host_timeline.specs.Lane.{Lane, how_many, reaches, starts_by}
 use Rattle.host_timeline.proofs.LaneLemmas.{none_near}
