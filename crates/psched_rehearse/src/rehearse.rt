@@ -194,8 +194,7 @@ pub fn run_script<A: Archivers>(
     })
 }
 
-/// The report alone. Its hosts keep their memory until the program ends: to free their rows one by one would take as long as to
-/// book some of them.
+/// The report alone. Its hosts keep their memory: the program ends with the report, and the system takes all of it back at once.
 pub fn rehearse<A: Archivers>(
     alloc: Global,
     script: &Script,
