@@ -5,7 +5,7 @@ ghost use Rattle.std.specs.Option.{option_copied};
 ghost use Rattle.ps_json.specs.Answer.{GivesUnless};
 ghost use Rattle.ps_time.specs.Numbers.{most_head_bytes};
 ghost use Rattle.ps_time.specs.declared.moment.TheConstants.{MAX_MOMENT};
-ghost use Rattle.host_model.specs.Conditions.{IsInput, IsPage};
+ghost use Rattle.host_model.specs.Conditions.{IsInput};
 ghost use Rattle.host_model.specs.InputLength.{input_texts, most_input_texts};
 ghost use Rattle.host_model.specs.Propose.{find_peer};
 ghost use Rattle.host_model.specs.declared.config.Config.{Config};

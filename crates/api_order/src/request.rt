@@ -1,6 +1,6 @@
 //! The requests by which a host orders.
 ghost use Rattle.std.specs.Option.{option_copied};
-ghost use Rattle.std.specs.Prelude.{◌≡◌, [], IfOk, IfSome};
+ghost use Rattle.std.specs.Prelude.{◌≡◌, IfOk, IfSome};
 ghost use Rattle.plugin_core.specs.Bounds.{IsTest};
 ghost use Rattle.host_model.specs.declared.order.OrderBody.{OrderBody};
 ghost use Rattle.api_order.specs.Meant.{IsMeant, IsReadKey, IsUnderstood};

@@ -1,5 +1,5 @@
 -- Results that are kept are texts of trees.
-use Rattle.std.proofs.Common.{◌≤◌, IfSome, List, None, Option, Some, arith, option_map, ℕ}
+use Rattle.std.proofs.Common.{IfSome, List, None, Option, Some, arith, option_map, ℕ}
 use Rattle.archive_retry.specs.Merge.{IsResult, IsResultText, IsTreeText}
 use Rattle.run_states.specs.declared.row.Ending.{Ending}
 

@@ -4,7 +4,7 @@ use Rattle.std.specs.Ordering.{match_ordering, nat_cmp}
 use Rattle.std.specs.Cmp.Lexicographic.{slice_cmp}
 use Rattle.std.specs.declared.cmp.Ordering.{Ordering}
 use Rattle.std.specs.declared.cmp.Ordering.TheVariants.{Less, Equal, Greater}
-use Rattle.serde_json.specs.Data.{Data, Members, array, member, no_members, object, put, string}
+use Rattle.serde_json.specs.Data.{Data, Members, member, no_members, put, string}
 use Rattle.serde_json.specs.Find.{is_float, of_integer}
 use Rattle.serde_json.specs.View.{items_of}
 use Rattle.serde_json.specs.Written.{has_float, items_have_float, members_have_float}
@@ -35,7 +35,7 @@ use Rattle.host_model.specs.declared.task_row.TaskRow.{TaskRow}
 use Rattle.host_model.specs.declared.view.Line.{Line}
 use Rattle.host_model.specs.declared.view.View.{View}
 use Rattle.host_model.specs.declared.view.View.TheVariants as view
-use Rattle.api_reply.specs.Denials.{denial_data, limits_data, past_data, proposal_data}
+use Rattle.api_reply.specs.Denials.{denial_data, limits_data, proposal_data}
 use Rattle.api_reply.specs.Bounds.{IsReplyShown, IsRunShown, IsTaskShown, IsViewShown}
 use Rattle.api_reply.specs.Replies.{free_told, reply_data, window_data}
 use Rattle.api_reply.specs.Shown.{error_with, moment_data, second_data}

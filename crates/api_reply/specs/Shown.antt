@@ -1,11 +1,9 @@
 -- How moments, identifiers, addresses and errors are shown.
-use Rattle.std.specs.Prelude.{◌++◌, List, codes, min, ℕ, ℤ}
-use Rattle.serde_json.specs.Data.{Data, no_members, member, number, object, put, string}
-use Rattle.serde_json.specs.Find.{of_integer}
+use Rattle.std.specs.Prelude.{◌++◌, List, codes, min, ℕ}
+use Rattle.serde_json.specs.Data.{Data, no_members, member, object, put, string}
 use Rattle.ps_time.specs.Id.{id_text}
 use Rattle.ps_time.specs.Moment.{moment_text_of}
 use Rattle.ps_time.specs.Numbers.{greatest_moment}
-use Rattle.ps_time.specs.declared.id.Id.{Id}
 use Rattle.ps_time.specs.declared.id.Id.TheVariants.{Run, Task}
 use Rattle.ps_time.specs.declared.key.RunKey.{RunKey}
 use Rattle.task_spec.specs.WriteTask.{count_data}

@@ -1,11 +1,10 @@
 -- The tree of each view.
-use Rattle.std.specs.Prelude.{◌++◌, ◌==◌, ◌∷◌, Bool, List, None, Option, Some, [], codes, false, filter, if◌then◌else◌, map, option_map, true, ℕ}
+use Rattle.std.specs.Prelude.{◌++◌, ◌==◌, ◌∷◌, List, None, Option, Some, [], codes, false, filter, if◌then◌else◌, map, option_map, ℕ}
 use Rattle.serde_json.specs.Data.{Data, array, boolean, no_members, member, null, number, object, put, string}
 use Rattle.serde_json.specs.Find.{of_integer}
 use Rattle.serde_json.specs.View.{items_of}
 use Rattle.ps_json.specs.TreeText.{kept_tree}
 use Rattle.ps_time.specs.Class.{class_text}
-use Rattle.ps_time.specs.Span.{Span}
 use Rattle.ps_time.specs.declared.class.Class.{Class}
 use Rattle.ps_time.specs.declared.key.RunKey.{RunKey}
 use Rattle.plugin_core.specs.Kind.{kind_text, kinds_by_name}

@@ -1,7 +1,6 @@
 //! What peers are told.
-ghost use Rattle.std.specs.Prelude.{◌≡◌, IfOk, map};
-ghost use Rattle.serde_json.specs.Data.{array};
-ghost use Rattle.serde_json.specs.View.{items_of, view};
+ghost use Rattle.std.specs.Prelude.{◌≡◌, IfOk};
+ghost use Rattle.serde_json.specs.View.{view};
 ghost use Rattle.archive_retry.specs.Merge.{IsResultText};
 ghost use Rattle.api_reply.specs.Replies.{free_told, moment_told, result_told, state_told, window_data, windows_data, yes_told};
 

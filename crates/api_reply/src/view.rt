@@ -4,7 +4,6 @@ ghost use Rattle.serde_json.specs.Data.{array, string};
 ghost use Rattle.serde_json.specs.View.{items_of, view};
 ghost use Rattle.plugin_core.specs.Kind.{kind_text, kinds_by_name};
 ghost use Rattle.plugin_core.specs.WriteTest.{names_data};
-ghost use Rattle.task_spec.specs.ReadArchive.{archivers_by_name};
 ghost use Rattle.api_reply.specs.Bounds.{IsViewShown};
 ghost use Rattle.api_reply.specs.Views.{clock_data, line_data, run_link, task_link, test_data, tools_of, view_data};
 

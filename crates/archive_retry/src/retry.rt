@@ -4,7 +4,7 @@ ghost use Rattle.std.specs.List.{slice_get};
 ghost use Rattle.std.specs.Option.{ForSome};
 ghost use Rattle.ps_time.specs.declared.moment.TheConstants.{MAX_LENGTH, MAX_MOMENT};
 ghost use Rattle.archive_retry.specs.Bounds.{IsEntry, IsPolicy, IsStateOf};
-ghost use Rattle.archive_retry.specs.Retry.{written_out, wait_after, next_after, counted, state_after, is_due};
+ghost use Rattle.archive_retry.specs.Retry.{written_out, wait_after, next_after, state_after, is_due};
 
 use crate::policy::{Entry, Policy};
 use crate::state::ArchiveState;

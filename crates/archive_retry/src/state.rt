@@ -1,6 +1,6 @@
 //! How far one archiver has come with one result.
 ghost use Rattle.std.specs.Prelude.{◌≡◌, ◌≤◌, ℕ, nat_le};
-ghost use Rattle.ps_time.specs.declared.moment.TheConstants.{MAX_LENGTH, MAX_MOMENT};
+ghost use Rattle.ps_time.specs.declared.moment.TheConstants.{MAX_MOMENT};
 ghost use Rattle.archive_retry.specs.Bounds.{IsStateOf};
 ghost use Rattle.archive_retry.specs.Retry.{due_from, is_due};
 ghost use Rattle.archive_retry.specs.declared.policy.Policy.{Policy};

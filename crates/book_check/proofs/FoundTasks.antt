@@ -1,7 +1,7 @@
 -- The archives of the task of a run.
 use Rattle.std.specs.Prelude.{◌==◌}
-use Rattle.std.proofs.Common.{◌≡◌, ℕ, Bool, true, false, cond, List, [], ◌∷◌, All, Option, Some, None, subst}
-use Rattle.std.proofs.lemmas.List.Elements.{All-head, All-nil, All-tail, All-weaker}
+use Rattle.std.proofs.Common.{◌≡◌, ℕ, Bool, true, false, cond, List, [], ◌∷◌, All, Some, subst}
+use Rattle.std.proofs.lemmas.List.Elements.{All-head, All-tail, All-weaker}
 use Rattle.archive_retry.specs.Bounds.{IsPolicy}
 use Rattle.task_spec.specs.Bounds.{IsArchive}
 use Rattle.task_spec.specs.declared.task.Archive.{Archive}

@@ -1,5 +1,5 @@
 -- States of archives, one after another and by their places.
-use Rattle.std.proofs.Common.{◌≡◌, ℕ, zero, suc, List, [], ◌∷◌, Some, slice_get, refl, subst}
+use Rattle.std.proofs.Common.{◌≡◌, zero, suc, List, [], ◌∷◌, refl, subst}
 use Rattle.archive_retry.specs.Bounds.{IsStateOf}
 use Rattle.archive_retry.specs.declared.state.ArchiveState.{ArchiveState}
 use Rattle.task_spec.specs.declared.task.Archive.{Archive}

@@ -2,7 +2,6 @@
 ghost use Rattle.std.specs.List.{range_with_len};
 ghost use Rattle.std.specs.Prelude.{◌≡◌, ◌≤◌, ◌↔◌, All, IsTrue, length, map};
 ghost use Rattle.ps_time.specs.Numbers.{most_tasks};
-ghost use Rattle.run_states.specs.LawfulRow.{IsUpTo};
 ghost use Rattle.host_model.specs.Lawful.{IsLawfulTask};
 ghost use Rattle.book_check.specs.Known.{IsReadTask};
 

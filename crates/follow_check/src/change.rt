@@ -1,6 +1,5 @@
 //! Whether one change may follow a book.
 ghost use Rattle.std.specs.Prelude.{◌≡◌, ◌↔◌, IfOk, IsTrue};
-ghost use Rattle.limit_apply.specs.Read.{IsKept};
 ghost use Rattle.follow_check.specs.Follows.{Follows};
 ghost use Rattle.follow_check.specs.ReadChange.{IsReadChange};
 ghost use Rattle.follow_check.specs.Suits.{Fits};

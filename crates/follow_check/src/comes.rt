@@ -5,7 +5,6 @@ ghost use Rattle.ps_time.specs.Span.{span_of};
 ghost use Rattle.plugin_core.specs.Bounds.{IsTest};
 ghost use Rattle.plugin_core.specs.TestSpec.{test_class, test_length};
 ghost use Rattle.plugin_tool.specs.Choice.{tool_of_text};
-ghost use Rattle.run_states.specs.Rows.{find_row};
 ghost use Rattle.run_states.specs.Preemption.{planned_span};
 ghost use Rattle.host_model.specs.Fits.{wanted_span};
 ghost use Rattle.host_model.specs.MayFollow.{IsNewKey};

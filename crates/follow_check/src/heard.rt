@@ -1,5 +1,5 @@
 //! What comes to a run later: answers of its participants, its merged results, attempts at its archives.
-ghost use Rattle.std.specs.Prelude.{◌≡◌, ◌+◌, ◌≤◌, ◌↔◌, All, IfOk, IsNone, IsSome, IsTrue, MatchOption, Some, option_copied, slice_get};
+ghost use Rattle.std.specs.Prelude.{◌≡◌, ◌+◌, ◌↔◌, All, IfOk, IsNone, IsSome, IsTrue, MatchOption, Some, option_copied, slice_get};
 ghost use Rattle.archive_retry.specs.Bounds.{IsPolicy, IsStateOf};
 ghost use Rattle.archive_retry.specs.Merge.{IsResult};
 ghost use Rattle.run_states.specs.LawfulRow.{IsDueInTime, IsFreeAnswer};

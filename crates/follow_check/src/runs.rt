@@ -1,7 +1,7 @@
 //! Runs that come: what is accepted, and what is asked about.
 ghost use Rattle.std.specs.Prelude.{◌≡◌, ◌↔◌, IsTrue, length};
 ghost use Rattle.plugin_core.specs.Bounds.{IsTest};
-ghost use Rattle.run_states.specs.LawfulRow.{IsProposal, IsWindow};
+ghost use Rattle.run_states.specs.LawfulRow.{IsWindow};
 ghost use Rattle.host_model.proofs.NewRows.{CanAccept, CanAsk};
 
 use book_check::host_row::find_task;

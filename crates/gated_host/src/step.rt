@@ -1,5 +1,5 @@
 //! One step of a keep, and whether it counts as a change.
-ghost use Rattle.std.specs.Prelude.{◌≡◌, ◌==◌, ◌-◌, ◌&&◌, ◌||◌, Bool, IfSome, false, not};
+ghost use Rattle.std.specs.Prelude.{◌≡◌, ◌==◌, ◌-◌, ◌&&◌, ◌||◌, IfSome, false, not};
 ghost use Rattle.host_keep.specs.Standing.{IsAsked};
 ghost use Rattle.host_model.specs.Lawful.{Lawful};
 ghost use Rattle.gated_host.specs.Applied.{Applied, is_disk, is_fault};

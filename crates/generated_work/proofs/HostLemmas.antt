@@ -2,7 +2,7 @@
 use Rattle.std.specs.Fmt.{digits}
 use Rattle.std.specs.List.{list_any}
 use Rattle.std.specs.Prelude.{All, AllPairs, bytes_eq, codes}
-use Rattle.std.proofs.Common.{◌≡◌, ◌≢◌, ◌≤◌, ◌++◌, ◌&&◌, ◌==◌, ℕ, Bool, true, false, not, List, [], ◌∷◌, decimal, length, map, refl, sym, arith}
+use Rattle.std.proofs.Common.{◌≡◌, ◌≢◌, ◌≤◌, ◌++◌, ◌==◌, ℕ, true, false, not, List, [], ◌∷◌, decimal, length, map, refl, sym, arith}
 use Rattle.std.proofs.lemmas.Bool.{and_parts, both_ways, not-true, or_parts}
 use Rattle.std.proofs.lemmas.Bool.Decides.{Decides-eqb}
 use Rattle.std.proofs.lemmas.List.Elements.{All-cons, All-from_recursion, All-nil}

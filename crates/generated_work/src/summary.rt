@@ -1,5 +1,5 @@
 //! The summary of the work.
-ghost use Rattle.std.specs.Prelude.{◌≡◌, ◌++◌, ◌≤◌, All, IfOk, OnOk, length, map, true};
+ghost use Rattle.std.specs.Prelude.{◌≡◌, ◌++◌, ◌≤◌, All, IfOk, OnOk, map, true};
 ghost use Rattle.std.specs.String.{string_bytes};
 ghost use Rattle.ps_time.specs.declared.moment.TheConstants.{MAX_MOMENT};
 ghost use Rattle.run_states.specs.Life.{HasMoments, settled_rows, state_of};

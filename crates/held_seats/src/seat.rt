@@ -1,5 +1,5 @@
 //! A host of a script on two disks in memory, of each of which one call may be made to fail.
-ghost use Rattle.std.specs.Prelude.{◌≡◌, ◌≤◌, ◌<◌, ◌-◌, IfOk, OnOk, ℕ, length, true};
+ghost use Rattle.std.specs.Prelude.{◌≡◌, ◌≤◌, ◌<◌, ◌-◌, IfOk, OnOk, true};
 ghost use Rattle.ps_disks.specs.Run.{IsArmed};
 ghost use Rattle.ps_disks.specs.declared.rack.TheConstants.{FRESH_FIRST as fresh_first, FRESH_SECOND as fresh_second};
 ghost use Rattle.ps_time.specs.declared.moment.TheConstants.{MAX_MOMENT};

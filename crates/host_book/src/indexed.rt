@@ -64,7 +64,6 @@ pub(crate) struct IndexedBook {
 
 impl Model for IndexedBook {
     ghost use Rattle.std.specs.Prelude.{◌≡◌, ◌-◌, vec_len, vec_capacity};
-    ghost use Rattle.host_model.specs.Book.{Book};
     ghost use Rattle.host_book.specs.Host.{Host as Seen, IsSound, least};
 
     ghost Value = { Seen };

@@ -1,5 +1,5 @@
 //! The epochs under which runs were accepted, by their keys.
-ghost use Rattle.std.specs.Prelude.{◌≡◌, ◌+◌, ◌<◌, ◌≤◌, [], None, IfOk, IfErr, OnOk, is_some, length, option_map, if◌then◌else◌};
+ghost use Rattle.std.specs.Prelude.{◌≡◌, ◌+◌, ◌<◌, ◌≤◌, [], None, IfOk, IfErr, OnOk, length, option_map};
 ghost use Rattle.host_model.specs.Book.{find_pair};
 ghost use Rattle.host_book.specs.Pairs.{drop_pair, with_pair, IsAscendingPairs, IsGapFor, IsPlaceOf};
 

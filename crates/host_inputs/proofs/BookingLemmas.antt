@@ -1,6 +1,6 @@
 -- What the decision on a booking says of it: no row has its key.
 use Rattle.std.specs.Prelude.{IsNone}
-use Rattle.std.proofs.Common.{◌≡◌, ◌∙◌, ◌<◌, ◌+◌, ℕ, List, Option, Some, None, refl, sym, ap, subst, arith}
+use Rattle.std.proofs.Common.{◌≡◌, ◌∙◌, ◌+◌, ℕ, List, Option, Some, None, refl, sym, ap, arith}
 use Rattle.run_states.specs.Rows.{find_row}
 use Rattle.run_states.specs.TaskRows.{greatest_number}
 use Rattle.run_states.specs.declared.proposal.Proposal.{Proposal}

@@ -1,5 +1,5 @@
 //! What the bytes of two disks stand for.
-ghost use Rattle.std.specs.Prelude.{◌≡◌, ◌+◌, ◌≤◌, ◌<◌, ◌^◌, true, false, length, take, drop, IfOk, IfSome, IfNone, Some, None, Ok, [], ◌∷◌};
+ghost use Rattle.std.specs.Prelude.{◌≡◌, ◌+◌, ◌≤◌, ◌<◌, ◌^◌, true, false, length, take, IfOk, IfSome, IfNone, Some, None, Ok, [], ◌∷◌};
 ghost use Rattle.host_journal.specs.Format.{agreeing, stands, sized, body_of, record_bytes, records_of};
 ghost use Rattle.host_journal.specs.Pair.{number_of, counted, headless, alone};
 ghost use Rattle.host_journal.specs.Front.{is_open, generation_in, numbers_behind, numbers_in, IsFrontOf, chosen_open, chosen};

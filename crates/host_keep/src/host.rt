@@ -1,7 +1,7 @@
 //! A host with its configuration and its book.
 ghost use Rattle.std.specs.Prelude.{◌-◌, ◌<◌, ◌≡◌, ◌≤◌, All, IfOk, IfSome, length};
 ghost use Rattle.value_bytes.specs.Changes.{changes};
-ghost use Rattle.host_book.specs.Ready.{IsReady, all_brought, changes_of};
+ghost use Rattle.host_book.specs.Ready.{IsReady, all_brought};
 ghost use Rattle.host_keep.specs.Standing.{Makes};
 ghost use Rattle.row_ledger.specs.Ledger.{most_counted};
 ghost use Rattle.run_states.specs.ResultBytes.{result_bytes};
@@ -31,7 +31,6 @@ pub struct Host {
 
 impl Model for Host {
     ghost use Rattle.std.specs.Prelude.{◌≡◌};
-    ghost use Rattle.host_model.specs.Conditions.{IsConfig};
     ghost use Rattle.host_keep.specs.Standing.{Seen};
 
     ghost Value = { Seen };

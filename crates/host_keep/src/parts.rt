@@ -1,6 +1,6 @@
 //! A book as the image of its snapshot.
-ghost use Rattle.std.specs.Prelude.{◌≡◌, ◌≤◌, ◌++◌, [], IfOk, drop, length};
-ghost use Rattle.host_codec.specs.Books.{book as book_codec, lent};
+ghost use Rattle.std.specs.Prelude.{◌≡◌, [], IfOk, drop};
+ghost use Rattle.host_codec.specs.Books.{book as book_codec};
 ghost use Rattle.host_model.specs.Lawful.{Lawful};
 
 use host_book::book::HostBook;

@@ -8,7 +8,7 @@ use Rattle.json.specs.Text.{content, plain}
 use Rattle.json.specs.Word.{after_number, ends_word, head, is_operator, is_space, number_before, word}
 use Rattle.json.specs.Lex.{Class, Lexeme, Mode, Place, after_comma, after_key, after_value, backslash, begins_colon, between, class, colon, comma, fresh, if_allowed, in_escape, in_string, in_word, lex, lex_byte, may_begin, may_close, operator, operator_lexeme, other, place_token, punctuate, quote, space, string_token, token, tokens}
 use Rattle.json.specs.Json as json
-use Rattle.json.specs.Json.{Json, Parse, after_end_array, if_last, item, items, items_step, member, members, members_step, parse_map, read_key, value, value_with}
+use Rattle.json.specs.Json.{Json, Parse, after_end_array, item, items, items_step, member, members, members_step, parse_map, read_key, value, value_with}
 use Rattle.host_model.proofs.TextsRead.{after_byte, content_text}
 
 -- ---- tokens

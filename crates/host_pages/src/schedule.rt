@@ -1,6 +1,5 @@
 //! The runs of a schedule, in order.
 ghost use Rattle.std.specs.Prelude.{◌≡◌, ◌++◌, ◌≤◌, IfOk, OnOk, filter_map};
-ghost use Rattle.std.specs.Option.{option_copied};
 ghost use Rattle.ps_time.specs.declared.moment.TheConstants.{MAX_MOMENT};
 ghost use Rattle.run_states.specs.Life.{HasMoments};
 ghost use Rattle.run_states.specs.Rows.{IsAscendingRows};

@@ -1,6 +1,5 @@
 //! The bookings of one class, ascending by start and then by key.
-ghost use Rattle.std.specs.Prelude.{◌≡◌, ◌+◌, ◌<◌, ◌≤◌, [], Bool, IfOk, IfErr, IsTrue, None, OnOk, false, length, nat_lt, true};
-ghost use Rattle.std.specs.List.Sorted.{IsPartitionPoint};
+ghost use Rattle.std.specs.Prelude.{◌≡◌, ◌<◌, ◌≤◌, [], Bool, IfOk, IfErr, IsTrue, None, OnOk, false, length, nat_lt, true};
 ghost use Rattle.std.specs.List.{list_all, AllWithin};
 ghost use Rattle.host_timeline.specs.declared.booking.Booking.{Booking as SeenBooking};
 ghost use Rattle.host_timeline.specs.Lane.{find_place, how_many, place_cmp, place_of, places_of, reaches, spans, starts_between, starts_by, with_place, without_place, with_started_place, IsAscendingPlaces, IsFoundAt, IsLane, IsOpenAt, FailsOthers, FailsOutside};

@@ -1,7 +1,7 @@
 //! The keys of bookings that pass a test: the least, the first, and all.
 ghost use Rattle.std.specs.Prelude.{◌≡◌, ◌&&◌, ◌++◌, OnOk, Some, None, IfNone, IfSome, false, not, true, if◌then◌else◌};
 ghost use Rattle.std.specs.List.{list_all};
-ghost use Rattle.host_timeline.specs.Booking.{conflicting, conflicting_after, conflicts_with, firm, is_after, is_other, keys_of, least_key, lesser, lesser_of};
+ghost use Rattle.host_timeline.specs.Booking.{conflicting, conflicting_after, conflicts_with, firm, is_after, is_other, keys_of, least_key, lesser_of};
 
 use crate::booking::Booking;
 use crate::lent::LentBookings;

@@ -1,9 +1,9 @@
 //! Bookings that are lent, one after another.
-ghost use Rattle.std.specs.Prelude.{◌≡◌, ◌<◌, ◌≤◌, ◌-◌, ◌+◌, ◌∷◌, IfErr, IfOk, drop, false, length, nat_lt, slice_index_or, take, true};
+ghost use Rattle.std.specs.Prelude.{◌≡◌, ◌<◌, ◌≤◌, ◌-◌, ◌+◌, ◌∷◌, IfErr, IfOk, drop, false, length, slice_index_or, take, true};
 ghost use Rattle.std.specs.List.Sorted.{IsPartitionPoint};
 ghost use Rattle.std.specs.Ordering.{is_lt};
 ghost use Rattle.ps_time.specs.Key.{key_cmp};
-ghost use Rattle.host_timeline.specs.Lane.{place_cmp, place_of, IsAscendingPlaces, IsFoundAt, IsOpenAt};
+ghost use Rattle.host_timeline.specs.Lane.{place_cmp, place_of, IsAscendingPlaces};
 ghost use Rattle.host_timeline.specs.Timeline.{IsAscendingBookings, IsGapFor, IsPlaceOf};
 
 use crate::booking::Booking;

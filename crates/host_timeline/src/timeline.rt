@@ -3,7 +3,6 @@ ghost use Rattle.std.specs.Prelude.{◌≡◌, ◌+◌, ◌<◌, ◌≤◌, ◌&
 ghost use Rattle.std.specs.List.{filter_map, list_all};
 ghost use Rattle.std.specs.Option.{is_none};
 ghost use Rattle.ps_time.specs.Key.{key_cmp};
-ghost use Rattle.ps_time.specs.Span.{Span};
 ghost use Rattle.ps_time.specs.declared.class.Class.{Class};
 ghost use Rattle.ps_time.specs.Sorted.{IsAscending};
 ghost use Rattle.host_timeline.specs.Booking.{conflicting, conflicting_after, can_preempt, firm, is_other, key_and, keys_of, least_key, without_conflicts};

@@ -1,5 +1,5 @@
 //! The next record of a list.
-ghost use Rattle.std.specs.Prelude.{◌≡◌, ◌↔◌, All, IfOk, IfSome, IsFalse, IsTrue, Some};
+ghost use Rattle.std.specs.Prelude.{◌≡◌, All, IfOk, IfSome, IsFalse, IsTrue, Some};
 ghost use Rattle.host_model.specs.Apply.{recorded};
 ghost use Rattle.host_model.specs.MayFollow.{MayFollow};
 ghost use Rattle.host_model.specs.declared.change.Changes.{Changes as Record};

@@ -1,5 +1,5 @@
 //! The next attempt of a task, and the question with which its lead begins it.
-ghost use Rattle.std.specs.Prelude.{◌≡◌, ◌+◌, ◌≤◌, Some, true, option_and_then};
+ghost use Rattle.std.specs.Prelude.{◌≡◌, ◌+◌, ◌≤◌, Some, true};
 ghost use Rattle.std.specs.Option.{option_copied};
 ghost use Rattle.ps_time.specs.declared.moment.TheConstants.{MAX_MOMENT};
 ghost use Rattle.ps_time.specs.Numbers.{plan_lead};

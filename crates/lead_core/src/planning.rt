@@ -2,8 +2,6 @@
 ghost use Rattle.std.specs.Prelude.{◌≡◌, ◌≤◌, Some, IfOk, IfSome, option_and_then};
 ghost use Rattle.std.specs.Option.{option_copied};
 ghost use Rattle.ps_time.specs.declared.moment.TheConstants.{MAX_MOMENT};
-ghost use Rattle.plugin_core.specs.Bounds.{IsTest};
-ghost use Rattle.run_states.specs.LawfulRow.{IsWindow};
 ghost use Rattle.run_states.specs.Rows.{find_row};
 ghost use Rattle.part_core.specs.Seen.{IsUnbooked};
 ghost use Rattle.host_model.specs.Book.{Book, find_task};

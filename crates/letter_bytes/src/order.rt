@@ -1,10 +1,9 @@
 //! Orders as bytes.
-ghost use Rattle.std.specs.Prelude.{◌≡◌, ◌≤◌, All, IfErr, IfOk, IfSome, IsTrue, List, Some, false, length, option_map, true, ℕ};
+ghost use Rattle.std.specs.Prelude.{◌≡◌, ◌≤◌, All, IfOk, IfSome, IsTrue, List, Some, false, length, option_map, true, ℕ};
 ghost use Rattle.ps_time.specs.Name.{is_name};
 ghost use Rattle.ps_time.specs.Numbers.{most_request_bytes};
 ghost use Rattle.ps_time.specs.declared.moment.TheConstants.{MAX_MOMENT};
 ghost use Rattle.ps_http.specs.Answer.{IsMessage, requests};
-ghost use Rattle.ps_http.specs.Sendable.{IsSendable};
 ghost use Rattle.ps_http.specs.declared.message.PeerMark.{PeerMark};
 ghost use Rattle.ps_json.specs.Answer.{GivesUnless};
 ghost use Rattle.host_model.specs.declared.input.Input.{Input as Asked};
@@ -12,7 +11,7 @@ ghost use Rattle.host_model.specs.declared.order.Order.{Order as IsAnOrder};
 ghost use Rattle.psched_world.specs.World.{input_of, number_of};
 ghost use Rattle.api_input.specs.Understood.{understood};
 ghost use Rattle.api_law.specs.Sent.{HasKeys};
-ghost use Rattle.api_order.specs.Meant.{IsUnderstood, KeepsBounds, Knows};
+ghost use Rattle.api_order.specs.Meant.{KeepsBounds, Knows};
 ghost use Rattle.api_order.specs.Ordered.{IsOrder, order_request_of, peer_named};
 ghost use Rattle.letter_bytes.specs.Carried.{CarriesFrom, CarriesOrder, letter_limits};
 ghost use Rattle.letter_bytes.specs.Texts.{HasWidth, orders_texts};

@@ -1,5 +1,5 @@
 //! The reader of applications and priorities.
-ghost use Rattle.std.specs.Prelude.{◌≡◌, [], option_map, codes, IfOk, OnOk};
+ghost use Rattle.std.specs.Prelude.{◌≡◌, option_map, codes, IfOk, OnOk};
 ghost use Rattle.serde_json.specs.View.{view};
 ghost use Rattle.ps_json.specs.Answer.{GivesUnless};
 ghost use Rattle.ps_json.specs.Fields.{without_member};

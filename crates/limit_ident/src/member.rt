@@ -1,5 +1,5 @@
 //! Members that many entries of a configuration have.
-ghost use Rattle.std.specs.Prelude.{◌≡◌, ◌≤ℤ◌, IfOk, map, false, codes};
+ghost use Rattle.std.specs.Prelude.{◌≡◌, ◌≤ℤ◌, IfOk, map, false};
 ghost use Rattle.serde_json.specs.View.{view};
 ghost use Rattle.ps_json.specs.Answer.{GivesUnless, seen_as};
 ghost use Rattle.ps_json.specs.Fields.{without_member};

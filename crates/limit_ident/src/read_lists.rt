@@ -1,5 +1,5 @@
 //! Lists of a configuration, read one item after another.
-ghost use Rattle.std.specs.Prelude.{◌≡◌, [], Result, map};
+ghost use Rattle.std.specs.Prelude.{[], Result, map};
 ghost use Rattle.serde_json.specs.Data.{Data, Members};
 ghost use Rattle.serde_json.specs.View.{view};
 ghost use Rattle.ps_json.specs.Each.{read_each};

@@ -1,6 +1,5 @@
 //! Limits: what may be true of a run.
 ghost use Rattle.std.specs.Prelude.{◌≡◌, Option};
-ghost use Rattle.ps_time.specs.Span.{Span};
 ghost use Rattle.limit_rule.specs.Limit.{duration_in, interval_in, dawdle_in, timeout_in, kept, lengths_kept, same_kind, is_listed, in_dates, in_range, in_times, rule_holds, limit_holds, is_run_rule};
 
 use crate::bounds::Bounds;

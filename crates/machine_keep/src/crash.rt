@@ -1,5 +1,5 @@
 //! A step that a crash stops, over disks in memory.
-ghost use Rattle.std.specs.Prelude.{◌≡◌, ◌+◌, ◌-◌, ◌≤◌, ◌<◌, ℕ, IfOk, IfSome, IsTrue, List, Option, Some, false, true, if◌then◌else◌, length, nat_lt};
+ghost use Rattle.std.specs.Prelude.{◌≡◌, ◌+◌, ◌-◌, ◌≤◌, ◌<◌, ℕ, IfOk, IsTrue, List, Option, Some, false, true, if◌then◌else◌, length, nat_lt};
 ghost use Rattle.ps_disks.specs.Disk.{AreBounded, Only};
 ghost use Rattle.ps_disks.specs.History.{bytes_now, image_bytes};
 ghost use Rattle.ps_disks.specs.Run.{IsArmed};

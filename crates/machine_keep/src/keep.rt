@@ -1,5 +1,5 @@
 //! A machine that is kept.
-ghost use Rattle.std.specs.Prelude.{◌||◌, ◌≡◌, ◌⊎◌, ◌∷◌, ◌+◌, ◌-◌, ◌≤◌, ℕ, Bool, List, Option, Some, None, Err, IsSome, IsTrue, IfOk, IfSome, OnOk, OnErr, [], false, length, true};
+ghost use Rattle.std.specs.Prelude.{◌||◌, ◌≡◌, ◌⊎◌, ◌+◌, ◌-◌, ◌≤◌, ℕ, Bool, List, Option, Some, None, Err, IsSome, IsTrue, IfOk, IfSome, OnOk, OnErr, false, length, true};
 ghost use Rattle.ps_disks.specs.MemoryDisk.{armed, armed_number};
 ghost use Rattle.ps_ports.specs.Causes.{Rose};
 ghost use Rattle.host_journal.specs.Calls.{IsRead};

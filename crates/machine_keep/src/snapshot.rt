@@ -1,5 +1,5 @@
 //! A snapshot of a machine, put in place of a journal's records.
-ghost use Rattle.std.specs.Prelude.{◌≡◌, ◌⊎◌, ◌+◌, ◌≤◌, ℕ, List, Err, IfOk, IsTrue, OnErr, OnOk, Some, [], ◌∷◌, false, length};
+ghost use Rattle.std.specs.Prelude.{◌≡◌, ◌⊎◌, ◌+◌, ◌≤◌, ℕ, List, Err, IfOk, IsTrue, OnOk, Some, [], ◌∷◌, false, length};
 ghost use Rattle.ps_ports.specs.Causes.{Rose};
 ghost use Rattle.host_journal.specs.Moments.{Adds};
 ghost use Rattle.host_journal.specs.State.{is_ready, stored, SameButRoom, WentOn, first_disk, second_disk};

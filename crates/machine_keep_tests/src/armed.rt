@@ -1,5 +1,5 @@
 //! A step over disks in memory, and what its answer says of their calls.
-ghost use Rattle.std.specs.Prelude.{◌≡◌, ◌⊎◌, ℕ, Err};
+ghost use Rattle.std.specs.Prelude.{◌≡◌, ◌⊎◌, Err};
 ghost use Rattle.ps_disks.specs.Run.{IsArmed, IsSpared, MeetsFault};
 ghost use Rattle.host_journal.specs.State.{first_disk, second_disk};
 ghost use Rattle.machine_keep.specs.Armed.{Lacks};

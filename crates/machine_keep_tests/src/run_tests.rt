@@ -5,7 +5,7 @@ ghost use Rattle.ps_disks.specs.Disk.{Only};
 ghost use Rattle.host_journal.specs.Moments.{Adds, LeftIn, LiesBeside, Shows};
 ghost use Rattle.host_journal.specs.Pair.{pair_of};
 ghost use Rattle.host_journal.specs.State.{is_ready, stored, EachSince, snapshot_of, first_disk, second_disk};
-ghost use Rattle.machine_keep_tests.specs.Kept.{Keeps, IsMade};
+ghost use Rattle.machine_keep_tests.specs.Kept.{IsMade};
 
 use crate::disks::{Pair, pair_on};
 use crate::journals::{list_of, new_journal};

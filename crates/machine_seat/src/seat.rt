@@ -1,13 +1,12 @@
 //! A machine that is kept on two disks in memory, of each of which one call may be made to fail.
-ghost use Rattle.std.specs.Prelude.{◌≡◌, ◌⊎◌, ◌+◌, ◌-◌, ◌^◌, ◌<◌, ◌≤◌, ℕ, Bool, IfErr, IfOk, IfSome, IsTrue, None, Ok, List, OnErr, OnOk, Option, [], ◌∷◌, ◌++◌, false, length, not, take, true};
+ghost use Rattle.std.specs.Prelude.{◌≡◌, ◌⊎◌, ◌+◌, ◌-◌, ◌^◌, ◌<◌, ◌≤◌, ℕ, IfErr, IfOk, IfSome, IsTrue, None, Ok, List, OnErr, OnOk, Option, [], ◌∷◌, ◌++◌, false, length, not, take, true};
 ghost use Rattle.ps_disks.specs.Disk.{Only};
-ghost use Rattle.ps_disks.specs.MemoryDisk.{DiskState};
 ghost use Rattle.ps_disks.specs.Run.{IsArmed};
 ghost use Rattle.host_journal.specs.Pair.{pair_of};
 ghost use Rattle.host_journal.specs.State.{first_disk, is_ready, second_disk, stored};
 ghost use Rattle.machine_keep.specs.Faulted.{seen_on};
 ghost use Rattle.host_journal.specs.declared.reading.Counted.{Counted};
-ghost use Rattle.machine_keep.specs.Kept.{Kept, StandsEither, StandsFor};
+ghost use Rattle.machine_keep.specs.Kept.{StandsEither, StandsFor};
 ghost use Rattle.machine_keep.specs.Refusal.{IsRefusedAt, StandsOf};
 ghost use Rattle.ps_ports.specs.Causes.{Rose, counted};
 ghost use Rattle.machine_seat.specs.Crashed.{StandsAt, Stops, place_unsynced, state_unsynced};

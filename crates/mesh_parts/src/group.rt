@@ -1,6 +1,6 @@
 //! Groups of hosts, and the pairs that they have.
 ghost use Rattle.std.specs.Prelude.{◌≡◌, ◌++◌, IfOk, OnOk};
-ghost use Rattle.mesh_parts.specs.Group.{has, is_list, alone, joins, single, joined, pairs_at, pairs_of};
+ghost use Rattle.mesh_parts.specs.Group.{has, is_list, alone, joins, single, joined, pairs_of};
 ghost use Rattle.mesh_parts.specs.Named.{names_of};
 
 use crate::named::Named;

@@ -2,7 +2,7 @@
 use Rattle.std.specs.List.{AllByRecursion, list_all}
 use Rattle.std.specs.Ordering.{int_cmp, is_eq, is_lt, ordering_reverse}
 use Rattle.std.specs.declared.cmp.Ordering.TheVariants.{Less, Greater}
-use Rattle.std.proofs.Common.{◌≡◌, ◌∙◌, ◌∷◌, ◌&&◌, ◌||◌, ◌+◌, ◌-◌, ℕ, ℤ, Bool, true, false, cond, not, is_some, nat_lt, List, [], filter, find, map, Option, Some, None, option_map, IfSome, All, refl, sym, subst, ap, ap₂, arith, take, unwrap_or}
+use Rattle.std.proofs.Common.{◌≡◌, ◌∙◌, ◌∷◌, ◌&&◌, ◌||◌, ◌+◌, ℕ, ℤ, Bool, true, false, cond, not, is_some, nat_lt, List, [], filter, find, Option, Some, None, option_map, IfSome, All, refl, sym, subst, ap, ap₂, arith, take, unwrap_or}
 use Rattle.std.proofs.lemmas.Bool.Decides.{nat_tests}
 use Rattle.ps_time.specs.Key.{key_cmp}
 use Rattle.ps_time.specs.Numbers.{most_intervals, on_deck}

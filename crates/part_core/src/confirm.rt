@@ -1,6 +1,6 @@
 //! A confirmation, and a cancellation, at a participant.
 ghost use Rattle.std.specs.Prelude.{◌≡◌, IfOk};
-ghost use Rattle.std.specs.Option.{option_copied, option_to_list};
+ghost use Rattle.std.specs.Option.{option_to_list};
 ghost use Rattle.run_states.specs.Rows.{find_row};
 ghost use Rattle.host_model.specs.Confirm.{confirm_changes, confirm_reply, confirm_standing, drop_changes};
 ghost use Rattle.host_model.specs.declared.part.PartReply.TheVariants.{Dropped};

@@ -1,7 +1,6 @@
 //! Whether a proposed run fits at a host, and why not.
-ghost use Rattle.std.specs.Prelude.{◌≡◌, ◌≤◌, IfOk, length};
-ghost use Rattle.ps_time.specs.declared.moment.TheConstants.{MAX_MOMENT, MAX_LENGTH};
-ghost use Rattle.ps_time.specs.Span.{span_of};
+ghost use Rattle.std.specs.Prelude.{◌≡◌, ◌≤◌, IfOk};
+ghost use Rattle.ps_time.specs.declared.moment.TheConstants.{MAX_MOMENT};
 ghost use Rattle.plugin_core.specs.Bounds.{IsTest};
 ghost use Rattle.plugin_tool.specs.Choice.{is_tool_for};
 ghost use Rattle.plugin_core.specs.Kind.{test_kind};

@@ -2,7 +2,7 @@
 ghost use Rattle.std.specs.Prelude.{◌≡◌, ◌≤◌, All};
 ghost use Rattle.std.specs.Option.{option_copied};
 ghost use Rattle.ps_time.specs.declared.moment.TheConstants.{MAX_MOMENT};
-ghost use Rattle.run_states.specs.Life.{HasMoments, settled_rows};
+ghost use Rattle.run_states.specs.Life.{HasMoments};
 ghost use Rattle.run_states.specs.Rows.{IsAscendingRows};
 ghost use Rattle.run_states.specs.ResultBytes.{result_bytes as result_bytes_of};
 ghost use Rattle.run_states.specs.TaskRows.{newest_row};

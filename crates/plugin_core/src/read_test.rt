@@ -13,7 +13,7 @@ ghost use Rattle.plugin_core.specs.Fault.{wrapped};
 ghost use Rattle.plugin_core.specs.TestSpec.{test_length};
 ghost use Rattle.plugin_core.specs.declared.test_spec.TestSpec.{TestSpec};
 ghost use Rattle.ps_json.specs.Member.{required, optional};
-ghost use Rattle.plugin_core.specs.ReadTest.{schema, length_in, duration_in, text_within, comment_in, host_in, all_differ, are_hosts, hosts_in, sleep_in, after_sleep, ended, idle_of, idleex_of, paced, idlebgm_of, idlemany_of, whole, simplestream_of, spec_of, kind_in, object_in, test_of};
+ghost use Rattle.plugin_core.specs.ReadTest.{schema, length_in, duration_in, text_within, comment_in, host_in, all_differ, hosts_in, sleep_in, after_sleep, ended, idle_of, idleex_of, paced, idlebgm_of, idlemany_of, whole, simplestream_of, spec_of, kind_in, test_of};
 
 use crate::fault::SpecFault;
 use crate::kind::{TestKind, read_kind};

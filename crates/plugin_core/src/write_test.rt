@@ -1,11 +1,11 @@
 //! The writer of tests.
-ghost use Rattle.std.specs.Prelude.{◌≡◌, ◌≤◌, ◌<◌, Ok, length, map, IfOk, OnOk};
+ghost use Rattle.std.specs.Prelude.{◌≡◌, ◌≤◌, ◌<◌, Ok, length, IfOk, OnOk};
 ghost use Rattle.serde_json.specs.Data.{string, put as with_member, depth};
 ghost use Rattle.serde_json.specs.View.{view, members_view};
 ghost use Rattle.serde_json.specs.Written.{compact_text};
 ghost use Rattle.ps_json.specs.Tree.{IsWhole};
 ghost use Rattle.ps_time.specs.declared.moment.TheConstants.{MAX_LENGTH};
-ghost use Rattle.plugin_core.specs.Bounds.{IsTest, IsSleep};
+ghost use Rattle.plugin_core.specs.Bounds.{IsTest};
 ghost use Rattle.plugin_core.specs.ReadTest.{test_of};
 ghost use Rattle.plugin_core.specs.WriteTest.{length_data, names_data, with_comment, sleep_members, spec_members, test_data, most_test_bytes};
 ghost use Rattle.plugin_core.specs.declared.test_spec.TestSpec.{TestSpec};

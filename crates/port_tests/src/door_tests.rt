@@ -1,5 +1,5 @@
 //! Tests of what no clause says: that calls succeed with ample memory, and that generic code over the traits is served.
-ghost use Rattle.std.specs.Prelude.{◌≡◌, ◌≤◌, IfOk, length, All};
+ghost use Rattle.std.specs.Prelude.{IfOk, All};
 ghost use Rattle.ps_doors.specs.Archiver.{HasLength};
 ghost use Rattle.ps_doors.specs.Door.{HasShortAddress};
 

@@ -1,5 +1,5 @@
 //! A disk in memory.
-ghost use Rattle.std.specs.Prelude.{◌≡◌, ℕ, ◌+◌, ◌-◌, ◌≤◌, ◌^◌, [], length, take, drop, min, IfOk, IsErr, OnOk, OnErr, IsTrue, is_err, false};
+ghost use Rattle.std.specs.Prelude.{◌≡◌, ℕ, ◌+◌, ◌-◌, ◌≤◌, ◌^◌, [], length, take, drop, min, IfOk, IsErr, OnOk, is_err, false};
 ghost use Rattle.std.specs.Io.{ReadsAtMost};
 ghost use Rattle.ps_disks.specs.Disk.{ReadsAt, written, Torn, Shortened, Follows, NoMore, Only, AreBounded, Elapses, CountsFault, Tells};
 ghost use Rattle.ps_ports.specs.Causes.{counted, raised};

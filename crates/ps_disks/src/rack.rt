@@ -1,5 +1,5 @@
 //! Racks: pairs of disks, each under a folder.
-ghost use Rattle.std.specs.Prelude.{◌≡◌, ◌≢◌, ℕ, ◌+◌, ◌≤◌, ◌<◌, ◌^◌, List, IfOk, OnOk, OnErr, IsErrOf};
+ghost use Rattle.std.specs.Prelude.{◌≡◌, ℕ, ◌+◌, ◌≤◌, ◌<◌, ◌^◌, List, IfOk, OnOk, OnErr, IsErrOf};
 ghost use Rattle.ps_ports.specs.Causes.{raised};
 ghost use Rattle.ps_disks.specs.Disk.{AreBounded, Only};
 ghost use Rattle.ps_disks.specs.Rack.{fresh_first, fresh_second, IsKept, LeavesOthers, LeavesAll, LeavesOpen};

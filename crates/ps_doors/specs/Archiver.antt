@@ -1,5 +1,5 @@
 -- What an attempt of an archiver answers, and an archiver in memory.
-use Rattle.std.specs.Prelude.{◌≡◌, ◌≤◌, ℕ, Bool, List, [], ◌∷◌, Option, IfSome, ⊤}
+use Rattle.std.specs.Prelude.{◌≤◌, ℕ, Bool, List, [], ◌∷◌, IfSome, ⊤}
 use Rattle.ps_time.specs.Numbers.{greatest_length}
 use Rattle.ps_doors.specs.declared.archiver.Attempt.{Attempt}
 use Rattle.ps_doors.specs.declared.archiver.Tried.{Tried}

@@ -5,7 +5,7 @@ use Rattle.ps_ports.specs.Causes.{raised}
 use Rattle.ps_ports.specs.Memory.{Calls, fails_next, called, no_calls, StreamState}
 use Rattle.ps_doors.specs.Returned.{ReturnedState, after_going, after_coming}
 use Rattle.ps_doors.specs.declared.door.Accepted.{Accepted}
-use Rattle.ps_doors.specs.declared.door.Accepted.TheVariants.{Stream, Nobody, Closed, Failed, Memory}
+use Rattle.ps_doors.specs.declared.door.Accepted.TheVariants.{Stream, Closed, Failed, Memory}
 
 -- the longest address, in bytes
 abbrev pub greatest_address : ℕ

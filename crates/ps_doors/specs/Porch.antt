@@ -4,7 +4,7 @@ use Rattle.std.specs.List.{list_any}
 use Rattle.std.specs.declared.io.ErrorKind.{ErrorKind}
 use Rattle.std.specs.declared.io.ErrorKind.TheVariants.{OutOfMemory}
 use Rattle.ps_ports.specs.Causes.{counted, raised}
-use Rattle.ps_ports.specs.Memory.{Calls, called, StreamState}
+use Rattle.ps_ports.specs.Memory.{Calls, called}
 use Rattle.ps_doors.specs.Door.{DoorState, Guest, new_door}
 use Rattle.ps_doors.specs.Returned.{ReturnedState, after_going, after_coming}
 use Rattle.ps_doors.specs.Told.{IsUntold}

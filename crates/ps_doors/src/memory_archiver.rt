@@ -97,7 +97,6 @@ fn note(
 }
 
 impl Archiver for MemoryArchiver {
-    ghost use Rattle.std.specs.Prelude.{Some};
     ghost use Rattle.ps_doors.specs.Told.{told_by};
 
     ghost label = { λ a. a.name };

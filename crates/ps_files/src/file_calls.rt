@@ -1,5 +1,5 @@
 //! The calls of the system on an open file.
-ghost use Rattle.std.specs.Prelude.{◌≡◌, List, Option, is_ok};
+ghost use Rattle.std.specs.Prelude.{List, Option, is_ok};
 ghost use Rattle.std.specs.Io.{ReadsAtMost, WritesAtMost};
 ghost use Rattle.ps_files.specs.FileCalls.{Adds, one, taken, told_length};
 ghost use Rattle.ps_files.specs.declared.file_calls.FileCall.TheVariants.{ReadAt, WriteAt, Length, SetLength, SyncData, SyncAll};

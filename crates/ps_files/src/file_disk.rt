@@ -1,10 +1,9 @@
 //! A disk over a file. That a real file is such a disk is claimed nowhere.
-ghost use Rattle.std.specs.Prelude.{◌≡◌, ℕ, ◌+◌, ◌<◌, ◌≤◌, ◌^◌, List, Option, IsErr, OnOk, is_ok, length, if◌then◌else◌, false};
+ghost use Rattle.std.specs.Prelude.{◌≡◌, ℕ, ◌+◌, ◌<◌, ◌≤◌, ◌^◌, Option, IsErr, OnOk, is_ok, length, if◌then◌else◌, false};
 ghost use Rattle.std.specs.Io.{ReadsAtMost};
 ghost use Rattle.ps_ports.specs.Causes.{counted};
-ghost use Rattle.ps_disks.specs.Disk.{CountsFault, Tells};
+ghost use Rattle.ps_disks.specs.Disk.{CountsFault};
 ghost use Rattle.ps_files.specs.FileCalls.{Adds, one, WroteWhole, cut_calls, sync_call};
-ghost use Rattle.ps_disks.specs.declared.disk.DiskCall.TheVariants.{Write, Cut, Sync};
 ghost use Rattle.ps_files.specs.declared.file_calls.FileCall.TheVariants.{ReadAt};
 
 use crate::file_calls::FileCalls;

@@ -1,7 +1,6 @@
 //! A file in memory that tells its calls.
 ghost use Rattle.std.specs.Prelude.{◌≡◌, [], Some, is_ok};
-ghost use Rattle.std.specs.Io.{ReadsAtMost, WritesAtMost};
-ghost use Rattle.ps_files.specs.FileCalls.{Adds, one, taken, told_by, told_length};
+ghost use Rattle.ps_files.specs.FileCalls.{Adds, one, told_by};
 ghost use Rattle.ps_files.specs.declared.file_calls.FileCall.TheVariants.{ReadAt, WriteAt, Length, SetLength, SyncData, SyncAll};
 
 use crate::file_calls::{FileCall, FileCalls, MadeCall};

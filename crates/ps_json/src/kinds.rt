@@ -1,5 +1,5 @@
 //! The value of a member, by its kind.
-ghost use Rattle.std.specs.Prelude.{◌≡◌, ◌≤◌, ◌≤ℤ◌, IfOk, map, string_bytes};
+ghost use Rattle.std.specs.Prelude.{◌≤◌, ◌≤ℤ◌, IfOk, map, string_bytes};
 ghost use Rattle.serde_json.specs.View.{view};
 ghost use Rattle.ps_json.specs.Answer.{GivesUnless, seen_as};
 ghost use Rattle.ps_json.specs.Kinds.{count_of, integer_of, text_of, boolean_of, list_of};

@@ -57,7 +57,6 @@ impl<R: Read> ReaderSource<R> {
 }
 
 impl<R: Read> Source for ReaderSource<R> {
-    ghost use Rattle.std.specs.Prelude.{ℕ};
     ghost use Rattle.ps_ports.specs.Causes.{counted, counted_fits};
 
     ghost left = { λ s. R.remaining s.reader };
@@ -140,7 +139,6 @@ impl<W: Write> WriterSink<W> {
 }
 
 impl<W: Write> Sink for WriterSink<W> {
-    ghost use Rattle.std.specs.Prelude.{ℕ};
     ghost use Rattle.ps_ports.specs.Causes.{counted, counted_fits};
 
     ghost written = { λ s. W.contents s.writer };

@@ -1,5 +1,5 @@
 //! Reading a source to its end, and writing a whole piece to a sink.
-ghost use Rattle.std.specs.Prelude.{◌≡◌, ◌≤◌, IfOk, OnOk, OnErr, IsErrOf, length};
+ghost use Rattle.std.specs.Prelude.{◌≤◌, IfOk, OnOk, OnErr, IsErrOf, length};
 ghost use Rattle.std.specs.Io.KnownBytes.{Appends};
 ghost use Rattle.ps_ports.specs.All.{GaveAll, GaveAtMost, GaveMoreThan, HeldMoreThan, WrotePrefix};
 ghost use Rattle.ps_ports.specs.Causes.{Rose};

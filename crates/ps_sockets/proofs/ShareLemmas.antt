@@ -1,5 +1,5 @@
 -- Shares of connections.
-use Rattle.std.proofs.Common.{◌≤◌, ℕ, le_refl, le_trans}
+use Rattle.std.proofs.Common.{ℕ, le_refl, le_trans}
 use Rattle.std.specs.Prelude.{Option, None, Some}
 use Rattle.ps_doors.specs.Porch.{HasShare}
 

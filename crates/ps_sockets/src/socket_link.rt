@@ -1,8 +1,7 @@
 //! A link over connections.
 ghost use Rattle.std.specs.Prelude.{◌≡◌, ◌≤◌, IfOk, None, length};
 ghost use Rattle.ps_ports.specs.Causes.{counted};
-ghost use Rattle.ps_doors.specs.Link.{greatest_reply, link_faults_after, answer_of};
-ghost use Rattle.ps_doors.specs.Told.{TellsMore};
+ghost use Rattle.ps_doors.specs.Link.{greatest_reply, link_faults_after};
 
 use crate::connector::Connector;
 use crate::exchange::exchange;

@@ -1,7 +1,6 @@
 //! Days of the calendar, over `jiff`.
-ghost use Rattle.std.specs.Prelude.{◌≡◌, ◌≤◌, ◌/◌, ◌↔◌, ℕ, pos, IsTrue, IfSome};
+ghost use Rattle.std.specs.Prelude.{◌≡◌, ◌≤◌, ◌↔◌, ℕ, pos, IsTrue, IfSome};
 ghost use Rattle.jiff.specs.Words.{IsDate, IsEpochDay};
-ghost use Rattle.jiff_core.specs.Calendar.{days_from_civil};
 ghost use Rattle.ps_time.specs.Calendar.{is_date, day_of_date, date_of_day};
 
 use jiff::civil::Date;

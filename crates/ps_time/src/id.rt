@@ -1,5 +1,5 @@
 //! Identifiers of tasks and runs: UUIDs of version 8 (RFC 9562) that hold their fields.
-ghost use Rattle.std.specs.Prelude.{◌≡◌, ◌≢◌, ◌≤◌, ◌+◌, ◌*◌, ◌^◌, ℕ, IfOk, IfSome, IfNone, Some};
+ghost use Rattle.std.specs.Prelude.{◌≡◌, ◌≢◌, ◌≤◌, ◌+◌, ◌*◌, ◌^◌, IfOk, IfSome, IfNone, Some};
 ghost use Rattle.ps_time.specs.Id.{uuid_of, id_of, id_text, id_of_text, InRange, OrderedAsKeys};
 
 use crate::key::RunKey;

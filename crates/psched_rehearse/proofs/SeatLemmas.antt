@@ -1,5 +1,5 @@
 -- Hosts that are told one after another.
-use Rattle.std.proofs.Common.{◌≡◌, ◌∷◌, List, [], ap, arith, length, map, refl, subst}
+use Rattle.std.proofs.Common.{◌≡◌, ◌∷◌, List, [], arith, length, map, refl, subst}
 use Rattle.machine_seat.specs.Held.{Held}
 use Rattle.ps_disks.specs.MemoryDisk.{DiskState}
 use Rattle.psched_world.specs.World.{Stage}

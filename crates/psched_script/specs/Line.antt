@@ -17,7 +17,7 @@ use Rattle.psched_script.specs.declared.lines.Content.TheVariants.{NewHost, Even
 use Rattle.psched_script.specs.declared.script.ScriptHost.{ScriptHost}
 use Rattle.psched_script.specs.declared.script.ScriptLine.TheVariants.{Tools, Limits, Book, Post, Get, Delete, Turn, Archive, Crash, Fail, Deliver, Repeat, Lose}
 use Rattle.psched_script.specs.declared.script.Reason.{Reason}
-use Rattle.psched_script.specs.declared.script.Reason.TheVariants.{UnknownWord, WrongNumberOfFields, BadNumber, BadName, NoSuchHost, RepeatedHost, TooManyHosts, BadClass, BadTool, BadLimits, BadImage}
+use Rattle.psched_script.specs.declared.script.Reason.TheVariants.{WrongNumberOfFields, BadNumber, BadName, NoSuchHost, RepeatedHost, TooManyHosts, BadClass, BadTool, BadLimits, BadImage}
 
 -- ---- what may be refused
 -- go on with the value, or refuse

@@ -1,6 +1,5 @@
 //! What is posted for one pair of hosts, and the mark that tells it from the rest.
 ghost use Rattle.std.specs.Prelude.{◌≡◌, ◌≤◌, IfOk};
-ghost use Rattle.serde_json.specs.Data.{object};
 ghost use Rattle.serde_json.specs.View.{view, members_view};
 ghost use Rattle.ps_time.specs.declared.moment.TheConstants.{MAX_MOMENT};
 ghost use Rattle.task_spec.specs.WriteTask.{members_in};

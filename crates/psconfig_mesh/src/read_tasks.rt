@@ -3,10 +3,9 @@ ghost use Rattle.std.specs.Prelude.{◌≡◌, ◌≤◌, ◌+◌, [], length, o
 ghost use Rattle.serde_json.specs.View.{view, members_view};
 ghost use Rattle.ps_json.specs.Answer.{GivesUnless};
 ghost use Rattle.ps_json.specs.Fields.{without_member};
-ghost use Rattle.ps_json.specs.Member.{required, optional};
+ghost use Rattle.ps_json.specs.Member.{optional};
 ghost use Rattle.ps_time.specs.declared.moment.TheConstants.{MAX_MOMENT};
-ghost use Rattle.psconfig_mesh.specs.Body.{body_data, fits};
-ghost use Rattle.mesh_parts.specs.Fault.{wrapped};
+ghost use Rattle.psconfig_mesh.specs.Body.{fits};
 ghost use Rattle.psconfig_mesh.specs.Mesh.{task_names, pairs_in, wanted_count, IsFit};
 ghost use Rattle.mesh_parts.specs.Named.{Ascend, names_of};
 ghost use Rattle.psconfig_mesh.specs.ReadTasks.{named_in, test_in, schedule_in, with_some, rest_of, task_in, are_fit, count_with, tasks_from, tasks_in};

@@ -15,7 +15,7 @@ ghost use Rattle.rehearsal_model.specs.Reaching.{IsKnown, IsScriptPeer, Reaches}
 ghost use Rattle.rehearsal_model.specs.Plays.{IsPlay, MayLine};
 ghost use Rattle.rehearsal_model.specs.Scenes.{Play, Turns, first_play, play_line};
 ghost use Rattle.rehearsal_model.specs.Rehearsal.{Show, seen};
-ghost use Rattle.rehearsal_model.specs.Seen.{config_at, is_sent, message};
+ghost use Rattle.rehearsal_model.specs.Seen.{config_at, message};
 
 /// A law: each host has a configuration that a host may have, and its peers are those that hosts of a script know.
 pub fn law_config()

@@ -3,7 +3,6 @@ ghost use Rattle.std.specs.Prelude.{◌≡◌, ◌≢◌, ◌++◌, IfOk, IfSome
 ghost use Rattle.host_model.specs.Conditions.{IsInput};
 ghost use Rattle.host_model.specs.declared.config.Config.{Config};
 ghost use Rattle.psched_script.specs.declared.script.ScriptHost.{ScriptHost};
-ghost use Rattle.psched_script.specs.declared.script.ScriptLine.TheVariants.{Archive};
 ghost use Rattle.ps_doors.specs.Archiver.{HasLength};
 ghost use Rattle.ps_doors.specs.declared.archiver.Tried.TheVariants.{Memory as NoMemory};
 ghost use Rattle.report_text.specs.Line.{archive_text, line_text};

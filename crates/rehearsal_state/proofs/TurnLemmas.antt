@@ -9,7 +9,7 @@ use Rattle.host_model.specs.declared.config.Config.{Config}
 use Rattle.host_model.specs.declared.config.Peer.{Peer}
 use Rattle.host_model.specs.declared.order.Order.{Order}
 use Rattle.api_law.specs.Sent.{HasKeys}
-use Rattle.api_order.specs.Ordered.{IsOrder, mark_for, peer_named}
+use Rattle.api_order.specs.Ordered.{IsOrder, peer_named}
 use Rattle.letter_bytes.specs.Carried.{CarriesFrom, CarriesOrder}
 use Rattle.rehearsal_model.specs.Hosts.{peer_key}
 use Rattle.rehearsal_model.specs.Reaching.{IsScriptPeer}

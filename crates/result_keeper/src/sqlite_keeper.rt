@@ -1,5 +1,5 @@
 //! A keeper over SQL.
-ghost use Rattle.std.specs.Prelude.{◌≡◌, ◌≤◌, ℕ, List, [], ◌∷◌, Option, IfOk, OnOk, OnErr, IfErr, IfSome, length, All, Ok, Err};
+ghost use Rattle.std.specs.Prelude.{◌≡◌, ◌≤◌, ℕ, List, [], Option, IfOk, OnOk, OnErr, IfSome, length, All, Ok, Err};
 ghost use Rattle.sqlite.specs.Held.{state};
 ghost use Rattle.sqlite.specs.State.{HasCleanDisk, IsLive, Executes, Shown};
 ghost use Rattle.sqlite.specs.Files.{file_state, over_files};

@@ -1,5 +1,4 @@
 //! What is asked of a store.
-ghost use Rattle.std.specs.Prelude.{◌≤◌};
 
 use crate::fault::LineFault;
 use crate::given::{a_count, a_moment, a_number, a_page, cut, key};

@@ -1,5 +1,5 @@
 //! Whether a database has the table of results, and no other.
-ghost use Rattle.std.specs.Prelude.{◌≡◌, [], ◌∷◌, true, false, None, IsTrue};
+ghost use Rattle.std.specs.Prelude.{◌≡◌, [], ◌∷◌, false, None, IsTrue};
 ghost use Rattle.result_rows.specs.Table.{field, results, results_index, no_schema, results_schema};
 
 use sqlite_items::Items;

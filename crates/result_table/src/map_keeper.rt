@@ -1,5 +1,5 @@
 //! A keeper in memory.
-ghost use Rattle.std.specs.Prelude.{◌≡◌, ◌≤◌, ◌↔◌, ℕ, List, [], map, take, Option, IfOk, OnOk, OnErr, IfErr, IfSome, IsTrue, length, All, Err, false, not};
+ghost use Rattle.std.specs.Prelude.{◌≡◌, ◌≤◌, ◌↔◌, List, [], take, Option, IfOk, OnOk, OnErr, IfErr, IfSome, IsTrue, length, All, Err, false};
 ghost use Rattle.ps_ports.specs.Causes.{Rose, counted};
 ghost use Rattle.ps_ports.specs.Memory.{no_calls, called, fails_next};
 ghost use Rattle.std.specs.BTreeMap.{get};

@@ -1,6 +1,6 @@
 //! Counts of records by a key.
 ghost use Rattle.std.specs.Prelude.{◌≡◌, OnOk, OnErr};
-ghost use Rattle.result_table.specs.Tally.{counted_in, none_counted, counted_one};
+ghost use Rattle.result_table.specs.Tally.{counted_in, counted_one};
 
 use crate::record::Record;
 use ps_time::memory::Memory;

@@ -1,10 +1,10 @@
 //! A walk over the table of a keeper, in pieces.
-ghost use Rattle.std.specs.Prelude.{◌≡◌, ◌≤◌, Bool, true, IsTrue, List, Option, IfOk, OnOk, IfSome, All, Err};
+ghost use Rattle.std.specs.Prelude.{◌≡◌, ◌≤◌, Bool, true, List, Option, IfOk, OnOk, IfSome, All, Err};
 ghost use Rattle.std.specs.List.{fold};
 ghost use Rattle.ps_ports.specs.Causes.{Rose};
 ghost use Rattle.ps_time.specs.Id.{InRange};
 ghost use Rattle.ps_time.specs.declared.id.Id.TheVariants.{Run};
-ghost use Rattle.result_table.specs.Record.{above, HasMoments, IsAbove};
+ghost use Rattle.result_table.specs.Record.{above, HasMoments};
 ghost use Rattle.result_table.specs.Visit.{left_above, next_key, IsFurther};
 ghost use Rattle.result_table.specs.declared.record.Record.{Record as Kept};
 

@@ -1,6 +1,6 @@
 //! What no clause says: that calls succeed with ample memory, and whole texts, worked out by hand in
 //! docs/specification/results.md.
-ghost use Rattle.std.specs.Prelude.{◌≡◌, ◌≤◌};
+ghost use Rattle.std.specs.Prelude.{◌≤◌};
 
 use ps_doors::archiver::{Archiver, Tried};
 use ps_doors::fixed_clock::FixedClock;

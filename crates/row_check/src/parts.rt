@@ -1,5 +1,5 @@
 //! What a row reserves, asked about and has of others.
-ghost use Rattle.std.specs.Prelude.{◌≡◌, ◌↔◌, All, IfSome, IsSome, IsTrue, is_some, true};
+ghost use Rattle.std.specs.Prelude.{◌≡◌, ◌↔◌, All, IfSome, IsTrue, is_some, true};
 ghost use Rattle.std.specs.List.{list_all};
 ghost use Rattle.ps_time.specs.Name.{is_name};
 ghost use Rattle.plugin_core.specs.Bounds.{IsTest};

@@ -1,5 +1,5 @@
 //! The life of a row: its steps, how it lapses, and its state at a moment.
-ghost use Rattle.std.specs.Prelude.{◌≡◌, ℕ, ◌≤◌, Some, None, OnOk, OnErr, IfSome};
+ghost use Rattle.std.specs.Prelude.{◌≡◌, ℕ, ◌≤◌, Some, None, OnOk, OnErr};
 ghost use Rattle.ps_time.specs.declared.moment.TheConstants.{MAX_MOMENT};
 ghost use Rattle.archive_retry.specs.Merge.{IsResultText};
 ghost use Rattle.run_states.specs.LawfulRow.{BringsResult};

@@ -1,6 +1,5 @@
 //! The hosts of a script, as each of them knows the others.
-ghost use Rattle.std.specs.Prelude.{◌≡◌, ◌<◌, IfOk, length, map};
-ghost use Rattle.plugin_tool.specs.Tool.{tool_text};
+ghost use Rattle.std.specs.Prelude.{◌≡◌, ◌<◌, IfOk, map};
 ghost use Rattle.rehearsal_model.specs.Hosts.{every_tool, first_config, name_numbered, others_of, peer_of};
 ghost use Rattle.rehearsal_model.specs.Moves.{place_numbered};
 

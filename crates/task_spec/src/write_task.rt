@@ -9,7 +9,6 @@ ghost use Rattle.plugin_core.specs.Bounds.{IsTest};
 ghost use Rattle.plugin_core.specs.WriteTest.{length_data};
 ghost use Rattle.archive_retry.specs.Bounds.{IsEntry, IsPolicy};
 ghost use Rattle.archive_retry.specs.Merge.{result_tree as kept_tree, IsTreeText};
-ghost use Rattle.schedule_rule.specs.Rule.{Schedule};
 ghost use Rattle.task_spec.specs.Bounds.{IsArchive, IsReference, IsRest, IsTask};
 ghost use Rattle.task_spec.specs.ReadTask.{without_test, task_of};
 ghost use Rattle.task_spec.specs.WriteTask.{with_some, moment_data, count_data, schedule_data, entry_data, with_policy, members_in, archive_data, with_tools, task_data, most_task_bytes};

@@ -1,5 +1,4 @@
 //! Times and numbers, and how they are written.
-ghost use Rattle.std.specs.Prelude.{◌≤◌};
 
 use crate::reader::after_number;
 use ps_time::class::{Class, class_name, classes_conflict, read_class};

@@ -1,6 +1,5 @@
 //! What host b answers to orders, as it is heard.
 ghost use Rattle.std.specs.Prelude.{◌∷◌, ◌≡◌, ◌≤◌, [], IfOk, codes};
-ghost use Rattle.ps_time.specs.Span.{Range};
 ghost use Rattle.ps_time.specs.declared.moment.TheConstants.{MAX_MOMENT};
 ghost use Rattle.host_model.specs.Conditions.{IsAnswer, IsFreeHeard, IsInput, IsResultHeard};
 

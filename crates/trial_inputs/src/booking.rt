@@ -1,5 +1,5 @@
 //! Runs that conflict with no other.
-ghost use Rattle.std.specs.Prelude.{◌≡◌, ◌≤◌};
+ghost use Rattle.std.specs.Prelude.{◌≤◌};
 ghost use Rattle.ps_time.specs.declared.moment.TheConstants.{MAX_MOMENT};
 ghost use Rattle.host_model.specs.Conditions.{IsInput};
 ghost use Rattle.host_model.specs.declared.config.Config.{Config as Known};

@@ -1,7 +1,7 @@
 use Rattle.std.proofs.Common.{◌≡◌, subst, sym, ℕ}
 use Rattle.rehearsal_model.specs.Scenes.{Scene}
 use Rattle.generated_work.specs.Shown.{IsShown}
-use Rattle.generated_work.specs.Work.{flown, second, shows, turned}
+use Rattle.generated_work.specs.Work.{flown, second, shows}
 use Rattle.generated_work.specs.declared.tally.Tally.{Tally}
 use Rattle.generated_work.proofs.ShownLemmas.{shown_flown, shown_turns}
 use Rattle.generated_work.proofs.WorkLemmas.{ok_then, second_is}

@@ -1,10 +1,10 @@
-use Rattle.std.proofs.Common.{◌≡◌, ◌≤◌, ◌+◌, ◌∙◌, ap, arith, subst, sym, ℕ}
+use Rattle.std.proofs.Common.{◌≤◌, arith, subst, sym, ℕ}
 use Rattle.ps_time.specs.Numbers.{greatest_moment}
 use Rattle.rehearsal_model.specs.Plays.{MayMake}
 use Rattle.rehearsal_model.specs.Scenes.{Scene}
 use Rattle.generated_work.specs.Posts.{post_of}
 use Rattle.generated_work.specs.Shown.{IsShown}
-use Rattle.generated_work.specs.Work.{moment_of_post, posted, posting, shows}
+use Rattle.generated_work.specs.Work.{moment_of_post, posting}
 use Rattle.generated_work.specs.declared.post.Post.{Post}
 use Rattle.generated_work.proofs.ShownLemmas.{ready, shown_posted}
 use Rattle.generated_work.proofs.WorkLemmas.{ok_always}

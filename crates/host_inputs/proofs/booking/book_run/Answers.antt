@@ -1,4 +1,4 @@
-use Rattle.std.proofs.Common.{◌≡◌, ◌∙◌, ◌+◌, ℕ, None, sym, ap, subst}
+use Rattle.std.proofs.Common.{◌∙◌, ◌+◌, sym, ap, subst}
 use Rattle.plugin_core.specs.Bounds.{IsTest}
 use Rattle.run_states.specs.Rows.{find_row}
 use Rattle.run_states.specs.declared.proposal.Proposal.{Proposal}

@@ -1,9 +1,7 @@
-use Rattle.std.proofs.Common.{◌≡◌, ◌∙◌, ◌∷◌, ◌++◌, [], List, None, Some, Option, find, option_and_then, sym, ap, ap₂, append_assoc, append-nil}
-use Rattle.std.specs.List.{cons_option}
+use Rattle.std.proofs.Common.{◌≡◌, ◌∙◌, ◌++◌, List, Some, find, sym, ap, append-nil}
 use Rattle.ps_time.specs.declared.key.RunKey.{RunKey}
 use Rattle.host_timeline.specs.Booking.{is_after}
-use Rattle.host_model.specs.declared.change.Change.{Change}
-use Rattle.host_inputs.specs.Runs.{canceled_run, canceled_runs, keys_after, runs_of_task}
+use Rattle.host_inputs.specs.Runs.{canceled_runs, keys_after, runs_of_task}
 use Rattle.host_inputs.proofs.WalkLemmas.{all_left, fewer, next_is, none_left, runs_up}
 use Rattle.host_inputs.proofs.CancelLemmas.{one_changed, one_passed}
 use Rattle.host_inputs.proofs.cancel.cancel_runs.Goals as goal

@@ -1,6 +1,6 @@
-use Rattle.std.proofs.Common.{◌≡◌, ◌<◌, ◌≤◌, ◌∷◌, rules, tests, arith, sym, subst, length, All, List}
+use Rattle.std.proofs.Common.{◌≡◌, ◌<◌, ◌≤◌, ◌∷◌, rules, tests, sym, subst, length, All, List}
 use Rattle.std.proofs.lemmas.List.Elements.{All-drop}
-use Rattle.ps_doors.specs.Door.{HasShortAddress, Guest, with_guest}
+use Rattle.ps_doors.specs.Door.{HasShortAddress, Guest}
 use Rattle.ps_doors.proofs.DealLemmas.{Left, left_first, left_next, left_done}
 use Rattle.ps_doors.proofs.memory_porch.deal.Goals as goal
 

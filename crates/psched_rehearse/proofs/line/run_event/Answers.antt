@@ -1,4 +1,3 @@
-use Rattle.psched_rehearse.proofs.LineLemmas.{config_retooled}
 use Rattle.psched_rehearse.proofs.line.run_event.Goals as goal
 
 pub returns-in-Turn-clause-report : goal.returns-in-Turn-clause-report

@@ -1,6 +1,5 @@
-use Rattle.std.specs.Fmt.{decimal}
 use Rattle.std.specs.Prelude.{codes}
-use Rattle.std.proofs.Common.{◌≡◌, ◌+◌, ◌++◌, ◌∙◌, List, sym}
+use Rattle.std.proofs.Common.{◌+◌, ◌++◌, ◌∙◌, List, sym}
 use Rattle.std.proofs.lemmas.Result.{on_ok_weaker}
 use Rattle.psched_world.specs.World.{Letter}
 use Rattle.report_text.specs.Line.{changes_text}

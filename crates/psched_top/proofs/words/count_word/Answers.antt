@@ -1,4 +1,4 @@
-use Rattle.std.proofs.Common.{rules, ◌≡◌, [], map, option_map, codes, string_bytes, ℕ, List, refl, sym, ap, ap₂, subst, ◌∙◌, true, inl, inr}
+use Rattle.std.proofs.Common.{rules, ◌≡◌, [], map, codes, string_bytes, refl, sym, ap, ap₂, subst, ◌∙◌, true, inl, inr}
 use Rattle.clap.specs.Walk.{first_of, rule_of}
 use Rattle.clap.specs.Simple.{app_of, app_of_fields, on_top, with_rule, is_simple, matches_of}
 use Rattle.clap.specs.Faults.{fault_of, is_simple_and_free}

@@ -1,5 +1,5 @@
 use Rattle.std.specs.Prelude.{codes}
-use Rattle.std.proofs.Common.{◌≡◌, ◌∙◌, None, Some, ap, subst, sym}
+use Rattle.std.proofs.Common.{◌∙◌, None, Some, ap, subst, sym}
 use Rattle.host_model.specs.Conditions.{IsInput}
 use Rattle.host_model.specs.declared.input.Input.{Input}
 use Rattle.report_text.specs.Line.{archive_text}
@@ -8,7 +8,6 @@ use Rattle.rehearsal_model.specs.Plays.{MayMake}
 use Rattle.rehearsal_model.specs.Scenes.Deed.{Does}
 use Rattle.rehearsal_model.specs.Scenes.{Scene, book_of, came_at, config_of, scene_deed}
 use Rattle.rehearsal_model.specs.Telling.{came_said, disk_fault, due_said}
-use Rattle.rehearsal_moves.specs.Archiving.{tried_by}
 use Rattle.rehearsal_moves.proofs.ArchiveLemmas.{of_some, told_none, told_some, trying_some}
 use Rattle.rehearsal_moves.proofs.ResultLemmas.{on_ok, reported, seen_as}
 use Rattle.rehearsal_moves.proofs.archive.try_first.Goals as goal
