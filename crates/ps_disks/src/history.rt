@@ -154,8 +154,7 @@ fn log_call(
 {
     recent.reserve(1)?;
     let len = bytes.len();
-    let at = taken_from(&logged, len);
-    let until = taken_until(&logged, len);
+    let (at, until) = taken(&logged, len);
     let piece = piece_of(alloc, bytes, at, until)?;
     if logged.done {
         make(bytes, &logged.call)?;
@@ -178,34 +177,21 @@ fn piece_of(alloc: Global, bytes: &[u8], at: usize, until: usize) -> Result<Vec<
     Ok(bytes[at..until].to_vec(alloc)?)
 }
 
-// From which place on a call changes so many bytes.
-fn taken_from(logged: &LoggedCall, len: usize) -> usize
-    ensures { result ≡ taken_from logged.now len }
+// From which place on a call changes or takes so many bytes, and before which.
+fn taken(logged: &LoggedCall, len: usize) -> (usize, usize)
+    ensures from { result.0 ≡ taken_from logged.now len }
+    ensures until { result.1 ≡ taken_until logged.now len }
 {
     if !logged.done {
-        return len;
-    }
-    match &logged.call {
-        DiskCall::Write(at, _) => len.min(*at as usize),
-        DiskCall::Cut(left) => len.min(*left as usize),
-        DiskCall::Sync => len,
-    }
-}
-
-// Before which place a call changes or takes so many bytes.
-fn taken_until(logged: &LoggedCall, len: usize) -> usize
-    ensures { result ≡ taken_until logged.now len }
-{
-    if !logged.done {
-        return len;
+        return (len, len);
     }
     match &logged.call {
         DiskCall::Write(at, piece) => {
             let end = at.saturating_add(piece.len() as u64);
-            len.min(end as usize)
+            (len.min(*at as usize), len.min(end as usize))
         }
-        DiskCall::Cut(_) => len,
-        DiskCall::Sync => len,
+        DiskCall::Cut(left) => (len.min(*left as usize), len),
+        DiskCall::Sync => (len, len),
     }
 }
 

@@ -9,7 +9,7 @@ pub none_left : (ss : List (Held Stage)) → length ss ≡ 0 → ss ≡ []
 none_left [] is = refl
 none_left (s ∷ ss) is = absurd (omega (arith, is))
 
-abbrev states_of : List (Held Stage) → List Stage
+abbrev pub states_of : List (Held Stage) → List Stage
 states_of hs = map (λ (h : Held Stage). h.state) hs
 
 -- disks stand for hosts in the same states too

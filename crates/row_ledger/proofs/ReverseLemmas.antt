@@ -28,7 +28,7 @@ module _ {X : Type 0} (xs : List X) where
   length_behind k = length-reverse (drop k xs) ∙ length-drop k xs
 
   -- an item comes
-  pub reverse_insert : (i : ℕ) (x : X) → i ≤ length xs → reverse (insert xs (length xs - i) x) ≡ insert (reverse xs) i x
+  reverse_insert : (i : ℕ) (x : X) → i ≤ length xs → reverse (insert xs (length xs - i) x) ≡ insert (reverse xs) i x
   reverse_insert i x within =
       let k : ℕ = length xs - i in
       let count : length (behind k) ≡ i = omega (arith, length_behind k, within) in
@@ -40,8 +40,11 @@ module _ {X : Type 0} (xs : List X) where
       ∙ append_assoc (behind k) (x ∷ []) (before k)
       ∙ sym (ap₂ (λ a b. a ++ x ∷ b) left right)
 
+  pub inserted : (ys : List X) (i n : ℕ) (x : X) → i ≤ length xs → n ≡ length xs → ys ≡ insert xs (n - i) x → reverse ys ≡ insert (reverse xs) i x
+  inserted ys i n x within count is = ap reverse is ∙ ap (λ m. reverse (insert xs (m - i) x)) count ∙ reverse_insert i x within
+
   -- an item goes
-  pub reverse_remove : (i : ℕ) (d : X) → i < length xs → reverse (remove xs (length xs - 1 - i)) ≡ remove (reverse xs) i
+  reverse_remove : (i : ℕ) (d : X) → i < length xs → reverse (remove xs (length xs - 1 - i)) ≡ remove (reverse xs) i
   reverse_remove i d within =
       let k : ℕ = length xs - 1 - i in
       let x : X = get_or xs k d in
@@ -54,6 +57,9 @@ module _ {X : Type 0} (xs : List X) where
       let right : drop i (reverse xs) ≡ x ∷ before k = ap (drop i) split ∙ drop_at (behind (suc k)) (x ∷ before k) i count in
       let rest : drop (suc i) (reverse xs) ≡ before k = ap (λ n. drop n (reverse xs)) (sym (add-one i)) ∙ sym (drop-drop 1 i (reverse xs)) ∙ ap (drop 1) right in
       reverse-append (take k xs) (drop (suc k) xs) ∙ sym (ap₂ (λ a b. a ++ b) left rest)
+
+  pub removed : (ys : List X) (i n : ℕ) (d : X) → i < length xs → n ≡ length xs → ys ≡ remove xs (n - 1 - i) → reverse ys ≡ remove (reverse xs) i
+  removed ys i n d within count is = ap reverse is ∙ ap (λ m. reverse (remove xs (m - 1 - i))) count ∙ reverse_remove i d within
 
   -- the item at a place from the other end
   pub at_reverse : (i : ℕ) (d : X) → i < length xs → get_or (reverse xs) (length xs - 1 - i) d ≡ get_or xs i d

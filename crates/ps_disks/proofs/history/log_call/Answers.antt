@@ -8,7 +8,7 @@ pub returns-clause-undone : goal.returns-clause-undone
 returns-clause-undone c =
     let before = c.args.bytes.now.items in
     let after = c.if-logged.bytes.items in
-    let call : RecentCall = record { logged = c.args.logged; at = c.taken_from-at.result; piece = c.in_ok-piece.piece; len = c.len-len.result } in
+    let call : RecentCall = record { logged = c.args.logged; at = c.taken-at.result.0; piece = c.in_ok-piece.piece; len = c.len-len.result } in
     let at : call.at ≡ taken_from call.logged (length before) = search rules in
     let len : call.len ≡ length before = search rules in
     let piece : call.piece.items ≡ take (taken_until call.logged (length before) - call.at) (drop call.at before) = search rules in

@@ -7,7 +7,7 @@ use Rattle.host_model.specs.Conditions.{IsConfig}
 use Rattle.machine_seat.specs.Held.{Held}
 use Rattle.psched_world.specs.World.{Stage}
 use Rattle.rehearsal_model.specs.Rehearsal.{stage_table}
-use Rattle.psched_rehearse.proofs.SeatLemmas.{none_left}
+use Rattle.psched_rehearse.proofs.SeatLemmas.{none_left, states_of}
 use Rattle.psched_rehearse.proofs.rehearse.tell_all.Goals as goal
 
 abbrev HasConfig : Held Stage → Type 0
@@ -15,9 +15,6 @@ HasConfig h = IsConfig h.state.config
 
 abbrev tables_of : ℕ → List (Held Stage) → List ℕ
 tables_of moment hs = flat_map (λ (h : Held Stage). stage_table moment h.state) hs
-
-abbrev states_of : List (Held Stage) → List Stage
-states_of hs = map (λ (h : Held Stage). h.state) hs
 
 pub tell-requires-clause-config : goal.tell-requires-clause-config
 tell-requires-clause-config c = All-head HasConfig c.in-Some.seat (into_iter_items c.next.new.self) (subst (All HasConfig) c.in-Some.ensures.steps.0 c.loop-seat.invariant.configs)

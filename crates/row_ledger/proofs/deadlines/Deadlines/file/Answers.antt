@@ -1,10 +1,9 @@
-use Rattle.std.proofs.Common.{◌≡◌, ◌-◌, Some, ap, reverse, sym, subst, ◌∙◌, arith}
+use Rattle.std.proofs.Common.{◌≡◌, Some, ap, reverse, sym, subst, ◌∙◌, arith}
 use Rattle.std.proofs.lemmas.List.{length-reverse}
-use Rattle.std.specs.List.{insert}
 use Rattle.row_ledger.specs.Deadlines.{filed, Deadlines, IsAscendingDeadlines, IsGapFor, IsPlaceOf}
 use Rattle.row_ledger.specs.declared.deadlines.Deadline.{Deadline}
 use Rattle.row_ledger.proofs.DeadlineLemmas.{ascending_put, put_gap, put_place}
-use Rattle.row_ledger.proofs.ReverseLemmas.{reverse_insert}
+use Rattle.row_ledger.proofs.ReverseLemmas.{inserted}
 use Rattle.row_ledger.proofs.deadlines.Deadlines.file.Goals as goal
 
 -- the deadline goes into the gap
@@ -14,7 +13,7 @@ invariant_of-self c =
     let ds = c.self.inside.entries.list in
     let seen : reverse ds ≡ c.args.self.now.list = ap (λ (t : Deadlines). t.list) c.self.view_is in
     let gap : IsGapFor (reverse ds) d c.in-Err.at = rw seen c.in-Err.ensures.absent in
-    let put : reverse c.insert.new.self.list ≡ insert (reverse ds) c.in-Err.at d = ap reverse c.insert.ensures.list ∙ ap (λ n. reverse (insert ds (n - c.in-Err.at) d)) c.len.ensures.value ∙ reverse_insert ds c.in-Err.at d (omega (arith, gap.within, length-reverse ds)) in
+    let put = inserted ds c.insert.new.self.list c.in-Err.at c.len.result d (omega (arith, gap.within, length-reverse ds)) c.len.ensures.value c.insert.ensures.list in
     subst IsAscendingDeadlines (sym put) (ascending_put (reverse ds) d c.in-Err.at c.self.invariant gap)
 
 -- one that is there already stays
@@ -32,5 +31,5 @@ returns-in-Err-clause-list c =
     let ds = c.self.inside.entries.list in
     let seen : reverse ds ≡ c.args.self.now.list = ap (λ (t : Deadlines). t.list) c.self.view_is in
     let gap : IsGapFor (reverse ds) d c.in-Err.at = rw seen c.in-Err.ensures.absent in
-    let put : reverse c.insert.new.self.list ≡ insert (reverse ds) c.in-Err.at d = ap reverse c.insert.ensures.list ∙ ap (λ n. reverse (insert ds (n - c.in-Err.at) d)) c.len.ensures.value ∙ reverse_insert ds c.in-Err.at d (omega (arith, gap.within, length-reverse ds)) in
+    let put = inserted ds c.insert.new.self.list c.in-Err.at c.len.result d (omega (arith, gap.within, length-reverse ds)) c.len.ensures.value c.insert.ensures.list in
     put ∙ (sym (put_gap (reverse ds) d c.in-Err.at gap) ∙ (ap (λ l. filed c.args.key (Some c.in-Some.moment) l) seen ∙ sym (ap (λ o. filed c.args.key o c.args.self.now.list) c.in-Some.is)))
