@@ -1,3 +1,2 @@
 mod ArchivingLemmas
-mod KeptLemmas
 mod WholeLemmas

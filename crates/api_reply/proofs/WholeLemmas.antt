@@ -4,7 +4,7 @@ use Rattle.std.specs.Ordering.{match_ordering, nat_cmp}
 use Rattle.std.specs.Cmp.Lexicographic.{slice_cmp}
 use Rattle.std.specs.declared.cmp.Ordering.{Ordering}
 use Rattle.std.specs.declared.cmp.Ordering.TheVariants.{Less, Equal, Greater}
-use Rattle.serde_json.specs.Data.{Data, Members, member, no_members, put, string}
+use Rattle.serde_json.specs.Data.{Data, Members, member, no_members, put}
 use Rattle.serde_json.specs.Find.{is_float, of_integer}
 use Rattle.serde_json.specs.View.{items_of}
 use Rattle.serde_json.specs.Written.{has_float, items_have_float, members_have_float}
@@ -38,7 +38,7 @@ use Rattle.host_model.specs.declared.view.View.TheVariants as view
 use Rattle.api_reply.specs.Denials.{denial_data, limits_data, proposal_data}
 use Rattle.api_reply.specs.Bounds.{IsReplyShown, IsRunShown, IsTaskShown, IsViewShown}
 use Rattle.api_reply.specs.Replies.{free_told, reply_data, window_data}
-use Rattle.api_reply.specs.Shown.{error_with, moment_data, second_data}
+use Rattle.api_reply.specs.Shown.{moment_data, second_data}
 use Rattle.api_reply.specs.Views.{archivings, detail_data, line_data, run_link, run_view, shown_result, some_moment, some_text, task_link, task_view, tools_of, view_data}
 
 -- ---- lists, and members that are put
@@ -72,9 +72,6 @@ second_whole m = refl
 
 window_whole : (w : Range) → has_float (window_data w) ≡ false
 window_whole w = rw (second_whole w.first, second_whole w.last) refl
-
-error_whole : (e name text : List ℕ) → has_float (error_with e name text) ≡ false
-error_whole e name text = put_whole name (string text) (member (codes "error") (string e) no_members) refl refl
 
 -- ---- denials
 limits_whole : (v : Verdict) → has_float (limits_data v) ≡ false

@@ -25,7 +25,3 @@ module _ (rows : List RunRow) (i : ℕ) (r : RunRow) (within : i < length rows) 
 
   pub goes_on : IsAbove before r.key → (AreAbove (Some r.key) (drop (i + 1) rows) ↔ IsAscendingRows rows)
   goes_on above = (λ rest. so_far.0 (parts.1 (above, rest)), λ up. (parts.0 (so_far.1 up)).1)
-
-pub ends : (before : Option RunKey) → AreAbove before []
-ends None = tt
-ends (Some j) = (tt, tt)

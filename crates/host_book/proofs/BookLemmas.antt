@@ -1,5 +1,5 @@
 -- A sound book after each change.
-use Rattle.std.proofs.Common.{All, ◌≡◌, ℕ, zero, suc, ◌-◌, ◌≤◌, Bool, true, false, cond, ◌&&◌, List, [], ◌∷◌, map, Some, None, unwrap_or, slice_get, length, refl, ap, ap₂, sym, subst, ◌∙◌}
+use Rattle.std.proofs.Common.{All, ◌≡◌, ℕ, zero, suc, ◌-◌, ◌≤◌, Bool, true, false, cond, ◌&&◌, List, [], ◌∷◌, map, Some, None, unwrap_or, slice_get, length, refl, ap, ap₂, sym, ◌∙◌}
 use Rattle.std.specs.List.{last_or}
 use Rattle.std.specs.Ordering.{is_eq}
 use Rattle.ps_time.specs.Key.{key_cmp}
@@ -7,7 +7,7 @@ use Rattle.ps_time.specs.Numbers.{greatest_moment}
 use Rattle.ps_time.specs.declared.key.RunKey.{RunKey}
 use Rattle.limit_apply.specs.Limits.{Config as Limits}
 use Rattle.run_states.specs.Effect.{change_other, confirmed_complete, confirmed_if, is_acceptance, is_complete, noted_row, with_answer}
-use Rattle.run_states.specs.Life.{is_booked, close_row, confirm_row, end_row, settled_rows, start_row}
+use Rattle.run_states.specs.Life.{is_booked, close_row, confirm_row, end_row, start_row}
 use Rattle.run_states.specs.Rows.{change_row, lift_row}
 use Rattle.run_states.specs.declared.answer.Other.{Other}
 use Rattle.run_states.specs.declared.fact.Fact.{Fact}
@@ -76,10 +76,6 @@ module _ (number : ℕ) (b : Book) (bs : List Booking) (sound : IsSound number b
 module _ (number : ℕ) (b : Book) (bs : List Booking) (sound : IsSound number b bs) (m : ℕ) (later : b.moment ≤ m) (within : m ≤ greatest_moment) where
   pub settled_sound : (ks : List RunKey) → All (IsDue m ks) b.rows → IsSound number (settled m b) (released m b.rows ks bs)
   settled_sound ks due = record { lawful = book_settled number b m later within sound.lawful; index = ap (released m b.rows ks) sound.index ∙ bookings_settled m b.rows ks due sound.lawful.ascending }
-
-  -- where no row lapses by then
-  pub unsettled_sound : settled_rows m b.rows ≡ b.rows → IsSound number (record b { moment = m }) bs
-  unsettled_sound same = record { lawful = subst (λ l. Lawful number (record b { moment = m; rows = l })) same (book_settled number b m later within sound.lawful); index = sound.index }
 
 -- ---- changes that leave each row
 either_same : (t : Bool) (r : RunRow) → cond t r r ≡ r

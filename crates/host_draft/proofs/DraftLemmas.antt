@@ -65,16 +65,6 @@ module _ (m : ℕ) (c : Change) (d : Draft) where
           let less : n ≡ suc n - 1 = omega arith in
           ap (λ b. cond b (made m c d n) (ended d)) fits ∙ ap (made m c d) less
 
-  -- one for which there is none ends the step
-  pub made_refused : admits (change_bytes c) d ≡ false → make m (Some c) d ≡ ended d
-  made_refused fits = go d.places refl fits
-    where
-      go : (p : ℕ) → d.places ≡ p → (nat_lt 0 p && nat_le (change_bytes c) d.left) ≡ false → make_with m c d p ≡ ended d
-      go zero e is = ap (λ p. record { book = d.book; changes = d.changes; places = p; left = d.left }) e
-      go (suc n) e is =
-          let over : nat_le (change_bytes c) d.left ≡ false = ap (λ b. b && nat_le (change_bytes c) d.left) (sym (is_place n)) ∙ is in
-          ap (λ b. cond b (made m c d n) (ended d)) over
-
 -- ---- what is shown ----
 abbrev pub shown : ℕ → Limits → Book → List Change → ℕ → ℕ → Seen
 shown number limits b cs places left = record { number = number; limits = limits; draft = record { book = b; changes = cs; places = places; left = left } }
@@ -90,13 +80,6 @@ module _ (number m : ℕ) (limits : Limits) (b : Book) (cs : List Change) (place
       ∙ (ap (λ (x : Seen). with_draft (made m c x.draft (x.draft.places - 1)) x) seen
       ∙ (ap (λ d. with_draft d s) (sym (made_admitted m c s.draft fits))
       ∙ ap (λ n. with_draft (make n (Some c) s.draft) s) (sym moment_is)))
-
-  -- the step ended
-  pub refused_shown : admits (change_bytes c) s.draft ≡ false → shown number limits (book_now m cs b) cs 0 left ≡ with_draft (make s.draft.book.moment (Some c) s.draft) s
-  refused_shown fits =
-      ap (λ (x : Seen). with_draft (ended x.draft) x) seen
-      ∙ (ap (λ d. with_draft d s) (sym (made_refused m c s.draft fits))
-      ∙ ap (λ n. with_draft (make n (Some c) s.draft) s) (sym moment_is))
 
 zero_from : (n : ℕ) → (n == 0) ≡ true → n ≡ 0
 zero_from n e = grind (arith, nat_tests)

@@ -2,19 +2,18 @@
 use Rattle.std.specs.Prelude.{◌==◌, All, IfSome, find}
 use Rattle.std.specs.List.{AllByRecursion}
 use Rattle.std.proofs.Common.{◌≡◌, ◌∙◌, ◌&&◌, ℕ, Bool, true, false, cond, not, List, [], ◌∷◌, filter, Option, Some, option_map, refl, sym, ap, ap₂}
-use Rattle.std.proofs.lemmas.List.Elements.{All-weaker, recursion_from_All}
+use Rattle.std.proofs.lemmas.List.Elements.{recursion_from_All}
 use Rattle.ps_time.specs.declared.key.RunKey.{RunKey}
 use Rattle.ps_time.proofs.KeyLemmas.{key_cmp_total}
 use Rattle.ps_time.proofs.SortedLemmas.{ascending-filter}
-use Rattle.task_spec.specs.Bounds.{IsArchive}
 use Rattle.run_states.specs.Rows.{IsAscendingRows}
 use Rattle.run_states.specs.TaskRows.{is_of_task, rows_of_task}
 use Rattle.run_states.specs.declared.row.RunRow.{RunRow}
 use Rattle.host_timeline.specs.Booking.{is_after, lesser_of}
 use Rattle.host_model.specs.Book.{Book, find_task, keys_of_rows}
-use Rattle.host_model.specs.Lawful.{IsLawfulTask, Lawful}
+use Rattle.host_model.specs.Lawful.{Lawful}
 use Rattle.host_model.specs.declared.task_row.TaskRow.{TaskRow}
-use Rattle.host_inputs.specs.Kept.{HasPolicies, HasPolicy}
+use Rattle.host_inputs.specs.Kept.{HasPolicies}
 use Rattle.host_inputs.specs.Runs.{next_run}
 use Rattle.host_draft.specs.Draft.{IsDraft}
 use Rattle.draft_parts.specs.Overlay.{hides}
@@ -32,10 +31,6 @@ found_by (t ∷ ts) serial all = go (t.serial == serial) (found_by ts serial all
 -- the archives of the task that is found are tried again within bounds, as all are
 pub policies_found : (tasks : List TaskRow) (serial : ℕ) → All HasPolicies tasks → IfSome (find_task tasks serial) HasPolicies
 policies_found tasks serial all = found_by tasks serial (recursion_from_All HasPolicies tasks all)
-
--- so are those of a lawful book
-pub policies_of : (number : ℕ) (b : Book) → Lawful number b → All HasPolicies b.tasks
-policies_of number b lawful = All-weaker (IsLawfulTask b.moment) HasPolicies (λ t is. All-weaker IsArchive HasPolicy (λ a is. is.policy) t.task.archives is.task.rest.archives) b.tasks lawful.tasks
 
 -- ---- from key to key
 -- the first key that passes is that of the first row

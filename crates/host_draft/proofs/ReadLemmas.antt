@@ -1,7 +1,7 @@
 -- What is read of a draft is what its rows say.
 use Rattle.std.specs.Prelude.{IfSome, find}
-use Rattle.std.specs.List.{last_or, list_any}
-use Rattle.std.proofs.Common.{◌≡◌, ◌&&◌, ◌||◌, ℕ, ℤ, Bool, true, false, cond, not, List, [], ◌∷◌, filter, Option, Some, None, option_map, is_some, refl, ap, ap₂, sym, ◌∙◌}
+use Rattle.std.specs.List.{last_or}
+use Rattle.std.proofs.Common.{◌≡◌, ◌&&◌, ℕ, ℤ, not, List, [], filter, Option, Some, None, option_map, refl, ap, sym, ◌∙◌}
 use Rattle.ps_time.specs.Span.{Range, Span}
 use Rattle.ps_time.specs.declared.class.Class.{Class}
 use Rattle.ps_time.specs.declared.key.RunKey.{RunKey}
@@ -23,7 +23,7 @@ use Rattle.draft_parts.specs.Overlay.{Takes, booked, hides, later, meets, meets_
 use Rattle.draft_parts.specs.declared.overlay.Sought.{Sought}
 use Rattle.draft_parts.proofs.FilterLemmas.{filter_twice}
 use Rattle.draft_parts.proofs.FreeLemmas.{takes_near, tiers_near}
-use Rattle.draft_parts.proofs.PickLemmas.{earlier, find_over, greater_order, is_greater, is_less, last_over, less_order, sought_over}
+use Rattle.draft_parts.proofs.PickLemmas.{earlier, greater_order, is_greater, last_over, sought_over}
 
 -- the later row is the one that comes first among descending keys
 later_is : (a b : Option RunRow) → earlier is_greater greater_order a b ≡ later a b
@@ -66,20 +66,3 @@ module _ (number m : ℕ) (began now : Book) (touched : List RunRow) (gone : Lis
   read_tiers class reach len priority w covers bookings list made index is made_is =
       tiers_near now.rows touched gone began.rows sound.lawful.ascending up lawful.ascending sound.found class reach len priority w m covers made (made_is ∙ ap (λ l. booked l []) (is ∙ ap (near_gathered class reach touched gone) index))
       ∙ ap (λ n. free_tiers class len priority w n now.rows) (sym sound.at)
-
-  -- some row passes
-  pub read_any : (p : RunRow → Bool) → (list_any p touched || list_any (λ r. p r && not (hides touched gone r.key)) began.rows) ≡ list_any p now.rows
-  read_any p =
-      ap₂ (λ a b. a || b) (some_found p touched) (some_found (λ r. p r && not (hides touched gone r.key)) began.rows)
-      ∙ (sym (some_earlier (find p touched) (find (λ r. p r && not (hides touched gone r.key)) began.rows))
-      ∙ (ap is_some (sym (find_over now.rows touched gone began.rows sound.lawful.ascending up lawful.ascending sound.found p))
-      ∙ sym (some_found p now.rows)))
-    where
-      some_found : (p : RunRow → Bool) (rows : List RunRow) → list_any p rows ≡ is_some (find p rows)
-      some_found p [] = refl
-      some_found p (r ∷ rs) = elim (p r) as (λ b. (b || list_any p rs) ≡ is_some (cond b (Some r) (find p rs))) [ true ↦ refl | false ↦ some_found p rs ]
-
-      some_earlier : (a b : Option RunRow) → is_some (earlier is_less less_order a b) ≡ (is_some a || is_some b)
-      some_earlier None b = refl
-      some_earlier (Some r) None = refl
-      some_earlier (Some r) (Some s) = elim (is_less s.key r.key) as (λ c. is_some (cond c (Some s) (Some r)) ≡ true) [ true ↦ refl | false ↦ refl ]

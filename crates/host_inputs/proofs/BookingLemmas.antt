@@ -9,20 +9,12 @@ use Rattle.run_states.specs.declared.why.Denial.{Denial}
 use Rattle.host_model.specs.Booking.{booking_key}
 use Rattle.host_model.specs.Fits.{Place, denial_of}
 use Rattle.host_model.specs.Propose.{decide, decided_at, decided_new}
-use Rattle.host_model.specs.declared.part.Decision.TheVariants.{New, Known, Denied}
+use Rattle.host_model.specs.declared.part.Decision.TheVariants.{Denied}
 use Rattle.host_model.proofs.NewNumbers.{above_new}
 
 module _ (place : Place) (rows : List RunRow) (m : ℕ) (p : Proposal) (new : find_row rows p.key ≡ None) where
   decided : decide place rows m p ≡ decided_new (denial_of place rows m p)
   decided = ap (decided_at place rows m p) new
-
-  -- it is new: nothing speaks against it
-  pub fits_now : decide place rows m p ≡ New → denial_of place rows m p ≡ None
-  fits_now is = go (denial_of place rows m p) (sym decided ∙ is)
-    where
-      go : (o : Option Denial) → decided_new o ≡ New → o ≡ None
-      go None e = refl
-      go (Some d) e = cc
 
   -- it is denied for this reason
   pub denied_for : (d : Denial) → decide place rows m p ≡ Denied d → denial_of place rows m p ≡ Some d
@@ -31,14 +23,6 @@ module _ (place : Place) (rows : List RunRow) (m : ℕ) (p : Proposal) (new : fi
       go : (o : Option Denial) → decided_new o ≡ Denied d → o ≡ Some d
       go None e = cc
       go (Some x) e = let same : x ≡ d = cc in ap Some same
-
-  -- it was never accepted before
-  pub never_known : (accepted : ℕ) → decide place rows m p ≡ Known accepted → ⊥
-  never_known accepted is = go (denial_of place rows m p) (sym decided ∙ is)
-    where
-      go : (o : Option Denial) → decided_new o ≡ Known accepted → ⊥
-      go None e = cc
-      go (Some d) e = cc
 
 none_is : (o : Option RunRow) → IsNone o → o ≡ None
 none_is None none = refl

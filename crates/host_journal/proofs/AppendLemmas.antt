@@ -10,9 +10,6 @@ use Rattle.host_journal.specs.State.{IsWhole, IsStaged}
 use Rattle.host_journal.proofs.FrontLemmas.{is_longer_front}
 
 module _ (generation start end : ℕ) (list : List (List ℕ)) where
-  abbrev pub frame_of : List ℕ → List ℕ
-  frame_of payload = to_be_bytes w32 (length payload) ++ payload
-
   pub whole_long : (c : List ℕ) → IsWhole generation start end list c → end + 1 ≤ length c
   whole_long c whole = omega (arith, ap length whole.split, length-append whole.front (whole.gate ∷ whole.tail), whole.is_end)
 

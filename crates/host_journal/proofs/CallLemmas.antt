@@ -1,7 +1,6 @@
 -- How a run of calls on one disk goes on: its images at every moment, and the calls that it tells.
-use Rattle.std.proofs.Common.{◌≡◌, inl, inr, ⊎_elim, ℕ, ◌+◌, ◌≤◌, List, ◌++◌, length, take, drop, refl, sym, ◌∙◌, ap, subst, arith, append_assoc, length-append, length-take, length-drop}
+use Rattle.std.proofs.Common.{◌≡◌, inl, inr, ⊎_elim, ℕ, ◌+◌, ◌≤◌, List, ◌++◌, length, take, drop, sym, ◌∙◌, ap, subst, arith, append_assoc, length-append, length-take, length-drop}
 use Rattle.std.specs.Prelude.{Option, Some, None, Result, Ok, Err, OnErr}
-use Rattle.std.proofs.lemmas.List.{take_all}
 use Rattle.std.proofs.Math.Seq.{take-add}
 use Rattle.ps_disks.specs.Disk.{Follows, NoMore, Elapses, LeavesOnly, ReadsAt}
 use Rattle.ps_disks.specs.declared.disk.DiskCall.{DiskCall}
@@ -22,9 +21,6 @@ module _ {D : Type 0} (seen : D → List ℕ) (may_leave : D → List ℕ → Ty
       → NoMore (may_leave mid) (may_leave new) → Elapses (moment mid) (moment new) (left_since mid) (left_since new) (may_leave new) → LeavesOnly moment left_since old new P
   after_sync old mid new P so_far here no_more time =
       leaves_after_call moment left_since old mid new P (may_leave new) so_far time (λ c now. here c (no_more c now))
-
-  pub not_read : (disk : D) → ((c : List ℕ) → left_since disk (moment disk) c → may_leave disk c) → IsRead seen may_leave moment left_since disk disk
-  not_read disk only = record { same = refl; images = λ c now. now; moments = leaves_at_first moment left_since disk (may_leave disk) only }
 
   pub read_on : (old mid new : D) → IsRead seen may_leave moment left_since old mid → seen new ≡ seen mid → NoMore (may_leave mid) (may_leave new)
       → Elapses (moment mid) (moment new) (left_since mid) (left_since new) (may_leave new) → IsRead seen may_leave moment left_since old new
@@ -85,24 +81,9 @@ read_more file all buf n so_far reads fits =
       within = omega (arith, sum, fits_file);
     }
 
-pub read_all : (file all : List ℕ) → ReadSoFar file all → length file ≤ length all → all ≡ file
-read_all file all so_far end = so_far.front ∙ take_all (length all) file end
-
 -- the same into a part of a buffer
 pub read_longer : (file old new : List ℕ) (at n : ℕ) → ReadSoFar file (take at old) → ReadsAt file at (drop at new) n → at ≤ length old → take at new ≡ take at old → at + n ≤ length new → ReadSoFar file (take (at + n) new)
 read_longer file old new at n so_far reads within front fits =
     let count : length (take at old) ≡ at = omega (arith, length-take at old, within) in
     let longer = read_more file (take at old) (drop at new) n so_far (subst (λ (k : ℕ). ReadsAt file k (drop at new) n) (sym count) reads) (omega (arith, length-drop at new, fits)) in
     subst (ReadSoFar file) (ap (λ (l : List ℕ). l ++ take n (drop at new)) (sym front) ∙ sym (take-add at n new)) longer
-
--- a buffer that is full
-pub head_full : (file head : List ℕ) (at size : ℕ) → ReadSoFar file (take at head) → at ≤ length head → at ≡ size → take at head ≡ take size file
-head_full file head at size so_far within full =
-    let count : length (take at head) ≡ size = omega (arith, length-take at head, within, full) in
-    so_far.front ∙ ap (λ (k : ℕ). take k file) count
-
--- or has all
-pub head_short : (file head : List ℕ) (at size : ℕ) → ReadSoFar file (take at head) → at ≤ length head → length file ≤ at → at ≤ size → take at head ≡ take size file
-head_short file head at size so_far within end less =
-    let count : length (take at head) ≡ at = omega (arith, length-take at head, within) in
-    so_far.front ∙ ap (λ (k : ℕ). take k file) count ∙ take_all at file end ∙ sym (take_all size file (omega (arith, end, less)))

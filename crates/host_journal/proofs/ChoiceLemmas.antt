@@ -1,48 +1,14 @@
 -- From the fronts of two disks to what the two stand for.
-use Rattle.std.proofs.Common.{◌≡◌, ℕ, suc, zero, ◌+◌, ◌<◌, Bool, true, false, if◌then◌else◌, List, [], ◌∷◌, length, drop, Result, Ok, Err, Option, Some, None, refl, sym, ◌∙◌, ap, subst, arith}
+use Rattle.std.proofs.Common.{◌≡◌, ℕ, Bool, true, false, if◌then◌else◌, List, drop, Result, Ok, Err, Option, Some, None, refl, sym, ◌∙◌, ap, subst}
 use Rattle.std.specs.Prelude.{nat_le}
-use Rattle.host_journal.specs.Format.{stands, Body, body_of, record_bytes, records_of}
-use Rattle.host_journal.specs.Front.{is_open, generation_in, IsFrontOf, chosen_open, allowed, chosen}
-use Rattle.host_journal.specs.Pair.{AreGatesOf, bad, gates_at, with_records, counted, need_body, alone, headless, unless_at, greater, pair_of}
+use Rattle.host_journal.specs.Format.{Body, body_of}
+use Rattle.host_journal.specs.Front.{generation_in, IsFrontOf, chosen_open, allowed, chosen}
+use Rattle.host_journal.specs.Pair.{counted, need_body, alone, headless, unless_at, greater, pair_of}
 use Rattle.host_journal.specs.declared.reading.Counted.{Counted}
 use Rattle.host_journal.specs.declared.reading.DiskPlace.{DiskPlace}
 use Rattle.host_journal.specs.declared.reading.Front.{Front}
 use Rattle.host_journal.specs.declared.reading.Front.TheVariants.{Open, Closed}
 use Rattle.host_journal.proofs.PairLemmas.{by_stands}
-
--- too few bytes for a head have no body
-dropped : (n : ℕ) (bytes : List ℕ) → length bytes < n → drop n bytes ≡ []
-dropped zero bytes less = absurd (omega (arith, less))
-dropped (suc n) [] less = refl
-dropped (suc n) (b ∷ bytes) less = dropped n bytes (omega (arith, less))
-
-pub alone_short : (second : Bool) (bytes : List ℕ) → length bytes < 9 → alone second bytes ≡ bad second 9
-alone_short second bytes less = ap (λ (l : List ℕ). need_body second (body_of l) (λ body. counted second body)) (dropped 9 bytes less)
-
--- the places of the gates of a disk by itself
-with_gates : (second : Bool) (body : Body) (k : Counted) (r : Result (List (List ℕ)) ℕ) → with_records second body r ≡ Ok k → AreGatesOf k.list k.start k.end
-with_gates second body k (Err at) is = absurd (cc is)
-with_gates second body k (Ok records) is =
-    let found : Counted = record {
-      second = second;
-      generation = body.generation;
-      start = gates_at body.snapshot;
-      end = gates_at body.snapshot + record_bytes records;
-      list = body.snapshot ∷ records;
-    } in
-    let same : found ≡ k = cc is in
-    subst (λ (c : Counted). AreGatesOf c.list c.start c.end) same (refl, refl)
-
-need_gates : (second : Bool) (k : Counted) (o : Option Body) → need_body second o (λ body. counted second body) ≡ Ok k → AreGatesOf k.list k.start k.end
-need_gates second k None is = absurd (cc is)
-need_gates second k (Some body) is = with_gates second body k (records_of body.gates) is
-
-pub alone_gates : (second : Bool) (bytes : List ℕ) (k : Counted) → alone second bytes ≡ Ok k → AreGatesOf k.list k.start k.end
-alone_gates second bytes k is = need_gates second k (body_of (drop 9 bytes)) is
-
-pub open_is : (second : Bool) (bytes : List ℕ) (front : Front) → IsFrontOf second bytes front → is_open front ≡ stands bytes
-open_is second bytes (Open generation) is = sym is.0
-open_is second bytes (Closed place at) is = sym is.0
 
 -- the disk that was chosen says by itself what both stand for
 abbrev pub Settles : Result Bool DiskPlace → List ℕ → List ℕ → Type 0

@@ -1,8 +1,8 @@
 -- What bytes say, from what they are made of, and the other way round.
-use Rattle.std.proofs.Common.{◌≡◌, ◌≢◌, ℕ, zero, suc, ◌+◌, ◌-◌, ◌≤◌, ◌<◌, Bool, true, false, if◌then◌else◌, List, [], ◌∷◌, ◌++◌, length, take, drop, Result, Ok, Err, Option, Some, None, refl, sym, ◌∙◌, ap, subst, arith, append_assoc, length-append, length-take, length-drop, take-append-drop}
+use Rattle.std.proofs.Common.{◌≡◌, ◌≢◌, ℕ, zero, suc, ◌+◌, ◌≤◌, ◌<◌, Bool, true, false, if◌then◌else◌, List, [], ◌∷◌, ◌++◌, length, take, drop, Result, Ok, Err, Option, Some, None, refl, sym, ◌∙◌, ap, subst, arith, append_assoc, length-append, length-take, length-drop, take-append-drop}
 use Rattle.std.specs.Prelude.{nat_le, ◌==◌}
 use Rattle.std.specs.Int.{w32, w64, from_be_bytes}
-use Rattle.std.proofs.lemmas.List.{append-nil, take_at, drop_at}
+use Rattle.std.proofs.lemmas.List.{take_at, drop_at}
 use Rattle.std.proofs.lemmas.Bool.Decides.{nat_tests}
 use Rattle.host_journal.specs.Format.{agreeing, sized, Body, with_snapshot, body_of, record_bytes, joined, behind, records_within, records_of}
 
@@ -187,9 +187,6 @@ pub record Walking (old now : List (List ℕ)) (gates rest : List ℕ) : Type 0 
   pub decides : joined records (records_of rest) ≡ records_of gates
   pub some : 0 < length rest
 
-pub walking_first : (old : List (List ℕ)) (gates : List ℕ) → 0 < length gates → Walking old old gates gates
-walking_first old gates some = record { some = some; records = []; list = sym (append-nil old); bytes = omega arith; decides = joined-none (records_of gates) }
-
 pub walking_on : (old now : List (List ℕ)) (gates rest payload next : List ℕ) → Walking old now gates (1 ∷ rest) → sized rest ≡ Some (payload, next) → Walking old (now ++ payload ∷ []) gates next
 walking_on old now gates rest payload next so_far is =
     let made = sized_is rest payload next is in
@@ -203,13 +200,3 @@ walking_on old now gates rest payload next so_far is =
 
 pub walking_step : (old now : List (List ℕ)) (gates rest behind payload next : List ℕ) → Walking old now gates rest → rest ≡ 1 ∷ behind → sized behind ≡ Some (payload, next) → Walking old (now ++ payload ∷ []) gates next
 walking_step old now gates rest behind payload next so_far is_open is = walking_on old now gates behind payload next (subst (Walking old now gates) is_open so_far) is
-
--- where it ends
-pub walked : (old now : List (List ℕ)) (gates rest : List ℕ) → Walking old now gates rest → records_of rest ≡ Ok [] → (records : List (List ℕ)) × (records_of gates ≡ Ok records) × (now ≡ old ++ records) × (length gates - length rest ≡ record_bytes records)
-walked old now gates rest so_far none =
-    (so_far.records, sym so_far.decides ∙ ap (λ (r : Result (List (List ℕ)) ℕ). joined so_far.records r) none ∙ ap (λ (l : List (List ℕ)). Ok l) (append-nil so_far.records), so_far.list, omega (arith, so_far.bytes))
-
-pub stopped : (old now : List (List ℕ)) (gates rest behind : List ℕ) → Walking old now gates rest → rest ≡ 1 ∷ behind → sized behind ≡ None → records_of gates ≡ Err (length gates - length rest)
-stopped old now gates rest behind so_far is_open none =
-    let at : record_bytes so_far.records + 0 ≡ length gates - length rest = omega (arith, so_far.bytes) in
-    sym so_far.decides ∙ ap (λ (r : Result (List (List ℕ)) ℕ). joined so_far.records r) (ap records_of is_open ∙ records_of-bad behind none) ∙ ap (λ (n : ℕ). Err n) at

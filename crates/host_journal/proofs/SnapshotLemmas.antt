@@ -14,10 +14,6 @@ use Rattle.host_journal.specs.State.{IsClosed, IsOlder, IsAside, IsLess, IsWhole
 use Rattle.host_journal.proofs.FrontLemmas.{first_front, is_first_front, stands_whole}
 use Rattle.host_journal.proofs.HeadLemmas.{closed_made, closed_same, closed_split, stands_split}
 
--- the magic is eight bytes
-front_eight : (gate : ℕ) (rest : List ℕ) → take 8 (magic ++ gate ∷ rest) ≡ magic
-front_eight gate rest = refl
-
 -- any part of a write over a head gate changes no more than the gate
 pub gate_torn : (old new rest : List ℕ) (gate : ℕ) → old ≡ magic ++ gate ∷ rest → Torn 8 1 old new → new ≡ magic ++ get_or new 8 0 ∷ rest
 gate_torn old new rest gate split torn =

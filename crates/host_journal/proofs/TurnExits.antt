@@ -41,9 +41,6 @@ module _ {D : Type 0} (seen : D → List ℕ) (may_leave : D → List ℕ → Ty
   abbrev kept_with : D → Bool → Pending → State D
   kept_with other shut pending = record { counting = s.counting; other = other; second = s.second; generation = s.generation; start = s.start; end = s.end; shut = shut; pending = pending; room = room }
 
-  abbrev is_below : (d : List ℕ) → IsClosed d → Below seen may_leave moment left_since reads_now only_now s was_ready image d
-  is_below d is_closed = inl is_closed
-
   module _ (shut : D) (moments : LeavesOnly moment left_since s.other shut (PartAfter (Torn 8 (length {A = ℕ} (closing s.shut))) (may_leave s.other)))
       (images : Follows (Torn 8 (length {A = ℕ} (closing s.shut))) (may_leave s.other) (may_leave shut)) where
     shut_moments : LeavesOnly moment left_since s.other shut (Below seen may_leave moment left_since reads_now only_now s was_ready image)

@@ -320,11 +320,6 @@ module _ (class : Class) (s : Span) (bs : List Booking) (b : Booking) (rest : Li
       let takes : takes_beside class s t b ≡ has_second b.interval t = rw conflicts refl in
       ap (λ y. x || y) (ap (list_any (takes_beside class s t)) here ∙ ap (λ y. y || list_any (takes_beside class s t) rest) takes) ∙ or_assoc x (has_second b.interval t) (list_any (takes_beside class s t) rest)
 
-  pub pass_one : conflicts_with class s b ≡ false → (x : Bool) → (x || list_any (takes_beside class s t) bs) ≡ (x || list_any (takes_beside class s t) rest)
-  pass_one apart x =
-      let takes : takes_beside class s t b ≡ false = rw apart refl in
-      ap (λ y. x || y) (ap (list_any (takes_beside class s t)) here ∙ ap (λ y. y || list_any (takes_beside class s t) rest) takes)
-
 -- the ranges before and after
 module _ (begins : ℕ → Bool) (class : Class) (s : Span) (bs : List Booking) (b : Booking) (rest : List Booking) (here : bs ≡ b ∷ rest) (coming : conflicts_begin_at begins class s bs ≡ true) where
   both_coming : record { first : (not (conflicts_with class s b) || begins b.interval.start) ≡ true; rest : conflicts_begin_at begins class s rest ≡ true }
@@ -366,15 +361,6 @@ busy_started bs k places busy are = record {
   exclusive = record { covered = λ t. are.exclusive.covered t ∙ started_busy Exclusive bs k t; apart = are.exclusive.apart };
   normal_places = are.normal_places;
   exclusive_places = are.exclusive_places;
-}
-
--- after places were reserved
-pub busy_reserved : (bs : List Booking) (places more : ℕ) (old new : Busy) → new.normal.list ≡ old.normal.list → new.exclusive.list ≡ old.exclusive.list → (0 < more → more < range_places new.normal) → (0 < more → more < range_places new.exclusive) → AreBusy bs places old → AreBusy bs more new
-busy_reserved bs places more old new normal exclusive normal_places exclusive_places are = record {
-  normal = subst (IsBusy Normal bs) (sym normal) are.normal;
-  exclusive = subst (IsBusy Exclusive bs) (sym exclusive) are.exclusive;
-  normal_places = normal_places;
-  exclusive_places = exclusive_places;
 }
 
 -- ---- how far back bookings reach

@@ -1,16 +1,16 @@
 -- What a search finds in a lane, what an edit at that place does, and which bookings of a lane are near.
-use Rattle.std.proofs.Common.{◌≡◌, ◌∙◌, ◌<◌, ◌≤◌, ◌+◌, ◌-◌, ℕ, zero, suc, List, [], ◌∷◌, length, get_or, set, take, drop, Bool, true, false, cond, not, ltb, max, Result, Ok, Err, IfOk, IfErr, Option, Some, None, ◌&&◌, refl, ap, sym, subst, arith}
+use Rattle.std.proofs.Common.{◌≡◌, ◌∙◌, ◌<◌, ◌≤◌, ◌+◌, ◌-◌, ℕ, zero, suc, List, [], ◌∷◌, length, get_or, set, take, drop, Bool, true, false, cond, not, ltb, max, Option, Some, None, ◌&&◌, refl, ap, sym, subst, arith}
 use Rattle.std.specs.Cmp.{IsTotalOrder}
 use Rattle.std.specs.List.{insert, remove, filter, list_all, AllByRecursion, AllWithin}
-use Rattle.std.specs.List.Sorted.{IsSearchInRange, IsBinarySearchResult, IsPartitionPoint, IsNonDecreasingBy, IsPartitionedBy}
+use Rattle.std.specs.List.Sorted.{IsPartitionPoint, IsNonDecreasingBy}
 use Rattle.std.specs.Ordering.{nat_cmp, match_ordering, is_eq}
 use Rattle.std.specs.declared.cmp.Ordering.TheVariants.{Less, Equal, Greater}
 use Rattle.std.proofs.lemmas.Bool.Decides.{nat_tests}
 use Rattle.std.proofs.lemmas.Cmp.{nat_cmp_total, on_total, then_total}
 use Rattle.std.proofs.lemmas.List.{length-drop, get_or-drop}
-use Rattle.std.proofs.lemmas.List.Sorted.{IsPartitionedBy-ltb, IsNonDecreasingBy-from_all_adjacent}
+use Rattle.std.proofs.lemmas.List.Sorted.{IsNonDecreasingBy-from_all_adjacent}
 use Rattle.ps_time.proofs.KeyLemmas.{key_cmp_total}
-use Rattle.ps_time.proofs.SortedLemmas.{ascending_at, searchable, find_in_gap, insert_in_gap, find_at, without_at, without_in_gap, ascending-without, ascending-insert, set_changes, ascending-change, change_in_gap}
+use Rattle.ps_time.proofs.SortedLemmas.{ascending_at, find_in_gap, insert_in_gap, find_at, without_at, without_in_gap, ascending-without, ascending-insert, set_changes, ascending-change, change_in_gap}
 use Rattle.host_timeline.specs.declared.booking.Booking.{Booking}
 use Rattle.host_timeline.specs.declared.lane.Place.{Place}
 use Rattle.host_timeline.specs.Lane.{place_cmp, place_of, find_place, with_place, without_place, with_started_place, IsAscendingPlaces, IsLane, IsFoundAt, IsOpenAt, FailsOthers, FailsOutside, how_many, reaches, spans, starts_between, starts_by}
@@ -55,10 +55,6 @@ short_insert longest (b ∷ bs) y here all =
 
 -- ---- at a place
 module _ (bookings : List Booking) (longest : ℕ) (lane : IsLane bookings longest) (p : Place) where
-  pub searched : (r : Result ℕ ℕ) → IsSearchInRange r (length bookings) → IsBinarySearchResult (λ b. place_cmp (place_of b) p) bookings r → record { found : IfOk r (IsFoundAt bookings p); absent : IfErr r (IsOpenAt bookings p) }
-  searched (Ok at) within equal = record { found = record { within = within; same = equal }; absent = tt }
-  searched (Err at) within parted = record { found = tt; absent = record { within = within; parted = parted (searchable place_cmp_total place_of bookings lane.ascending p) } }
-
   module _ (i : ℕ) (d : Booking) (found : IsFoundAt bookings p i) where
     pub find_found : find_place bookings p ≡ Some (get_or bookings i d)
     find_found = find_at place_cmp_total place_of bookings p i d lane.ascending found.within (found.same d)
@@ -123,9 +119,6 @@ start_below p q below =
 pub starts_rise : (bs : List Booking) → IsAscendingPlaces bs → IsNonDecreasingBy (λ b. b.interval.start) bs
 starts_rise bs up =
     IsNonDecreasingBy-from_all_adjacent (λ b. b.interval.start) bs (λ k d within. start_below (place_of (get_or bs k d)) (place_of (get_or bs (k + 1) d)) (ascending_at place_cmp_total place_of bs up k (k + 1) d (omega arith) within))
-
-pub parts_at : (moment : ℕ) (bs : List Booking) → IsAscendingPlaces bs → IsPartitionedBy (λ b. ltb b.interval.start moment) bs
-parts_at moment bs up = IsPartitionedBy-ltb (λ b. b.interval.start) bs moment (starts_rise bs up)
 
 -- what stands behind one that doesn't start before the moment doesn't either
 pub late_from : (moment : ℕ) (bs : List Booking) → IsAscendingPlaces bs → (i : ℕ) → i < length bs → ((d : Booking) → moment ≤ (get_or bs i d).interval.start) → AllWithin (λ b. ltb b.interval.start moment ≡ false) bs i (length bs)

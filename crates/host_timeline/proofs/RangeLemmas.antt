@@ -463,22 +463,6 @@ pub none_for_one : (rs : List Span) (i : ℕ) → remove rs i ≡ take i rs ++ d
 none_for_one rs i = let next : suc i ≡ i + 1 = omega arith in ap (λ n. take i rs ++ drop n rs) next
 
 -- ---- where the ranges begin
-all_append : (begins : ℕ → Bool) (xs ys : List Span) → begin_at begins xs ≡ true → begin_at begins ys ≡ true → begin_at begins (xs ++ ys) ≡ true
-all_append begins [] ys one other = other
-all_append begins (x ∷ xs) ys one other =
-    let parts = split (begins x.start) (begin_at begins xs) one in
-    both (begins x.start) (begin_at begins (xs ++ ys)) parts.0 (all_append begins xs ys parts.1 other)
-
-pub begin_without : (begins : ℕ → Bool) (rs : List Span) (s : Span) → begin_at begins rs ≡ true → begins s.end ≡ true → begin_at begins (without_range rs s) ≡ true
-begin_without begins [] s all here = refl
-begin_without begins (r ∷ rs) s all here =
-    let parts = split (begins r.start) (begin_at begins rs) all in
-    let left : begin_at begins (option_to_list (span_between r.start s.start)) ≡ true = elim (ltb r.start s.start) as (λ x. begin_at begins (option_to_list (cond x (Some (record { start = r.start; end = s.start })) None)) ≡ true) [ true ↦ both (begins r.start) true parts.0 refl | false ↦ refl ] in
-    let right : begin_at begins (option_to_list (span_between s.end r.end)) ≡ true = elim (ltb s.end r.end) as (λ x. begin_at begins (option_to_list (cond x (Some (record { start = s.end; end = r.end })) None)) ≡ true) [ true ↦ both (begins s.end) true here refl | false ↦ refl ] in
-    elim (ltb s.start r.end) as (λ x. begin_at begins (cond x (pieces r s ++ rs) (r ∷ without_range rs s)) ≡ true) [
-      | true ↦ all_append begins (pieces r s) rs (all_append begins (option_to_list (span_between r.start s.start)) (option_to_list (span_between s.end r.end)) left right) parts.1
-      | false ↦ both (begins r.start) (begin_at begins (without_range rs s)) parts.0 (begin_without begins rs s parts.1 here)
-    ]
 
 -- ---- how far back it reaches
 pub covered_nowhere : (rs : List Span) (d : Span) (t : ℕ) → ((i : ℕ) → i < length rs → has_second (get_or rs i d) t ≡ false) → covers rs t ≡ false

@@ -1,8 +1,7 @@
 -- One wish after another over a draft: each may be made, and what is left decides.
 use Rattle.std.specs.List.{range_with_len}
 use Rattle.std.specs.Prelude.{◌||◌, IfSome, IsSome, filter}
-use Rattle.std.proofs.Common.{◌≡◌, ◌<◌, ◌+◌, ℕ, true, List, ◌∷◌, length, map, get_or, drop, drop-cons, add-one, Option, Some, None, option_and_then, refl, sym, ap, subst, ◌∙◌, arith, Bool, false, cond, []}
-use Rattle.std.proofs.lemmas.Bool.Decides.{nat_tests}
+use Rattle.std.proofs.Common.{◌≡◌, ◌<◌, ◌+◌, ℕ, true, List, ◌∷◌, length, map, get_or, drop, drop-cons, add-one, Option, Some, None, option_and_then, refl, sym, ap, subst, ◌∙◌, Bool, false, cond, []}
 use Rattle.ps_time.specs.Name.{is_name}
 use Rattle.ps_time.specs.declared.key.RunKey.{RunKey}
 use Rattle.run_states.specs.Purging.{is_long_past}
@@ -10,7 +9,7 @@ use Rattle.run_states.specs.Rows.{find_row}
 use Rattle.run_states.specs.declared.row.RunRow.{RunRow}
 use Rattle.host_model.specs.Apply.{apply}
 use Rattle.host_model.specs.Book.{Book, find_task, keys_of_rows}
-use Rattle.host_model.specs.Draft.{Draft, make, make_each, make_with}
+use Rattle.host_model.specs.Draft.{Draft, make, make_each}
 use Rattle.host_model.specs.Lawful.{Lawful}
 use Rattle.host_model.specs.NextAttempt.{ask}
 use Rattle.host_model.specs.Purging.{purge_run}
@@ -22,7 +21,7 @@ use Rattle.live_rows.specs.LiveKeys.{find_own}
 use Rattle.live_rows.specs.Still.{is_live_by}
 use Rattle.live_law.specs.Groups.{going_keys, make_keys}
 use Rattle.live_law.proofs.DraftLemmas.{made_keeps}
-use Rattle.host_draft.specs.Draft.{Seen, is_full, with_draft}
+use Rattle.host_draft.specs.Draft.{Seen, with_draft}
 use Rattle.host_wishes.specs.Wishes.{HoldActive}
 use Rattle.host_turns.specs.Turns.{HoldExclusive, IsLiveTurn, IsOfHost, IsTurn, MayMake, wish_of}
 use Rattle.host_turns.specs.declared.due.Due.{Due}
@@ -111,14 +110,6 @@ moment_each wish m (k ∷ ks) d = moment_each wish m ks (make m (wish d.book k) 
 pub moment_purged : (c : Config) (m : ℕ) (rows : List RunRow) (d : Draft) → (make_keys (purge_run c m) m (going_keys c.number m rows) d).book.moment ≡ d.book.moment
 moment_purged c m rows d = moment_each (λ b k. option_and_then (purge_run c m b) (find_row b.rows k)) m (going_keys c.number m rows) d
 
--- a draft in which no more changes may be made stays
-pub full_stays : (m : ℕ) (o : Option Change) (d : Draft) → is_full d ≡ true → make m o d ≡ d
-full_stays m None d full = refl
-full_stays m (Some x) d full = let none : d.places ≡ 0 = grind (arith, nat_tests) in ap (make_with m x d) none
-
-pub full_draft : (m : ℕ) (o : Option Change) (s : Seen) → is_full s.draft ≡ true → s ≡ with_draft (make m o s.draft) s
-full_draft m o s full = ap (λ d. with_draft d s) (sym (full_stays m o s.draft full))
-
 -- ---- what is left decides: one step
 pub step : {K : Type 0} (wish : ℕ → Book → K → Option Change) (m : ℕ) (ks rest : List K) (k : K) (s t : Seen) → ks ≡ k ∷ rest → s.draft.book.moment ≡ m → t ≡ with_draft (make s.draft.book.moment (wish s.draft.book.moment s.draft.book k) s.draft) s
     → with_draft (make_each (wish m) m ks s.draft) s ≡ with_draft (make_each (wish m) m rest t.draft) t
@@ -147,14 +138,6 @@ purge_step c m rows rest r s t are at is =
     ∙ (ap (λ d. with_draft d s) (split c m r rest s.draft)
     ∙ (ap (λ n. with_draft (make_keys (purge_run c m) m (going_keys c.number m rest) (make_keys (purge_run c n) n (going_keys c.number n (r ∷ [])) s.draft)) s) (sym at)
     ∙ ap (λ x. with_draft (make_keys (purge_run c m) m (going_keys c.number m rest) x.draft) x) (sym is)))
-
--- what is made of a row that may go is what its key wishes for; of another one, nothing is
-pub gone_row : (c : Config) (m : ℕ) (r : RunRow) (t : Bool) (s u : Seen) → t ≡ (is_long_past m r || is_live_by c.number m r) → t ≡ true
-    → u ≡ with_draft (make m (option_and_then (purge_run c m s.draft.book) (find_row s.draft.book.rows r.key)) s.draft) s → u ≡ with_draft (make_keys (purge_run c m) m (going_keys c.number m (r ∷ [])) s.draft) s
-gone_row c m r t s u is holds made = made ∙ ap (λ b. with_draft (make_keys (purge_run c m) m (keys_of_rows (cond b (r ∷ []) [])) s.draft) s) (sym holds ∙ is)
-
-pub kept_row : (c : Config) (m : ℕ) (r : RunRow) (t : Bool) (s : Seen) → t ≡ (is_long_past m r || is_live_by c.number m r) → t ≡ false → s ≡ with_draft (make_keys (purge_run c m) m (going_keys c.number m (r ∷ [])) s.draft) s
-kept_row c m r t s is fails = ap (λ b. with_draft (make_keys (purge_run c m) m (keys_of_rows (cond b (r ∷ []) [])) s.draft) s) (sym fails ∙ is)
 
 -- the item at a place, and those behind it
 pub behind_at : {X : Type 0} (xs : List X) (i : ℕ) (d : X) → i < length xs → drop i xs ≡ get_or xs i d ∷ drop (i + 1) xs

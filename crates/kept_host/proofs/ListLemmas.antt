@@ -78,15 +78,7 @@ stands_either self [] b stands = absurd stands
 stands_either self (x ∷ xs) b stands = stands
 
 -- ---- the first item that is refused
--- the snapshot
-pub first_none : (second : Bool) (self : ℕ) (snapshot : List ℕ) (records : List (List ℕ)) → ((b : Book) → IsSnapshot second snapshot b → Lawful self b → ⊥) → IsFirstRefused (StandsAs second self) (snapshot ∷ records) 0
-first_none second self snapshot records none = record {
-  within = omega arith;
-  front = λ some. absurd (omega (arith, some));
-  refused = λ b stands. none stands.from stands.is stands.lawful;
-}
-
--- a record behind it
+-- a record behind the snapshot
 pub first_behind : (second : Bool) (self : ℕ) (snapshot : List ℕ) (records : List (List ℕ)) (from : Book) → IsSnapshot second snapshot from × Lawful self from → ((b : Book) → IsSnapshot second snapshot b → Lawful self b → from ≡ b)
     → (index : ℕ) → index < length records → (b : Book) × Leads second self from (take index records) b → ((b : Book) → Leads second self from (take (index + 1) records) b → ⊥) → IsFirstRefused (StandsAs second self) (snapshot ∷ records) (index + 1)
 first_behind second self snapshot records from is only index within front first = record {

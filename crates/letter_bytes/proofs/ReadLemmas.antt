@@ -1,7 +1,6 @@
 -- Bytes that are one message are read as it.
 use Rattle.std.specs.Prelude.{IsErrOf}
-use Rattle.std.specs.Io.KnownBytes.{Consumes}
-use Rattle.std.proofs.Common.{◌<◌, ◌≡◌, Err, List, None, Ok, Option, Some, [], append-nil, arith, false, length, refl, sym, true, ℕ}
+use Rattle.std.proofs.Common.{◌<◌, ◌≡◌, Err, List, None, Ok, Some, [], append-nil, arith, false, length, refl, sym, true, ℕ}
 use Rattle.ps_ports.specs.Causes.{Rose}
 use Rattle.ps_http.specs.Answer.{IsBegun, IsMessage, IsRequestAnswer, IsResponseAnswer, OneRequestAnswer, OneResponseAnswer, Refuses, TakesMessage, is_decided, requests, responses}
 use Rattle.ps_http.specs.declared.fault.HttpFault.{HttpFault}
@@ -9,10 +8,6 @@ use Rattle.ps_http.specs.declared.fault.HttpFault.TheVariants.{AfterRefusal, Bad
 use Rattle.ps_http.specs.declared.message.Request.{Request}
 use Rattle.ps_http.specs.declared.message.Response.{Response}
 use Rattle.letter_bytes.specs.Carried.{letter_limits}
-
--- what reading came to is about these bytes, of which some may be left
-abbrev pub Took : {A : Type 0} → (List ℕ → A → Type 0) → List ℕ → A → Option (List ℕ) → Type 0
-Took Is bytes x left = (front : List ℕ) × Consumes (Some bytes) left front × Is front x
 
 no_rise : Rose 0 0 → ⊥
 no_rise rose = omega (arith, rose)

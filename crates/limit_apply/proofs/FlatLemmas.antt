@@ -6,8 +6,6 @@ use Rattle.ps_json.specs.Answer.{GivesUnless, then_with}
 use Rattle.ps_json.specs.Each.{read_each}
 use Rattle.ps_json.specs.Fields.{without_member}
 use Rattle.ps_json.specs.Member.{required, optional, member_then}
-use Rattle.ps_json.specs.declared.fault.JsonFault.{JsonFault}
-use Rattle.ps_json.specs.declared.fault.JsonFault.TheVariants.{Syntax, TooDeep, NotUtf8, Missing, WrongKind, Unknown, Memory}
 use Rattle.limit_ident.specs.Fault.{wrapped}
 use Rattle.limit_ident.specs.Member.{whole_in, described, flag_in}
 use Rattle.limit_ident.specs.Named.{place_in}
@@ -221,21 +219,6 @@ mutual
   flat_depth_members n (member k d ms) flat = most _ _ n (flat_depth n d flat.0) (flat_depth_members n ms flat.1)
 
 -- ---- answers of calls
-
-wrapped_not : (fault : JsonFault) → IsTold (wrapped fault)
-wrapped_not fault = by fault
-  where
-    by : (fault : JsonFault) → IsTold (wrapped fault)
-    by Memory = λ is. cc
-    by Syntax = λ is. cc
-    by TooDeep = λ is. cc
-    by NotUtf8 = λ is. cc
-    by (Missing name) = λ is. cc
-    by (WrongKind name) = λ is. cc
-    by (Unknown name) = λ is. cc
-
-pub wrapped_told : (fault : LimitFault) (inner : JsonFault) → fault ≡ wrapped inner → IsTold fault
-wrapped_told fault inner is = rw is (wrapped_not inner)
 
 -- want of memory may come in place of any answer, and hides nothing either
 pub answer_told : {A : Type 0} (G : Type 0) (r want : Result A LimitFault) → GivesUnless out_of_memory r want → Gives G want → IfErr r IsTold

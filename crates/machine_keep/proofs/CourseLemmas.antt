@@ -129,16 +129,6 @@ module _ {D : Type 0} (premise : Type 0) (seen : D → List ℕ) where
     shut = (λ _. refl, λ is. absurd (not_itself old.second is));
   }
 
-  pub found_reloaded : (old new : State D) (stood : Bool) → is_ready old.pending ≡ false → is_ready new.pending ≡ true → (premise → stored seen new ≡ stored seen old) → (premise → IsAt new (stored seen new)) → (premise → stood ≡ has_record old.pending (stored seen old))
-      → (new.second ≡ old.second → new.shut ≡ old.shut) × (new.second ≡ not old.second → new.shut ≡ false) → IsFound premise seen old stood new
-  found_reloaded old new stood failed ready same at answer shut = record {
-    same = λ is. absurd (cc is);
-    ready = ready;
-    at = λ p. subst (IsAt new) (same p) (at p);
-    stands = answer;
-    shut = shut;
-  }
-
 -- ---- a record, and a snapshot behind it
 image_same : {D : Type 0} (a b : State D) (image : Option (List ℕ)) → a.second ≡ b.second → a.shut ≡ b.shut → a.generation ≡ b.generation → image_calls a image ≡ image_calls b image
 image_same a b None second shut generation = refl

@@ -1,14 +1,13 @@
 -- What the disks of a kept machine stand for: after a call, and at every moment of it, from the clauses of the journal's calls.
-use Rattle.std.proofs.Common.{◌≡◌, ◌⊎◌, ◌≤◌, IfOk, inl, inr, ⊎_elim, ℕ, Bool, true, false, List, [], ◌∷◌, ◌++◌, Option, None, Some, Result, Ok, Err, refl, sym, ◌∙◌, ap, subst, arith}
+use Rattle.std.proofs.Common.{◌≡◌, ◌⊎◌, ◌≤◌, IfOk, inl, inr, ⊎_elim, ℕ, Bool, true, false, List, [], ◌∷◌, ◌++◌, Option, Some, Result, Ok, Err, refl, sym, ◌∙◌, ap, subst, arith}
 use Rattle.host_journal.specs.Calls.{IsRead}
 use Rattle.host_journal.specs.Moments.{Shows, LiesBeside, Adds, AddsOnly, LeftIn, IsNear}
 use Rattle.host_journal.specs.Pair.{pair_of}
-use Rattle.host_journal.specs.State.{State, stored, has_record, opened_as, which, with_record, with_room, snapshot_of, IsAt, IsOurs, EachImage, EachSince, KeepsPlace, SameButRoom, first_disk, second_disk}
-use Rattle.host_journal.specs.declared.pending.Pending.{Pending}
+use Rattle.host_journal.specs.State.{State, stored, opened_as, with_record, with_room, snapshot_of, IsAt, IsOurs, EachImage, EachSince, KeepsPlace, SameButRoom, first_disk, second_disk}
 use Rattle.host_journal.specs.declared.reading.Counted.{Counted}
 use Rattle.host_journal.specs.declared.reading.DiskPlace.{DiskPlace}
 use Rattle.host_journal.proofs.MomentLemmas.{beside_record, fits_first, fits_second, near_record, near_snapshot, ours_at, run_more, run_on, run_pair, run_since, since_begin}
-use Rattle.machine_keep.specs.Kept.{EachFrom, IsMade, IsMigrating, IsUnsure, Snapped, StandsAround, StandsBut, StandsEither, StandsFor, caught}
+use Rattle.machine_keep.specs.Kept.{EachFrom, IsMade, IsMigrating, Snapped, StandsAround, StandsEither, StandsFor}
 
 -- with the record of a step the disks stand for the state after it
 module _ {S T : Type 0} (stands : List (List ℕ) → S → Type 0) (bytes : T → List ℕ) (follows : S → T → Type 0) (after : S → T → S)
@@ -24,28 +23,6 @@ module _ {S T : Type 0} (stands : List (List ℕ) → S → Type 0) (bytes : T �
       subst (λ (x : S). StandsFor stands x now) (sym (became ∙ ap (after s) same))
       (subst (StandsFor stands (after s step)) (sym (appended ∙ ap (λ (b : List ℕ). with_record b before) is)) (with_step s step before can stood))
 
-  -- once it is known whether the record stands
-  pub found_out : (s : S) (step : T) (pending : Pending) (pair : Result Counted DiskPlace) (stood : Bool) → follows s step → has_record pending pair ≡ stood → IsUnsure stands bytes s step pending pair
-      → StandsFor stands (caught after s (Some step) stood) pair
-  found_out s step pending pair true can is unsure =
-      subst (StandsFor stands (after s step)) (sym (unsure.found ∙ ap (λ (b : Bool). which (bytes step) b unsure.before) is)) (with_step s step unsure.before can unsure.stood)
-  found_out s step pending pair false can is unsure =
-      subst (StandsFor stands s) (sym (unsure.found ∙ ap (λ (b : Bool). which (bytes step) b unsure.before) is)) unsure.stood
-
--- with what may be set the disks stand for the state with it, but for a step that is unsure
-module _ {S T F : Type 0} (stands : List (List ℕ) → S → Type 0) (bytes : T → List ℕ) (may_set : F → F → Type 0) (fixed : S → F) (with_fixed : F → S → S)
-    (set : (list : List (List ℕ)) (f : F) (s : S) → may_set (fixed s) f → stands list s → stands list (with_fixed f s)) where
-  set_pair : (f : F) (s : S) (pair : Result Counted DiskPlace) → may_set (fixed s) f → StandsFor stands s pair → StandsFor stands (with_fixed f s) pair
-  set_pair f s (Ok k) can stood = set k.list f s can stood
-  set_pair f s (Err place) can stood = stood
-
-  set_but : (f : F) (s : S) (pending : Pending) (pair : Result Counted DiskPlace) (unsure : Option T) → may_set (fixed s) f → StandsBut stands bytes s pending pair unsure → StandsBut stands bytes (with_fixed f s) pending pair unsure
-  set_but f s pending pair None can stood = set_pair f s pair can stood
-  set_but f s pending pair (Some step) can stood = record { before = stood.before; stood = set_pair f s stood.before can stood.stood; found = stood.found }
-
-  pub configured : (f : F) (s new : S) (pending : Pending) (pair : Result Counted DiskPlace) (unsure : Option T) → new ≡ with_fixed f s → may_set (fixed s) f → StandsBut stands bytes s pending pair unsure → StandsBut stands bytes new pending pair unsure
-  configured f s new pending pair unsure became can stood = subst (λ (x : S). StandsBut stands bytes x pending pair unsure) (sym became) (set_but f s pending pair unsure can stood)
-
 -- At every moment, where nothing was done.
 module _ {D S : Type 0} (moment : D → ℕ) (left_since : D → ℕ → List ℕ → Type 0) (may_leave : D → List ℕ → Type 0)
     (only_now : (disk : D) (c : List ℕ) → left_since disk (moment disk) c → may_leave disk c) (stands : List (List ℕ) → S → Type 0) (now : S) where
@@ -57,16 +34,6 @@ module _ {D S : Type 0} (moment : D → ℕ) (left_since : D → ℕ → List �
 module _ {D S : Type 0} (seen : D → List ℕ) (moment : D → ℕ) (left_since : D → ℕ → List ℕ → Type 0) (may_leave : D → List ℕ → Type 0)
     (reads_now : (disk : D) → may_leave disk (seen disk)) (only_now : (disk : D) (c : List ℕ) → left_since disk (moment disk) c → may_leave disk c)
     (stands : List (List ℕ) → S → Type 0) (now : S) where
-  -- where no call was made
-  pub since_none : (s : State D) (P : Result Counted DiskPlace → Type 0) → EachImage may_leave s (λ pair. pair ≡ stored seen s) → StandsFor stands now (stored seen s)
-      → EachSince moment left_since s s (λ pair. StandsFor stands now pair ⊎ P pair)
-  since_none s P each stood c d left left_too = inl (subst (StandsFor stands now) (sym (each c d (only_now (first_disk s) c left) (only_now (second_disk s) d left_too))) stood)
-
-  -- where only room was made
-  pub since_room : (old mid : State D) (P : Result Counted DiskPlace → Type 0) → SameButRoom old mid → EachImage may_leave old (λ pair. pair ≡ stored seen old) → StandsFor stands now (stored seen old)
-      → EachSince moment left_since old mid (λ pair. StandsFor stands now pair ⊎ P pair)
-  since_room old mid P same each stood = subst (λ (s : State D). EachSince moment left_since old s (λ pair. StandsFor stands now pair ⊎ P pair)) (sym same) (since_none old P each stood)
-
   module _ (later : S) (payload : List ℕ) (old mid : State D) (same : SameButRoom old mid) (at : IsAt old (stored seen old))
       (each : EachImage may_leave old (λ pair. pair ≡ stored seen old)) (stood : StandsFor stands now (stored seen old)) (with_it : StandsFor stands later (with_record payload (stored seen old))) where
     abbrev From : Result Counted DiskPlace

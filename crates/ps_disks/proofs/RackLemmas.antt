@@ -1,7 +1,7 @@
 -- The first of a list for which a test holds, and shelves.
-use Rattle.std.proofs.Common.{◌≡◌, ◌↔◌, ℕ, suc, ◌+◌, ◌<◌, List, [], ◌∷◌, ◌++◌, length, take, drop, get_or, Bool, true, false, IsTrue, Option, None, is_some, if◌then◌else◌, bytes_eq, Some, sym, ◌∙◌, ap, subst, refl, arith, append_assoc}
+use Rattle.std.proofs.Common.{◌≡◌, ◌↔◌, ℕ, suc, ◌+◌, ◌<◌, List, [], ◌∷◌, ◌++◌, length, take, drop, get_or, Bool, true, false, IsTrue, Option, None, is_some, if◌then◌else◌, bytes_eq, Some, sym, ◌∙◌, ap, subst, refl, arith}
 use Rattle.std.specs.Option.{option_map}
-use Rattle.std.proofs.lemmas.List.{drop_more, take_more, get_or_default}
+use Rattle.std.proofs.lemmas.List.{drop_more, get_or_default}
 use Rattle.std.proofs.lemmas.Slice.Eq.{bytes_eq-Decides}
 use Rattle.std.specs.Prelude.{IfSome, IfNone, Result, Ok, Err, OnOk, OnErr}
 use Rattle.ps_disks.specs.Rack.{Stored, ShelfState, after_take, first_by, without_first, IsFirst, is_under, find_pair, opened_pair, fresh_first, fresh_second}
@@ -24,17 +24,6 @@ pub record Passed {X : Type 0} (test : X → Bool) (xs : List X) (i : ℕ) : Typ
 module _ {X : Type 0} (test : X → Bool) (xs : List X) (i : ℕ) (x : X) (lt : i < length xs) (is : x ≡ get_or xs i x) (so_far : Passed test xs i) where
   here : drop i xs ≡ x ∷ drop (i + 1) xs
   here = drop_more xs i x lt ∙ ap (λ y. y ∷ drop (i + 1) xs) (sym is)
-
-  pub passed_more : test x ≡ false → Passed test xs (i + 1)
-  passed_more fails =
-      let first : first_by test (drop i xs) ≡ first_by test (drop (i + 1) xs) = ap (first_by test) here ∙ ap (λ b. if b then Some x else first_by test (drop (i + 1) xs)) fails in
-      let rest : without_first test (drop i xs) ≡ x ∷ without_first test (drop (i + 1) xs) =
-      ap (without_first test) here ∙ ap (λ b. if b then drop (i + 1) xs else x ∷ without_first test (drop (i + 1) xs)) fails in
-      let more : take (i + 1) xs ≡ take i xs ++ x ∷ [] = take_more xs i x lt ∙ ap (λ y. take i xs ++ y ∷ []) (sym is) in
-      record {
-        first = sym first ∙ so_far.first;
-        rest = ap (λ l. l ++ without_first test (drop (i + 1) xs)) more ∙ append_assoc (take i xs) (x ∷ []) (without_first test (drop (i + 1) xs)) ∙ ap (λ l. take i xs ++ l) (sym rest) ∙ so_far.rest;
-      }
 
   pub first_here : test x ≡ true → IsFirst test xs i
   first_here holds =

@@ -7,9 +7,8 @@ use Rattle.std.proofs.lemmas.Bool.{false≢true}
 use Rattle.std.proofs.lemmas.List.{take_all, take-append-le, drop_at}
 use Rattle.ps_http.specs.Answer.{Kind, HeadSays, EndsInBody, Refuses, TakesMessage, WasDue}
 use Rattle.ps_http.specs.Body.{Short, HasBody, BodyFault}
-use Rattle.ps_http.specs.Collected.{Added, IsEnough, Interrupted}
+use Rattle.ps_http.specs.Collected.{Added, IsEnough}
 use Rattle.ps_http.specs.Head.{IsHeaded, IsRefused, HeadFault}
-use Rattle.ps_http.specs.Lines.{has_head_end}
 use Rattle.ps_http.specs.declared.fault.HttpFault.{HttpFault}
 use Rattle.ps_http.specs.declared.fault.HttpFault.TheVariants.{BadHead, NoLength, TooLarge, EndInside, ReadFault, AfterRefusal, Memory}
 use Rattle.ps_http.specs.declared.message.HttpLimits.{HttpLimits}
@@ -175,10 +174,6 @@ module _ {H M : Type 0} (kind : Kind H M) (lawful : Lawful kind) (limits : HttpL
         Consumes-trans left mid rest a.came s.came a.consumed s.consumed,
         inr (subst (EndsInBody kind limits) (sym split) (body_short message size n s.came h s.short)),
       )
-
-  pub head_due : (old : List ℕ) (left rest : Option (List ℕ)) → Interrupted limits.head old held left rest → WasDue kind limits old left rest
-  head_due old left rest (a, short, unended) =
-      (a.came, a.consumed, inl (omega (arith, short, ap length a.added), ap has_head_end (sym a.added) ∙ unended))
 
   pub head_refuses : (fault : HttpFault) (old : List ℕ) (left rest : Option (List ℕ)) → Added old held left rest → IsEnough limits.head held rest
       → HeadFault kind limits front fault → IfSome (prepend_known old left) (λ input. Refuses kind limits input fault)

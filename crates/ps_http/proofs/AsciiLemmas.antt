@@ -44,9 +44,6 @@ not_decimal least most bs bad = by_test (all_ascii_digits bs) refl
     by_test true all = absurd (bad (IsUtf8-from_ascii bs (digits_ascii bs all)))
     by_test false other = no_digits least most bs other
 
-no_number : (key : Option (List ℕ)) → None ≡ mark_of None key
-no_number key = refl
-
 uncut : (number : Option ℕ) → None ≡ mark_of number None
 uncut None = refl
 uncut (Some n) = refl

@@ -1,7 +1,7 @@
 -- The bytes at the front of a buffer, as more are read behind them and as the first are let go.
-use Rattle.std.proofs.Common.{◌≡◌, ◌≤◌, ◌+◌, ◌-◌, ℕ, List, ◌++◌, length, take, drop, sym, ap, ◌∙◌, arith, length-append, length-take, length-drop, append_assoc, take-append-drop}
+use Rattle.std.proofs.Common.{◌≡◌, ◌≤◌, ◌+◌, ◌-◌, ℕ, List, length, take, drop, sym, ap, ◌∙◌, arith, length-drop}
 use Rattle.std.specs.List.{copy_within}
-use Rattle.std.proofs.lemmas.List.{take_at, drop-take}
+use Rattle.std.proofs.lemmas.List.{drop-take}
 use Rattle.std.proofs.lemmas.List.Edits.{take-paste}
 
 -- the bytes behind n, moved to the front
@@ -11,13 +11,3 @@ moved n c xs some fits =
     let none : c - n ≡ 0 + (c - n) = omega arith in
     let all : n + (c - n) ≡ c = omega arith in
     ap (λ m. take m (copy_within xs n c 0)) none ∙ front ∙ sym (drop-take n (c - n) xs) ∙ ap (λ m. drop n (take m xs)) all
-
--- n bytes of what was read behind the first c
-pub added : (c n : ℕ) (xs read rest : List ℕ) → c ≤ length xs → n ≤ length read
-    → take (c + n) (take c xs ++ (read ++ rest)) ≡ take c xs ++ take n read
-added c n xs read rest fits some =
-    let both : length (take c xs ++ take n read) ≡ c + n = omega (arith, length-append (take c xs) (take n read), length-take n read, length-take c xs) in
-    ap (λ l. take (c + n) (take c xs ++ (l ++ rest))) (sym (take-append-drop n read))
-    ∙ ap (λ l. take (c + n) (take c xs ++ l)) (append_assoc (take n read) (drop n read) rest)
-    ∙ ap (take (c + n)) (sym (append_assoc (take c xs) (take n read) (drop n read ++ rest)))
-    ∙ take_at (take c xs ++ take n read) (drop n read ++ rest) (c + n) both

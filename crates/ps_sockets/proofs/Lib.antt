@@ -1,2 +1,1 @@
-mod FrontLemmas
 mod ShareLemmas

@@ -114,10 +114,6 @@ most_head_bytes = 16_384
 abbrev pub most_request_bytes : ℕ
 most_request_bytes = 1_048_576
 
--- of a response's body
-abbrev pub most_response_bytes : ℕ
-most_response_bytes = 33_554_432
-
 -- of the standard input, and of one connection's input
 abbrev pub most_input_bytes : ℕ
 most_input_bytes = 67_108_864

@@ -1,11 +1,6 @@
 -- What a line does.
-use Rattle.std.proofs.Common.{◌≡◌, ◌∙◌, List, ap, refl, subst, sym, true, ℕ, ℤ}
-use Rattle.std.specs.List.{list_all}
+use Rattle.std.proofs.Common.{◌≡◌, ◌∙◌, List, ap, refl, subst, sym, ℕ, ℤ}
 use Rattle.ps_time.specs.declared.class.Class.{Class}
-use Rattle.plugin_core.specs.ReadTest.{all_differ}
-use Rattle.task_spec.specs.ReadTask.{is_tool}
-use Rattle.host_model.specs.Conditions.{IsConfig}
-use Rattle.host_model.specs.declared.config.Config.{Config}
 use Rattle.host_model.specs.declared.input.Input.{Input}
 use Rattle.host_model.specs.declared.input.Input.TheVariants as input
 use Rattle.psched_script.specs.declared.script.ScriptHost.{ScriptHost}
@@ -13,23 +8,9 @@ use Rattle.psched_script.specs.declared.script.ScriptLine.{ScriptLine}
 use Rattle.psched_script.specs.declared.script.ScriptLine.TheVariants as line
 use Rattle.rehearsal_model.specs.Moves.{Outcomes, moment_of_line}
 use Rattle.rehearsal_model.specs.Plays.{MayArchive, MayLine}
-use Rattle.rehearsal_model.specs.Rehearsal.{retooled}
 use Rattle.report_text.specs.Line.{booking_text}
 use Rattle.rehearsal_model.specs.Scenes.{Scene, at_last, came_at, deed_of, scene_archived, scene_deed, scene_line}
 use Rattle.rehearsal_model.specs.Telling.{came_said, line_said, unavailable}
-
--- other tools
-pub config_retooled : (c : Config) (tools : List (List ℕ)) → IsConfig c → list_all is_tool tools ≡ true → all_differ tools ≡ true → IsConfig (retooled tools c)
-config_retooled c tools is known different = record {
-  name = is.name;
-  authority = is.authority;
-  peers = is.peers;
-  numbers = is.numbers;
-  names = is.names;
-  tools = known;
-  different = different;
-  limits = is.limits;
-}
 
 -- ---- what is there afterwards, at the moment of the line
 module _ (comes : Outcomes) (hosts : List ScriptHost) (b : Scene) where

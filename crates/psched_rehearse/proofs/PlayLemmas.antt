@@ -1,5 +1,5 @@
 -- A rehearsal, line by line: what is known of it before each line, and what was reported so far.
-use Rattle.std.proofs.Common.{◌≡◌, ◌≤◌, ◌<◌, ◌++◌, ◌∙◌, ◌∷◌, [], ℕ, List, All, Some, ap, append_assoc, get_or, length, refl, subst, sym}
+use Rattle.std.proofs.Common.{◌≡◌, ◌≤◌, ◌<◌, ◌++◌, ◌∙◌, ◌∷◌, [], ℕ, List, All, Some, ap, append_assoc, get_or, length, subst, sym}
 use Rattle.std.proofs.lemmas.List.{append-nil}
 use Rattle.std.proofs.lemmas.List.Elements.{All-from_get_or}
 use Rattle.std.proofs.lemmas.Option.{slice_get-get_or}
@@ -24,7 +24,7 @@ use Rattle.rehearsal_model.specs.Rehearsal.{Show, seen}
 use Rattle.rehearsal_model.specs.Scenes.{Play, Scene, as_read, first_play, first_scene, Turns, kept_all, nobody_seat, play_line, play_lines, scene_line, scene_lines, seat_at, show_by}
 use Rattle.rehearsal_model.specs.Seen.{Seen, message, stage_at}
 use Rattle.rehearsal_model.specs.Telling.{line_said, lines_said}
-use Rattle.rehearsal_model.proofs.DeedLemmas.{first_on, line_on}
+use Rattle.rehearsal_model.proofs.DeedLemmas.{line_on}
 use Rattle.rehearsal_model.proofs.HostLemmas.{right_first}
 use Rattle.rehearsal_model.proofs.ReachLemmas.{book_lawful, brings_input, comes_known, config_is, receiver_within, replied_so, script_peers}
 use Rattle.rehearsal_model.proofs.SceneLemmas.{stage_chosen}
@@ -66,17 +66,6 @@ pub record HasCome (comes : Outcomes) (hosts : List ScriptHost) (lines left : Li
   pub reported : old ++ lines_said comes hosts (first_scene hosts) lines ≡ report ++ lines_said comes hosts b left
   pub ends : play_lines comes hosts (first_play hosts) lines ≡ play_lines comes hosts play left
   pub scenes : scene_lines comes hosts (first_scene hosts) lines ≡ scene_lines comes hosts b left
-
--- before the first one
-pub begun : (comes : Outcomes) (hosts : List ScriptHost) → AreLawfulHosts hosts → (lines : List Numbered) (old : List ℕ) (b : Scene) → b ≡ first_scene hosts → HasCome comes hosts lines lines old old b
-begun comes hosts lawful lines old b is = record {
-  play = first_play hosts;
-  is = first_on hosts lawful;
-  scene_so = sym is;
-  reported = ap (λ x. old ++ lines_said comes hosts x lines) (sym is);
-  ends = refl;
-  scenes = ap (λ x. scene_lines comes hosts x lines) (sym is);
-}
 
 -- one line more
 module _ (comes : Outcomes) (hosts : List ScriptHost) (lawful : AreLawfulHosts hosts) (lines left : List Numbered) (old report : List ℕ) (b : Scene) (l : Numbered) where

@@ -87,10 +87,6 @@ staying_last : (cs : List Change) → AllByRecursion IsStaying cs → PurgesLast
 staying_last [] all = tt
 staying_last (ch ∷ cs) all = inr (all.0, staying_last cs all.1)
 
-purges_last : (cs : List Change) → AllByRecursion IsPurge cs → PurgesLast cs
-purges_last [] all = tt
-purges_last (ch ∷ cs) all = inl (all.0, all.1)
-
 then_last : (xs ys : List Change) → AllByRecursion IsStaying xs → PurgesLast ys → PurgesLast (xs ++ ys)
 then_last [] ys all last = last
 then_last (x ∷ xs) ys all last = inr (all.0, then_last xs ys all.1 last)

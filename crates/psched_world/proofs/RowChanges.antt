@@ -1,8 +1,8 @@
 -- What is new in a row after the change of its key.
-use Rattle.std.proofs.Common.{◌≡◌, ◌⊎◌, inl, inr, ◌+◌, ◌<◌, ℕ, zero, suc, Bool, true, false, IsSome, IsTrue, List, [], ◌∷◌, length, Option, Some, slice_get, refl, sym, ap, ◌∙◌, subst, arith}
+use Rattle.std.proofs.Common.{◌≡◌, ◌⊎◌, inl, inr, ◌+◌, ◌<◌, ℕ, zero, suc, true, IsTrue, List, [], ◌∷◌, length, Option, Some, slice_get, refl, sym, ap, ◌∙◌, subst, arith}
 use Rattle.std.specs.List.{list_all}
 use Rattle.ps_time.proofs.PictureLemmas.{and_true}
-use Rattle.run_states.specs.Effect.{change_at, change_other, confirmed_if, is_complete, with_acceptance, with_free, with_result, with_told}
+use Rattle.run_states.specs.Effect.{change_at, change_other, is_complete, with_acceptance, with_free, with_result, with_told}
 use Rattle.run_states.specs.declared.answer.Other.{Other}
 use Rattle.run_states.specs.declared.answer.Told.{Told}
 use Rattle.run_states.specs.declared.answer.Told.TheVariants.{Confirm as told_confirm, Cancel as told_cancel, Material as told_material}
@@ -43,12 +43,6 @@ flag_comes zero r j x = inl x
 flag_comes (suc i) r j x =
     let y = changed_get with_acceptance i r.others j x.0 x.1 in
     elim y.2 [ inl s ↦ inl (y.0, y.1, subst (λ o. IsTrue o.accepted) (sym s) x.2) | inr s ↦ inr (ap suc s.0) ]
-
--- ---- confirmations
--- a row that is confirmed now was before, or the test holds
-pub confirmed_now : (b : Bool) (m : ℕ) (r : RunRow) → IsSome (confirmed_if b m r).confirmed → IsSome r.confirmed ⊎ (b ≡ true)
-confirmed_now true m r e = inr refl
-confirmed_now false m r e = inl e
 
 -- ---- all are flagged
 flag_at : (xs : List Other) (j : ℕ) → j < length xs → (o : Other) × (slice_get xs j ≡ Some o)

@@ -18,9 +18,6 @@ each_at P [] i x all e = cc
 each_at P (y ∷ xs) zero x all e = let same : y ≡ x = cc in subst P same all.0
 each_at P (y ∷ xs) (suc i) x all e = each_at P xs i x all.1 e
 
-pub all_at : {X : Type 0} (P : X → Type 0) (xs : List X) (i : ℕ) (x : X) → All P xs → slice_get xs i ≡ Some x → P x
-all_at P xs i x all e = each_at P xs i x (recursion_from_All P xs all) e
-
 pub all_aged : {X : Type 0} (P : X → Type 0) (xs : List X) (i : ℕ) (x : X) → All P xs → aged xs i ≡ Some x → P x
 all_aged P [] i x all e = cc
 all_aged P (y ∷ xs) i x all e = elim (aged_cases y xs i x e) [

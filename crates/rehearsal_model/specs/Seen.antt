@@ -1,6 +1,5 @@
 -- What is seen of a world by a script: the present stage of each of its hosts, the messages, and which of these are in flight.
 use Rattle.std.specs.Prelude.{◌-◌, ◌==◌, ◌&&◌, List, [], Bool, Option, filter, find, length, nat_le, not, option_map, slice_get, slice_index_or, ℕ}
-use Rattle.std.specs.List.{list_any}
 use Rattle.host_model.specs.Book.{Book, empty_book}
 use Rattle.host_model.specs.Step.{step_book, step_reply}
 use Rattle.host_model.specs.declared.config.Config.{Config}
@@ -49,13 +48,6 @@ message b n = slice_get b.letters (n - 1)
 
 abbrev pub is_sent : Seen → ℕ → Bool
 is_sent b n = nat_le 1 n && nat_le n (length b.letters)
-
-abbrev pub is_flying : Seen → ℕ → Bool
-is_flying b n = list_any (λ f. f == n) b.flying
-
--- it was sent, and is no longer in flight
-abbrev pub has_arrived : Seen → ℕ → Bool
-has_arrived b n = is_sent b n && not (is_flying b n)
 
 abbrev pub landed : ℕ → List ℕ → List ℕ
 landed n flying = filter (λ f. not (f == n)) flying

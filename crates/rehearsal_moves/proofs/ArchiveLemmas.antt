@@ -21,10 +21,6 @@ pub trying_some : (comes : Outcomes) (place clock : ℕ) (o : Option Due) (i : I
 trying_some comes place clock None i is = absurd cc
 trying_some comes place clock (Some d) i is = cc
 
-pub trying_none : (comes : Outcomes) (place clock : ℕ) (o : Option Due) → None ≡ tried_by comes o → Move.Rests ≡ trying comes place clock o
-trying_none comes place clock None is = refl
-trying_none comes place clock (Some d) is = absurd cc
-
 -- ---- what is told of it
 pub told_some : (comes : Outcomes) (b : Scene) (place clock : ℕ) (o : Option Due) (i : Input) → Some i ≡ tried_by comes o → came_said (came_at b place clock i) disk_fault archive_text ≡ due_said comes b place clock o
 told_some comes b place clock None i is = absurd cc

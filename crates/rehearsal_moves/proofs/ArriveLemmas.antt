@@ -1,6 +1,5 @@
 -- A message that arrives.
-use Rattle.std.proofs.Common.{◌≡◌, ◌≤◌, ◌<◌, ◌-◌, ◌∙◌, ◌∷◌, [], ℕ, List, None, Option, Some, ap, length, length-set, refl, subst, sym}
-use Rattle.std.proofs.lemmas.Option.{slice_get_within}
+use Rattle.std.proofs.Common.{◌≡◌, ◌≤◌, ◌<◌, ◌∙◌, ◌∷◌, [], ℕ, List, None, Option, Some, ap, length, length-set, refl, subst, sym}
 use Rattle.ps_time.specs.Numbers.{greatest_moment}
 use Rattle.host_model.specs.Conditions.{IsInput}
 use Rattle.host_model.specs.Step.{step_reply}
@@ -22,15 +21,11 @@ use Rattle.rehearsal_model.proofs.SceneLemmas.{stage_chosen}
 use Rattle.rehearsal_state.specs.Moved.{with_broken, with_either, with_letters, with_step}
 use Rattle.rehearsal_state.specs.Ready.{IsReady}
 use Rattle.rehearsal_state.proofs.MoveLemmas.{arrival_crashed, order_faulted, order_replied, reply_faulted, reply_heard, said_so}
-use Rattle.rehearsal_moves.specs.Arriving.{arrival_of, arrived_by}
 use Rattle.rehearsal_moves.specs.Playing.{IsPlaying}
 
 -- there is one message of a number, and it was sent
 pub same_letter : (b : Scene) (n : ℕ) (l other : Letter) → message (as_read b) n ≡ Some l → message (as_read b) n ≡ Some other → l ≡ other
 same_letter b n l other is also = let both : Some l ≡ Some other = sym is ∙ also in cc
-
-pub was_sent : (b : Scene) (n : ℕ) (l : Letter) → message (as_read b) n ≡ Some l → n - 1 < length b.letters
-was_sent b n l is = slice_get_within b.letters (n - 1) l is
 
 -- ---- what is known where it comes
 module _ (hosts : List ScriptHost) (b : Scene) (n : ℕ) (l : Letter) (playing : IsPlaying hosts b) (sent : message (as_read b) n ≡ Some l) where
@@ -96,11 +91,6 @@ module _ (hosts : List ScriptHost) (b : Scene) (n : ℕ) (l : Letter) (playing :
       let is : reply_to hosts (as_read b) clock l ≡ said =
       ap (λ (s : Stage). step_reply s.config s.book clock (brings l l.reply)) (stage_chosen kept_all b (receiver hosts l)) ∙ said_so b (receiver hosts l) clock (brings l l.reply) said e in
       subst (IsReplyTo l.order.body) is (playing.replies n l clock sent none low (subst HasWidths (sym is) widths))
-
-  -- what has come then
-  pub arrives_as : (clock : ℕ) (x : Came) (told : Option Reply) → came_at b (receiver hosts l) clock (brings l l.reply) ≡ x → l.reply ≡ told → arrived_by x l told ≡ arrival_of hosts b clock (message (as_read b) n)
-  arrives_as clock x told is reply =
-      sym (ap (arrival_of hosts b clock) sent ∙ (ap (λ (y : Came). arrived_by y l l.reply) is ∙ ap (arrived_by x l) reply))
 
 -- ---- what its line does, once its host took a step
 module _ (hosts : List ScriptHost) (b : Scene) (n clock : ℕ) (l : Letter) (sent : message (as_read b) n ≡ Some l) where

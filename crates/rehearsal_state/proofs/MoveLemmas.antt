@@ -279,10 +279,6 @@ same_coming hosts b n clock (Some step) = by (stop_at (as_read b) step.place)
 comes_as : (hosts : List ScriptHost) (b : Scene) (n clock : ℕ) (m : Option Letter) → message (as_read b) n ≡ m → coming hosts b n clock m (step_by hosts n clock m) ≡ scene_deed hosts b (Does (Move.Arrives n clock))
 comes_as hosts b n clock m e = ap (λ x. coming hosts b n clock x (step_by hosts n clock x)) (sym e) ∙ same_coming hosts b n clock (step_by hosts n clock (message (as_read b) n))
 
--- there is none of this number
-pub comes_none : (hosts : List ScriptHost) (b : Scene) (n clock : ℕ) → message (as_read b) n ≡ None → record b { flying = landed n b.flying } ≡ scene_deed hosts b (Does (Move.Arrives n clock))
-comes_none hosts b n clock e = comes_as hosts b n clock None e
-
 module _ (hosts : List ScriptHost) (b : Scene) (n clock : ℕ) (l : Letter) (sent : message (as_read b) n ≡ Some l) where
   abbrev place : ℕ
   place = receiver hosts l

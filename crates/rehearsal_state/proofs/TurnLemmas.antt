@@ -1,24 +1,16 @@
 -- What a host of a script needs to write its orders.
 use Rattle.std.specs.List.{AllByRecursion}
 use Rattle.std.specs.Prelude.{All, bytes_eq}
-use Rattle.std.proofs.Common.{◌≡◌, ◌≤◌, ◌∷◌, Bool, Err, IfOk, List, Ok, Result, Some, [], cond, false, refl, subst, sym, true, ℕ}
+use Rattle.std.proofs.Common.{◌≡◌, ◌∷◌, Bool, Err, IfOk, List, Ok, Result, Some, [], cond, false, subst, sym, true, ℕ}
 use Rattle.std.proofs.lemmas.List.Elements.{All-weaker, recursion_from_All}
-use Rattle.ps_http.specs.Fields.{is_key}
 use Rattle.ps_time.specs.Name.{is_name}
 use Rattle.host_model.specs.declared.config.Config.{Config}
 use Rattle.host_model.specs.declared.config.Peer.{Peer}
 use Rattle.host_model.specs.declared.order.Order.{Order}
-use Rattle.api_law.specs.Sent.{HasKeys}
 use Rattle.api_order.specs.Ordered.{IsOrder, peer_named}
 use Rattle.letter_bytes.specs.Carried.{CarriesFrom, CarriesOrder}
 use Rattle.rehearsal_model.specs.Hosts.{peer_key}
 use Rattle.rehearsal_model.specs.Reaching.{IsScriptPeer}
-
-key_is : (p : Peer) → IsScriptPeer p → is_key p.key ≡ true
-key_is p is = subst (λ key. is_key key ≡ true) (sym is.key) refl
-
-pub has_keys : (c : Config) → c.number ≤ 65_535 → All IsScriptPeer c.peers → HasKeys c
-has_keys c low all = record { number = low; keys = All-weaker IsScriptPeer (λ p. is_key p.key ≡ true) key_is c.peers all }
 
 pub authorities : (peers : List Peer) → All IsScriptPeer peers → All (λ p. is_name p.authority ≡ true) peers
 authorities peers all = All-weaker IsScriptPeer (λ p. is_name p.authority ≡ true) (λ p is. is.authority) peers all

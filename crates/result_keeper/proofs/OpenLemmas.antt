@@ -1,5 +1,5 @@
 -- What a keeper finds when it is opened.
-use Rattle.std.proofs.Common.{◌≡◌, inl, inr, ℕ, ◌++◌, List, [], ◌∷◌, Result, Ok, Err, IfOk, refl, sym, ap, subst, ◌∙◌}
+use Rattle.std.proofs.Common.{◌≡◌, inl, ℕ, ◌++◌, List, [], ◌∷◌, Result, Ok, Err, IfOk, sym, ap, subst, ◌∙◌}
 use Rattle.std.specs.List.{AllByRecursion}
 use Rattle.sqlite.proofs.Callers.{IsPlain, never_commits}
 use Rattle.sqlite.proofs.StateLemmas.{survives_weaker}
@@ -11,7 +11,6 @@ use Rattle.sqlite.specs.Recovery.{Image}
 use Rattle.sqlite.specs.Schema.{Schema}
 use Rattle.sqlite.specs.Start.{FindsIn}
 use Rattle.sqlite.specs.State.{State, HasCleanDisk, IsLive, IsUnchanged, Opens, Shown, Survives, CommitsShowing}
-use Rattle.sqlite.specs.Steps.{IsEmpty}
 use Rattle.sqlite_catalog.specs.Listing as catalog
 use Rattle.result_keeper.specs.Opening.{IsOpenedWith, HasFound}
 use Rattle.result_keeper.specs.declared.opening.OpenFault.{OpenFault}
@@ -22,7 +21,7 @@ use Rattle.result_rows.specs.Found.{HoldsTable, IsTableIn}
 use Rattle.result_rows.specs.Keeps.{IsSound, Keeps}
 use Rattle.result_rows.specs.Rows.{IsRecord, columns_in}
 use Rattle.result_rows.specs.Statement.{all_text}
-use Rattle.result_rows.specs.Table.{results, no_schema, results_schema}
+use Rattle.result_rows.specs.Table.{results_schema}
 use Rattle.result_table.specs.declared.record.Record.{Record}
 
 -- the schema that the connection has is that of its trees
@@ -40,21 +39,6 @@ taken old new is begun clean same records =
       keeps = opened old new it.0 begun.opens is it.1 same;
       held = inl (sound, it.1);
     }
-
--- it lists nothing
-pub bare : (old : State) → old.now.schema ≡ no_schema → IsOpenedWith old → IsEmpty old
-bare old is begun = (begun.opens, begun.live, is)
-
-pub made : (old new : State) → old.now.schema ≡ no_schema → IsOpenedWith old → IsSound new × Keeps new [] → HasFound old new
-made old new is begun told = record {
-  sound = told.0;
-  table = [];
-  keeps = told.1;
-  held = inr (live_schema old no_schema begun.opens begun.live is, refl);
-}
-
-pub not_both : (s : State) → IsEmpty s → s.now.schema ≡ results_schema → ⊥
-not_both s empty is = let e : [] ≡ results ∷ [] = ap (λ (x : Schema). x.tables) (sym empty.2 ∙ is) in cc
 
 -- ---- a query that only reads
 

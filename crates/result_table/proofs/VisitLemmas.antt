@@ -13,10 +13,8 @@ use Rattle.ps_time.proofs.SortedLemmas.{below_all}
 use Rattle.ps_time.specs.declared.key.RunKey.{RunKey}
 use Rattle.result_table.specs.Record.{above, first_above, IsTable, IsAbove}
 use Rattle.result_table.specs.Visit.{left_above, next_key, IsFurther}
-use Rattle.ps_time.specs.Id.{InRange, uuid_of}
+use Rattle.ps_time.specs.Id.{uuid_of}
 use Rattle.ps_time.specs.declared.id.Id.TheVariants.{Run}
-use Rattle.ps_time.proofs.IdOrderLemmas.{ordered_as_keys}
-use Rattle.std.specs.Ordering.{nat_cmp}
 use Rattle.std.proofs.lemmas.Bool.Decides.{nat_tests}
 use Rattle.result_table.specs.declared.record.Record.{Record}
 
@@ -152,19 +150,6 @@ further_next from full piece all =
 
 -- ---- how far a walk may still go
 
-uuid_small : (a : RunKey) → InRange (Run a) → uuid_of (Run a) < 2 ^ 128
-uuid_small a r = omega (arith, r)
-
-less_is : (x y : ℕ) → nat_cmp x y ≡ Less → x < y
-less_is x y h = grind (arith, nat_tests)
-
 abbrev pub room_above : Option RunKey → ℕ
 room_above None = 0
 room_above (Some key) = 2 ^ 128 - uuid_of (Run key)
-
-pub goes_on : (key : RunKey) (next : Option RunKey) → InRange (Run key) → IfSome next (λ k. InRange (Run k)) → IfSome next (IsFurther (Some key)) → room_above next < room_above (Some key)
-goes_on key None range ranges on = let small = uuid_small key range in omega (arith, small)
-goes_on key (Some next) range ranges on =
-    let less = less_is (uuid_of (Run key)) (uuid_of (Run next)) (ordered_as_keys.numbers key next range ranges ∙ on) in
-    let small = uuid_small next ranges in
-    omega (arith, less, small)

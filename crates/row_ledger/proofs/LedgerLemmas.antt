@@ -1,20 +1,17 @@
 -- What is counted over rows is right after one of them changed, came or went.
-use Rattle.std.proofs.Common.{◌≡◌, ℕ, ◌+◌, ◌-◌, ◌≤◌, Bool, true, false, cond, not, List, [], ◌∷◌, Option, Some, None, IfSome, All, min, option_map, sym, subst, ◌∙◌, arith}
+use Rattle.std.proofs.Common.{◌≡◌, ℕ, ◌+◌, ◌-◌, ◌≤◌, Bool, true, false, cond, not, List, [], ◌∷◌, Option, Some, None, IfSome, All, min, option_map, sym, subst, arith}
 use Rattle.std.proofs.lemmas.List.Elements.{recursion_from_All, All-filter, All-from_recursion}
 use Rattle.std.specs.List.{AllByRecursion}
 use Rattle.std.specs.Ordering.{is_eq, match_ordering}
 use Rattle.std.specs.declared.cmp.Ordering.TheVariants.{Less, Equal, Greater}
 use Rattle.ps_time.specs.Key.{key_cmp}
 use Rattle.ps_time.specs.declared.key.RunKey.{RunKey}
-use Rattle.run_states.specs.Life.{close_row, HasMoments}
+use Rattle.run_states.specs.Life.{HasMoments}
 use Rattle.run_states.specs.ResultBytes.{result_bytes, row_bytes}
 use Rattle.run_states.specs.Rows.{change_row, find_row, lift_row, put_row, IsAscendingRows}
 use Rattle.run_states.specs.declared.row.RunRow.{RunRow}
-use Rattle.run_states.specs.declared.why.Closing.{Closing}
 use Rattle.row_ledger.specs.Ledger.{bytes_at, most_counted, IsCounted}
-use Rattle.row_ledger.proofs.ClosingLemmas.{closed_all}
-use Rattle.row_ledger.proofs.LapseLemmas.{moments_closed}
-use Rattle.row_ledger.proofs.RowLemmas.{bytes_changed, bytes_closed, bytes_lifted, bytes_put, bytes_within, found_change}
+use Rattle.row_ledger.proofs.RowLemmas.{bytes_changed, bytes_lifted, bytes_put, bytes_within, found_change}
 
 all_found : (P : RunRow → Type 0) (key : RunKey) (rows : List RunRow) → AllByRecursion P rows → IfSome (find_row rows key) P
 all_found P key [] all = tt
@@ -90,7 +87,3 @@ module _ (rows : List RunRow) (bytes : ℕ) (counted : IsCounted rows bytes) whe
           kept = omega (arith, is, within, counted.kept, low, all);
         },
       )
-
-  -- a row closes
-  pub closed_counted : (c : Closing) (k : RunKey) → IsCounted (change_row (close_row c) rows k) bytes
-  closed_counted c k = record { moments = closed_all HasMoments c (λ r within. moments_closed c r within) k rows counted.moments; kept = counted.kept ∙ sym (bytes_closed c rows k) }

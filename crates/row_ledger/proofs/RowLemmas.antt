@@ -9,7 +9,7 @@ use Rattle.ps_time.specs.Key.{key_cmp}
 use Rattle.ps_time.specs.declared.key.RunKey.{RunKey}
 use Rattle.ps_time.proofs.KeyLemmas.{key_cmp_same, key_cmp_total}
 use Rattle.run_states.specs.Effect.{accept_row, change_at, change_other, confirmed_complete, confirmed_if, is_acceptance, is_alone, is_complete, noted_row, with_answer}
-use Rattle.run_states.specs.Life.{first, is_booked, close_row, closed_by, lapse_of, marked_row, settled_row, settled_rows}
+use Rattle.run_states.specs.Life.{first, is_booked, closed_by, lapse_of, marked_row, settled_row, settled_rows}
 use Rattle.run_states.specs.ResultBytes.{bytes_in, other_result, result_bytes, row_bytes}
 use Rattle.run_states.specs.Rows.{find_row, put_row, lift_row, change_row, IsAscendingRows}
 use Rattle.run_states.specs.declared.answer.Answer.{Answer}
@@ -192,16 +192,6 @@ closed_bytes (Some c) r = refl
 pub bytes_settled : (m : ℕ) (rows : List RunRow) → result_bytes (settled_rows m rows) ≡ result_bytes rows
 bytes_settled m [] = refl
 bytes_settled m (r ∷ rs) = bytes_cons (settled_row m r) (settled_rows m rs) ∙ (ap₂ (λ x y. x + y) (closed_bytes (lapse_of m r) r) (bytes_settled m rs) ∙ sym (bytes_cons r rs))
-
-close_bytes : (c : Closing) (r : RunRow) (b : Bool) → row_bytes (cond b (close_row c r) r) ≡ row_bytes r
-close_bytes c r true = refl
-close_bytes c r false = refl
-
-pub bytes_closed : (c : Closing) (rows : List RunRow) (k : RunKey) → result_bytes (change_row (close_row c) rows k) ≡ result_bytes rows
-bytes_closed c [] k = refl
-bytes_closed c (r ∷ rs) k =
-    let b : Bool = is_eq (key_cmp r.key k) in
-    bytes_cons (cond b (close_row c r) r) (change_row (close_row c) rs k) ∙ (ap₂ (λ x y. x + y) (close_bytes c r b) (bytes_closed c rs k) ∙ sym (bytes_cons r rs))
 
 -- ---- how many bytes a step or a fact brings
 ending_bytes : (o : Option Ending) (e : Ending) → bytes_in (option_map (λ x. x.body) (first o (Some e))) ≤ bytes_in (option_map (λ x. x.body) o) + length e.body

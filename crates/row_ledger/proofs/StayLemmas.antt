@@ -24,7 +24,7 @@ use Rattle.live_rows.proofs.StayLemmas.{by_later, fewer_stay, has_later, later_l
 use Rattle.row_ledger.specs.Ledger.{StaysUntil}
 use Rattle.row_ledger.proofs.LedgerLemmas.{all_put}
 use Rattle.row_ledger.proofs.LiveLemmas.{found_put}
-use Rattle.row_ledger.proofs.RowLemmas.{each_found, either_key, found_is, own_row}
+use Rattle.row_ledger.proofs.RowLemmas.{each_found, either_key, own_row}
 
 -- ---- one row
 pub stays_less : (self : ℕ) (rows : List RunRow) (a b : ℕ) (r : RunRow) → a ≤ b → StaysUntil self rows b r → StaysUntil self rows a r
@@ -36,10 +36,6 @@ stays_less_if self rows a b (Some r) low stays = stays_less self rows a b r low 
 
 pub all_found : (rows : List RunRow) → IsAscendingRows rows → All (λ x. find_row rows x.key ≡ Some x) rows
 all_found rows up = All-from_recursion (λ x. find_row rows x.key ≡ Some x) rows (each_found rows up)
-
--- each row is found by its own key
-pub own_key : (rows : List RunRow) (k : RunKey) (r : RunRow) → find_row rows k ≡ Some r → find_row rows r.key ≡ Some r
-own_key rows k r at = ap (λ j. find_row rows j) (key_is r.key k (found_is k rows r at)) ∙ at
 
 -- where those before a place stay, and the one at it, those up to it do
 pub one_more_stays : (self : ℕ) (rows : List RunRow) → IsAscendingRows rows → (place next until : ℕ) → until ≤ next → place < length rows → ((i : ℕ) (d : RunRow) → i < place → StaysUntil self rows next (get_or rows i d))

@@ -4,11 +4,9 @@ use Rattle.std.proofs.Common.{◌≡◌, ℕ, ◌≤◌, Option, Some, None, Lis
 use Rattle.std.proofs.lemmas.List.Elements.{All-map}
 use Rattle.std.proofs.lemmas.Bool.Decides.{nat_tests}
 use Rattle.ps_time.specs.Span.{Span}
-use Rattle.run_states.specs.declared.life.LifeStep.{LifeStep}
-use Rattle.run_states.specs.declared.life.LifeStep.TheVariants.{Confirm, Start, End, Close}
 use Rattle.run_states.specs.declared.row.RunRow.{RunRow}
 use Rattle.run_states.specs.declared.why.Closing.{Closing}
-use Rattle.run_states.specs.Life.{first, close_row, lapse_asked, lapse_held, lapse_missed, lapse_at, lapse_of, closed_by, settled_row, settled_rows, marked_row, HasMoments}
+use Rattle.run_states.specs.Life.{first, close_row, lapse_asked, lapse_held, lapse_missed, lapse_at, lapse_of, closed_by, settled_row, settled_rows, HasMoments}
 
 module _ (m n : ℕ) (later : m ≤ n) (c : Closing) where
   asked_alike : (o : Option ℕ) → lapse_asked m o ≡ Some c → lapse_asked n o ≡ Some c
@@ -68,9 +66,3 @@ settled_moments m r within = closed_moments (lapse_of m r) r within
 
 pub settled_rows_moments : (m : ℕ) (rows : List RunRow) → All HasMoments rows → All HasMoments (settled_rows m rows)
 settled_rows_moments m rows within = All-map HasMoments (settled_row m) rows (λ k d lt. settled_moments m (get_or rows k d) (within k d lt))
-
-pub marked_moments : (step : LifeStep) (m : ℕ) (r : RunRow) → HasMoments r → HasMoments (marked_row step m r)
-marked_moments Confirm m r within = record { asked = within.asked; accepted = within.accepted; interval = within.interval }
-marked_moments Start m r within = record { asked = within.asked; accepted = within.accepted; interval = within.interval }
-marked_moments (End good body) m r within = record { asked = within.asked; accepted = within.accepted; interval = within.interval }
-marked_moments (Close why) m r within = record { asked = within.asked; accepted = within.accepted; interval = within.interval }

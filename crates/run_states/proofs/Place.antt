@@ -47,18 +47,6 @@ module _ (rows : List RunRow) (up : IsAscendingRows rows) (k : RunKey) where
       go (inl less) = below_key (get_or rows i d) (get_or rows j d) (ascending_at key_cmp_total (λ r. r.key) rows up i j d less lt) below
       go (inr same) = let here : j ≡ i = omega (arith, le, same) in subst (λ n. is_below k (get_or rows n d) ≡ true) here below
 
-  -- where the row behind them has the key
-  pub place_found : (at : ℕ) (d : RunRow) → at < length rows → is_eq (key_cmp (get_or rows at d).key k) ≡ true → IsPlaceOf rows k at
-  place_found at d within same = record {
-    within = within;
-    same = λ e. is_Equal (key_cmp (get_or rows at e).key k) (ap (λ (r : RunRow). is_eq (key_cmp r.key k)) (get_or_default rows at e d within) ∙ same);
-  }
-    where
-      is_Equal : (o : Ordering) → is_eq o ≡ true → o ≡ Equal
-      is_Equal Less is = cc
-      is_Equal Equal is = refl
-      is_Equal Greater is = cc
-
   -- and where it hasn't, or there is none
   pub gap_found : (at : ℕ) → at ≤ length rows → IsPartitionPoint (λ r. is_below k r ≡ true) (λ r. is_below k r ≡ false) rows at
       → (at < length rows → (d : RunRow) → is_eq (key_cmp (get_or rows at d).key k) ≡ false) → IsGapFor rows k at

@@ -1,5 +1,5 @@
 -- The rows of one task stand side by side.
-use Rattle.std.proofs.Common.{◌≡◌, ℕ, zero, suc, ◌-◌, take_all, length-drop, ◌<◌, ◌≤◌, ◌&&◌, ◌==◌, ◌||◌, nat_lt, max, cond, Bool, not, true, false, List, [], ◌∷◌, length, get_or, take, drop, filter, All, Option, Some, None, refl, sym, ap, ◌∙◌, subst, drop-cons, arith}
+use Rattle.std.proofs.Common.{◌≡◌, ℕ, zero, suc, ◌-◌, ◌<◌, ◌≤◌, ◌&&◌, ◌==◌, ◌||◌, nat_lt, max, cond, Bool, not, true, false, List, [], ◌∷◌, length, get_or, take, drop, filter, All, Option, Some, None, refl, sym, ap, ◌∙◌, subst, drop-cons, arith}
 use Rattle.std.proofs.lemmas.Bool.Decides.{nat_tests}
 use Rattle.std.specs.List.{AllByRecursion, last_or, list_any, slice_get}
 use Rattle.std.specs.List.Sorted.{IsPartitionPoint, IsPartitionedBy}
@@ -160,16 +160,6 @@ ascending_drop [] zero up = tt
 ascending_drop [] (suc i) up = tt
 ascending_drop (r ∷ rs) zero up = up
 ascending_drop (r ∷ rs) (suc i) up = ascending_drop rs i up.1
-
-pub parted_rest : {X : Type 0} (P Q : X → Type 0) (xs : List X) (i : ℕ) → IsPartitionPoint P Q xs i → All Q (drop i xs)
-parted_rest P Q [] zero part = λ k d lt. absurd (omega arith)
-parted_rest P Q [] (suc i) part = λ k d lt. absurd (omega arith)
-parted_rest P Q (x ∷ xs) zero part = λ k d lt. part.1 k d (omega arith) lt
-parted_rest P Q (x ∷ xs) (suc i) part = parted_rest P Q xs i (λ j d low high. part.0 (suc j) d (omega arith) (omega arith), λ j d low high. part.1 (suc j) d (omega arith) (omega arith))
-
--- a slice from a place on, as the index writes it
-pub from_place : {X : Type 0} (xs : List X) (i : ℕ) → take (length xs - i) (drop i xs) ≡ drop i xs
-from_place xs i = take_all (length xs - i) (drop i xs) (omega (arith, length-drop i xs))
 
 -- ---- the last of a list
 last_at : {X : Type 0} (o : Option X) (x : X) (xs : List X) → last_or o (x ∷ xs) ≡ slice_get (x ∷ xs) (length xs)

@@ -1,6 +1,6 @@
 -- A pass goes on to no start past the least common one, and stays where it is there.
 use Rattle.std.specs.Option.{option_and_then}
-use Rattle.std.proofs.Common.{leb, ltb, get_or, drop, take, length, subst, ◌≡◌, ◌∙◌, ℕ, zero, suc, ◌+◌, ◌-◌, ◌<◌, ◌≤◌, List, [], ◌∷◌, Bool, true, false, cond, ◌&&◌, ◌||◌, Option, Some, None, inl, inr, refl, sym, ap, arith, max, min}
+use Rattle.std.proofs.Common.{leb, ltb, get_or, drop, length, subst, ◌≡◌, ◌∙◌, ℕ, zero, suc, ◌+◌, ◌-◌, ◌<◌, ◌≤◌, List, [], ◌∷◌, Bool, true, false, cond, ◌&&◌, ◌||◌, Option, Some, None, inl, inr, refl, sym, ap, arith, max, min}
 use Rattle.std.specs.List.{find, range_with_len}
 use Rattle.std.specs.List.Sorted.{IsPartitionPoint}
 use Rattle.std.proofs.lemmas.List.{drop_all, get_or-drop, length-drop}
@@ -9,7 +9,7 @@ use Rattle.std.proofs.lemmas.Bool.Decides.{nat_tests}
 use Rattle.ps_time.specs.Span.{Range}
 use Rattle.ps_time.specs.Starts.{is_within, lies_in}
 use Rattle.ps_time.specs.declared.tiers.Tiers.{Tiers}
-use Rattle.slot_search.specs.Search.{windows_of, in_all, lesser, start_in, next_in, next_in_all, AreInOrder, IsInOrder}
+use Rattle.slot_search.specs.Search.{windows_of, in_all, lesser, start_in, next_in, next_in_all, IsInOrder}
 
 -- the least start from this one on that passes; None where none passes
 abbrev pub IsNext : (ℕ → Bool) → ℕ → Option ℕ → Type 0
@@ -106,18 +106,6 @@ module _ (ws : List Range) (from i : ℕ) (up : IsInOrder ws) (parted : IsPartit
 
   pub next_nowhere : length ws ≤ i → next_in ws from ≡ None
   next_nowhere over = next_behind ws from i (λ k d lt inside. parted.0 k d (omega arith) lt) ∙ ap (λ l. next_in l from) (drop_all i ws over)
-
-pub order_at : (second : Bool) (lists : List Tiers) (i : ℕ) (d : Tiers) → AreInOrder second lists → i < length lists → IsInOrder (windows_of second (get_or lists i d))
-order_at second [] i d all within = absurd (omega arith)
-order_at second (tiers ∷ lists) zero d all within = all.0
-order_at second (tiers ∷ lists) (suc i) d all within = order_at second lists i d all.1 (omega arith)
-
-pub order_more : (second : Bool) (lists : List Tiers) (i : ℕ) (tiers : Tiers) → i < length lists → tiers ≡ get_or lists i tiers → IsInOrder (windows_of second tiers) → AreInOrder second (take i lists) → AreInOrder second (take (i + 1) lists)
-order_more second [] i tiers within is here all = absurd (omega arith)
-order_more second (t ∷ lists) zero tiers within is here all = (subst (λ (x : Tiers). IsInOrder (windows_of second x)) is here, tt)
-order_more second (t ∷ lists) (suc i) tiers within is here all =
-    let next : suc (i + 1) ≡ suc i + 1 = omega arith in
-    subst (λ n. AreInOrder second (take n (t ∷ lists))) next (all.0, order_more second lists i tiers (omega arith) is here all.1)
 
 -- ---- several lists, one after another
 false_left : (x y : Bool) → x ≡ false → (x && y) ≡ false

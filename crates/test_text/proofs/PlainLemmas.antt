@@ -4,7 +4,7 @@ use Rattle.std.specs.Cmp.Derive.{both_true}
 use Rattle.std.specs.List.{list_all}
 use Rattle.std.proofs.lemmas.Bool.Decides.{nat_tests}
 use Rattle.std.proofs.lemmas.Fmt.{decimal_by_steps}
-use Rattle.json.specs.Print.{escape, escape_byte, quoted}
+use Rattle.json.specs.Print.{escape, escape_byte}
 use Rattle.json.proofs.Printed.Strings.{escape_byte_plain}
 use Rattle.ps_time.specs.Length.{clock_part, count_text, length_text_of}
 use Rattle.ps_time.specs.Name.{is_name, is_name_byte, is_name_start}
@@ -19,9 +19,6 @@ pub escape_plain : (bs : List ℕ) → is_plain bs ≡ true → escape bs ≡ bs
 escape_plain [] is = refl
 escape_plain (x ∷ xs) is =
     let both = and_true (is_plain_byte x) (is_plain xs) is in rw (byte_plain x both.0) (ap (λ l. x ∷ l) (escape_plain xs both.1))
-
-pub quoted_plain : (bs : List ℕ) → is_plain bs ≡ true → quoted bs ≡ 34 ∷ (bs ++ 34 ∷ [])
-quoted_plain bs is = ap (λ l. 34 ∷ (l ++ 34 ∷ [])) (escape_plain bs is)
 
 plain_append : (xs ys : List ℕ) → is_plain xs ≡ true → is_plain ys ≡ true → is_plain (xs ++ ys) ≡ true
 plain_append [] ys first later = later

@@ -10,7 +10,7 @@ use Rattle.std.proofs.lemmas.Nat.{be_bytes_2, be_bytes_4, be_bytes_8, from_be_by
 use Rattle.value_bytes.specs.Codec.{mark, mark_code, number, number_16, number_32, number_64, number_8, signed_16}
 use Rattle.value_bytes.specs.Laws.{AreBytes, Begins, IsCodec, ReadAgain, ReadsCodes}
 use Rattle.value_bytes.specs.PairLaws.{behind_some, some_is}
-use Rattle.value_bytes.specs.Reading.{bool_at, byte_at, number_at}
+use Rattle.value_bytes.specs.Reading.{bool_at, number_at}
 
 pub drop_are : (n : ℕ) (bytes : List ℕ) → AreBytes bytes → AreBytes (drop n bytes)
 drop_are n bytes are i = rw get_or-drop (are (n + i))
@@ -38,11 +38,6 @@ byte_reads (b ∷ bytes) x rest are e =
 
 pub number_8_is : IsCodec number_8
 number_8_is = record { again = λ x rest fits. refl; reads = byte_reads }
-
--- the byte that was read is one
-pub byte_below : (bytes : List ℕ) (n : ℕ) (rest : List ℕ) → AreBytes bytes → byte_at bytes ≡ Some (n, rest) → n < 2 ^ 8
-byte_below [] n rest are e = absurd cc
-byte_below (b ∷ bytes) n rest are e = subst (λ (y : ℕ × List ℕ). y.0 < 256) (some_is (b, bytes) (n, rest) e) (are 0)
 
 -- ---- numbers of a width
 pub record IsWide (w : Width) (limit : ℕ) : Type 0 where
