@@ -8,6 +8,7 @@ use ps_time::memory::Memory;
 use ps_time::moment::Moment;
 use std::alloc::Global;
 
+/// What generated work keeps beside its hosts.
 pub struct Tally {
     /// What the next draw comes from.
     pub seed: u64,
@@ -29,6 +30,7 @@ impl Drop for Tally {
 }
 
 impl Tally {
+    /// Before the first draw.
     pub fn new(alloc: Global) -> Tally
         ensures { result ≡ first_tally }
     {

@@ -1,16 +1,17 @@
 -- What a crash leaves of a kept host is what the definition of its seat says.
-use Rattle.std.specs.Prelude.{IfOk, ◌-◌, ◌&&◌, ◌<◌, ◌≤◌, ◌^◌, nat_le, nat_lt, not, option_map, if◌then◌else◌}
-use Rattle.std.proofs.Common.{◌≡◌, ◌∙◌, ◌+◌, ap, arith, inl, inr, refl, subst, sym, Bool, false, true, List, length, None, Option, Some, Result, ℕ}
+use Rattle.std.specs.Prelude.{IfOk, ◌-◌, ◌&&◌, ◌||◌, ◌<◌, ◌≤◌, ◌^◌, nat_le, nat_lt, not, option_map, if◌then◌else◌}
+use Rattle.std.proofs.Common.{◌≡◌, ◌∙◌, ◌+◌, ap, arith, inl, inr, refl, subst, sym, ◌∷◌, Bool, false, true, List, [], length, None, Option, Some, Result, ℕ}
 use Rattle.std.proofs.lemmas.Bool.Decides.{nat_tests}
 use Rattle.std.proofs.lemmas.Result.{IfOk-weaker}
 use Rattle.ps_disks.specs.declared.image.Image.{Image}
-use Rattle.host_journal.specs.Crash.{is_new, opens_head}
+use Rattle.host_journal.specs.Crash.{is_new, opens_gate, opens_head}
 use Rattle.host_journal.specs.Pair.{pair_of}
 use Rattle.host_journal.specs.State.{has_record, stored}
 use Rattle.ps_disks.specs.History.{bytes_now}
 use Rattle.ps_disks.specs.MemoryDisk.{DiskState}
 use Rattle.host_journal.specs.declared.reading.Counted.{Counted}
 use Rattle.host_journal.specs.declared.reading.DiskPlace.{DiskPlace}
+use Rattle.host_keep.specs.Laws.{nothing_after}
 use Rattle.host_keep.specs.Standing.{Answers, Follows, Seen, Standing, StandsNow, after}
 use Rattle.host_keep.specs.declared.call.HostCall.{HostCall}
 use Rattle.host_keep.specs.declared.call.HostStep.{HostStep}
@@ -18,20 +19,24 @@ use Rattle.machine_keep.specs.Crash.{IsPutOff, keeps_step}
 use Rattle.machine_keep.specs.Faulted.{seen_on}
 use Rattle.machine_keep.specs.Kept.{after_step, caught}
 use Rattle.machine_seat.specs.Crashed.{IsSnapshotDue, StandsAt, Stops, loose_in, place_stopped, place_unsynced, state_unsynced}
-use Rattle.machine_seat.specs.Held.{Held, Loose, Place, armed_at, fault_at, is_many_at, syncs, with_record, with_snapshot}
+use Rattle.machine_seat.specs.Held.{Held, Loose, Place, armed_at, calls_of, is_many_at, place_after, syncs, with_record, with_snapshot}
 use Rattle.machine_seat.specs.IsHeld.{SeatState, held, held_of}
+use Rattle.host_model.specs.Step.{step_changes}
+use Rattle.host_model.specs.declared.change.Change.{Change}
+use Rattle.host_model.specs.declared.change.Changes.{Changes}
 use Rattle.host_model.specs.declared.input.Input.{Input}
+use Rattle.host_model.specs.declared.reply.Reply.{Reply}
 use Rattle.psched_world.specs.World.{Stage}
 use Rattle.psched_script.specs.declared.script.Stop.{Stop}
 use Rattle.rehearsal_model.specs.After.{cut_stage}
 use Rattle.rehearsal_model.specs.Plays.{IsSeat}
 use Rattle.rehearsal_model.specs.Scenes.{is_kept_in}
-use Rattle.rehearsal_model.specs.Seats.{Left, broken_with, can_snap, done, fault_in, is_before, left_behind, left_now, left_of, left_stopped, left_unsynced, snapped_by, snapshot_length, stepped, stepped_by, unsynced, written_at}
+use Rattle.rehearsal_model.specs.Seats.{Left, Written, among, calls_for, can_snap, done, is_before, left_behind, left_stopped, left_unsynced, record_length, recorded_by, reply_unless, snapped_by, snapshot_length, stop_met, unless_none, written_at}
 use Rattle.rehearsal_model.specs.Seen.{acted}
 use Rattle.held_seats.specs.Staged.{IsLeft, loosened, stage_of, staged, standing_of}
 use Rattle.rehearsal_model.proofs.MoveLemmas.{cut_config}
-use Rattle.rehearsal_model.proofs.SceneLemmas.{broken_seat, calm_seat, config_chosen, config_stepped, unsynced_left_is, unsynced_seat}
-use Rattle.held_seats.proofs.StepLemmas.{bytes_kept, later_is, record_is, size_kept, snapped_few, snapped_is, snapped_some, snapshot_is}
+use Rattle.rehearsal_model.proofs.SceneLemmas.{config_chosen, unsynced_left_is}
+use Rattle.held_seats.proofs.StepLemmas.{bytes_kept, later_is, record_is, size_kept, snapped_few, snapped_is, snapped_some, snapshot_is, syncs_counted}
 
 -- ---- what is loose
 state_left : (s : Standing) (l : Option (Loose Standing)) (stop : ℕ) (image : Image) → state_unsynced (stage_of s) (option_map loosened l) stop image ≡ stage_of (state_unsynced s l stop image)
@@ -54,6 +59,10 @@ pub unsynced_left : (h : Held Standing) (stop : ℕ) (image : Image) (pair : Res
 unsynced_left h stop image pair stands =
     moved_to (state_unsynced h.state h.loose stop image) (standing_of (state_unsynced (stage_of h.state) (option_map loosened h.loose) stop image)) (sym (ap standing_of (state_left h.state h.loose stop image)))
     (place_unsynced h.place h.loose stop image) (place_unsynced h.place (option_map loosened h.loose) stop image) (sym (place_left h.place h.loose stop image)) pair stands
+
+-- a crash between two steps: what is loose is kept in the image that keeps what no sync made sure of
+abbrev pub left_now : Held Stage → Image → Left
+left_now h image = left_unsynced h 0 image
 
 pub now_left : (h : Held Standing) (image : Image) (pair : Result Counted DiskPlace) → StandsAt StandsNow (state_unsynced h.state h.loose 0 image) (place_unsynced h.place h.loose 0 image) pair → IsLeft (left_now (staged h) image) pair
 now_left h image pair stands = unsynced_left h 0 image pair stands
@@ -177,28 +186,106 @@ module _ {E : Type 0} (h : Held Standing) (call : HostCall) (stop : Stop) (resul
       by false true is test = early_so is (grind (arith, nat_tests, test)) (subst Early armed early)
       by false false is test = late_so (λ f. grind (arith, nat_tests, test)) (subst Late armed late)
 
--- ---- the configuration is left
-stepped_seat : (h : Held Stage) (clock : ℕ) (i : Input) → IsSeat h → IsSeat (stepped h clock i)
-stepped_seat h clock i is = by (fault_in h clock i)
-  where
-    by : (o : Option ℕ) → IsSeat (stepped_by h clock i o)
-    by None = calm_seat (done h clock i) refl
-    by (Some number) = go (nat_lt (length (syncs h.ready)) number)
-      where
-        go : (late : Bool) → IsSeat (if late then broken_with h (number - length (syncs h.ready)) (acted h.state clock i) (written_at h clock i) else unsynced h number)
-        go true = broken_seat h clock i (number - length (syncs h.ready)) (written_at h clock i)
-        go false = unsynced_seat h number is
+-- ---- a step whose calls are all made
+unless_nothing : (cs : List Change) (bytes : ℕ) → unless_none cs bytes ≡ None → cs ≡ []
+unless_nothing [] bytes none = refl
+unless_nothing (c ∷ cs) bytes none = cc
 
+nothing_acted : (s : Stage) (clock : ℕ) (i : Input) → recorded_by s clock i ≡ None → acted s clock i ≡ s
+nothing_acted s clock i none =
+    let c : Changes = step_changes s.config s.book clock i in
+    ap (λ b. record { config = s.config; book = b }) (nothing_after s.book c (unless_nothing c.list (record_length c) none))
+
+-- a stop behind the last of them leaves what a crash between two steps leaves of the host behind it
+module _ (h : Held Stage) (clock : ℕ) (i : Input) (stop : Stop) (behind : calls_for h (written_at h clock i) < stop.call) where
+  abbrev w : Written
+  w = written_at h clock i
+
+  abbrev number : ℕ
+  number = stop.call - length (syncs h.ready)
+
+  cut_none : (b : Bool) → recorded_by h.state clock i ≡ None → acted h.state clock i ≡ cut_stage b h.state clock i
+  cut_none true none = refl
+  cut_none false none = nothing_acted h.state clock i none
+
+  or_true : (b : Bool) → (b || true) ≡ true
+  or_true true = refl
+  or_true false = refl
+
+  gate_open : 4 < number → keeps_step number stop.image ≡ true
+  gate_open late = let test : nat_lt 4 number ≡ true = grind (arith, nat_tests, late) in ap (λ b. opens_gate number stop.image || b) test ∙ or_true (opens_gate number stop.image)
+
+  head_open : 11 < number → opens_head (number - 4) stop.image ≡ true
+  head_open late =
+      let test : nat_lt 7 (number - 4) ≡ true = grind (arith, nat_tests, late) in
+      ap (λ b. (nat_lt 5 (number - 4) && is_new stop.image) || b) test ∙ or_true (nat_lt 5 (number - 4) && is_new stop.image)
+
+  abbrev left_made : Option ℕ → Option ℕ → Left
+  left_made r s = record { state = acted h.state clock i; place = place_after h.place r s }
+
+  abbrev left_cut : Option ℕ → Option ℕ → Left
+  left_cut r s = record { state = cut_stage (keeps_step number stop.image) h.state clock i; place = place_stopped number stop.image h.place r s }
+
+  behind_made : left_now (done h clock i) stop.image ≡ left_behind h clock i number stop.image
+  behind_made = by w.record_bytes w.snapshot_bytes refl behind
+    where
+      by : (r s : Option ℕ) → w.record_bytes ≡ r → calls_of h.ready r s < stop.call → left_made r s ≡ left_cut r s
+      by None s none late = ap (λ x. record { state = x; place = h.place }) (cut_none (keeps_step number stop.image) none)
+      by (Some n) None is late =
+          let enough : 4 < number = omega (arith, late) in
+          ap (λ b. record { state = cut_stage b h.state clock i; place = if b then with_record h.place n else h.place }) (sym (gate_open enough))
+      by (Some n) (Some m) is late =
+          let enough : 11 < number = omega (arith, late) in
+          let most : 4 < number = omega (arith, late) in
+          ap (λ b. record { state = cut_stage b h.state clock i; place = with_snapshot h.place m }) (sym (gate_open most))
+          ∙ ap (λ b. record { state = cut_stage (keeps_step number stop.image) h.state clock i; place = if b then with_snapshot h.place m else (if keeps_step number stop.image then with_record h.place n else h.place) }) (sym (head_open enough))
+
+  unready_late : h.ready ≡ false → 2 < stop.call
+  unready_late unready =
+      let two : length (syncs h.ready) ≡ 2 = ap (λ b. length (syncs b)) unready in
+      omega (arith, two, behind, syncs_counted h.ready w.record_bytes w.snapshot_bytes)
+
+  pub made_left : left_now (done h clock i) stop.image ≡ left_stopped h clock i stop
+  made_left = behind_made ∙ stopped_late h clock i stop unready_late
+
+-- ---- which stop a step meets
+-- a call that fails isn't before it
+pub not_met : (stop : Stop) (calls : ℕ) (fault : Option ℕ) → is_before stop.call fault ≡ false → stop_met (Some stop) (among calls fault) ≡ Some stop
+not_met stop calls None later = refl
+not_met stop calls (Some n) later = by (nat_le n calls)
+  where
+    by : (b : Bool) → stop_met (Some stop) (if b then Some n else None) ≡ Some stop
+    by true = ap (λ t. if t then None else Some stop) later
+    by false = refl
+
+-- a step that isn't answered met a fault
+pub none_met : (stop : Stop) (calls : ℕ) (fault : Option ℕ) (said : Reply) → is_before stop.call fault ≡ true → None ≡ reply_unless (among calls fault) said → stop_met (Some stop) (among calls fault) ≡ None
+none_met stop calls None said before silent = cc
+none_met stop calls (Some n) said before silent = by (nat_le n calls) silent
+  where
+    by : (b : Bool) → None ≡ reply_unless (if b then Some n else None) said → stop_met (Some stop) (if b then Some n else None) ≡ None
+    by true e = ap (λ t. if t then None else Some stop) before
+    by false e = cc
+
+-- one whose calls are all made ends before the stop, where a call that is to fail comes before it
+pub made_before : (stop calls : ℕ) (fault : Option ℕ) → is_before stop fault ≡ true → among calls fault ≡ None → calls < stop
+made_before stop calls None before none = absurd cc
+made_before stop calls (Some n) before none = by (nat_le n calls) refl none
+  where
+    by : (b : Bool) → nat_le n calls ≡ b → (if b then Some n else None) ≡ None → calls < stop
+    by true is e = absurd (cc e)
+    by false is e = grind (arith, nat_tests, is, before)
+
+-- ---- the configuration is left
 left_config : (h : Held Stage) → IsSeat h → (stop : ℕ) (image : Image) → (left_unsynced h stop image).state.config ≡ h.state.config
 left_config h is stop image = ap (λ (s : Stage). s.config) (unsynced_left_is h stop image) ∙ config_chosen h is (is_kept_in stop image h.loose)
 
-pub config_left : (h : Held Stage) → IsSeat h → (clock : ℕ) (i : Input) (stop : Stop) → (left_of h clock i stop).state.config ≡ h.state.config
-config_left h is clock i stop = by (is_before stop.call (fault_at h)) (not h.ready && nat_le stop.call 2)
+pub config_left : (h : Held Stage) → IsSeat h → (clock : ℕ) (i : Input) (stop : Stop) → (left_stopped h clock i stop).state.config ≡ h.state.config
+config_left h is clock i stop = by (not h.ready && nat_le stop.call 2)
   where
-    by : (before early : Bool) → (if before then left_now (stepped h clock i) stop.image else (if early then left_unsynced h stop.call stop.image else left_behind h clock i (stop.call - length (syncs h.ready)) stop.image)).state.config ≡ h.state.config
-    by true early = left_config (stepped h clock i) (stepped_seat h clock i is) 0 stop.image ∙ config_stepped h clock i
-    by false true = left_config h is stop.call stop.image
-    by false false = cut_config (keeps_step (stop.call - length (syncs h.ready)) stop.image) h.state clock i
+    by : (early : Bool) → (if early then left_unsynced h stop.call stop.image else left_behind h clock i (stop.call - length (syncs h.ready)) stop.image).state.config ≡ h.state.config
+    by true = left_config h is stop.call stop.image
+    by false = cut_config (keeps_step (stop.call - length (syncs h.ready)) stop.image) h.state clock i
 
 caught_config : (s : Standing) (unsure : Option HostStep) (stood : Bool) → (caught after s unsure stood).config ≡ s.config
 caught_config s None stood = refl

@@ -130,7 +130,7 @@ place_by number p r s t same = by (nat_lt 10 number) refl
     by false is = refl
 
 -- how many calls are made at least
-syncs_counted : (ready : Bool) (r s : Option ℕ) → length (syncs ready) ≤ calls_of ready r s
+pub syncs_counted : (ready : Bool) (r s : Option ℕ) → length (syncs ready) ≤ calls_of ready r s
 syncs_counted ready None s = omega arith
 syncs_counted ready (Some n) None = omega arith
 syncs_counted ready (Some n) (Some m) = omega arith

@@ -1,16 +1,16 @@
 //! A host of a script on two disks in memory, of each of which one call may be made to fail.
-ghost use Rattle.std.specs.Prelude.{◌≡◌, ◌≤◌, ◌<◌, ◌-◌, IfOk, OnOk, true};
+ghost use Rattle.std.specs.Prelude.{◌≡◌, ◌≤◌, ◌<◌, ◌-◌, IfOk, OnOk, Some, is_some, true};
 ghost use Rattle.ps_disks.specs.Run.{IsArmed};
 ghost use Rattle.ps_disks.specs.declared.rack.TheConstants.{FRESH_FIRST as fresh_first, FRESH_SECOND as fresh_second};
 ghost use Rattle.ps_time.specs.declared.moment.TheConstants.{MAX_MOMENT};
 ghost use Rattle.host_journal.specs.Pair.{pair_of};
 ghost use Rattle.host_model.specs.Conditions.{IsConfig, IsInput};
 ghost use Rattle.host_keep.specs.Standing.{Seen, after};
-ghost use Rattle.machine_seat.specs.Held.{armed_at, configured};
+ghost use Rattle.machine_seat.specs.Held.{armed_at, configured, fault_at};
 ghost use Rattle.machine_seat.specs.IsHeld.{held};
 ghost use Rattle.rehearsal_model.specs.Plays.{IsSeat};
 ghost use Rattle.rehearsal_model.specs.Rehearsal.{retooled};
-ghost use Rattle.rehearsal_model.specs.Seats.{Left, answered, calm_on, crashed_at, is_before, left_faulted, left_of, left_stopped, new_left, opened_anew, opened_on, stage_with, stepped};
+ghost use Rattle.rehearsal_model.specs.Seats.{Left, answered, calm_on, ended_at, fault_in, is_before, left_stopped, new_left, opened_anew, opened_on, stage_with, stepped, stop_met};
 ghost use Rattle.held_seats.specs.Kept.{IsKeptOn};
 ghost use Rattle.held_seats.specs.Staged.{IsLeft, staged};
 
@@ -23,7 +23,6 @@ use host_model::input::Input;
 use host_model::reply::Reply;
 use machine_seat::seat::{Seat as MachineSeat, Stepped};
 use ps_disks::disk::Disk;
-use ps_disks::image::Image;
 use ps_disks::memory_disk::MemoryDisk;
 use ps_disks::rack::{FRESH_FIRST, FRESH_SECOND};
 use ps_time::items::Items;
@@ -70,6 +69,7 @@ impl Seat {
         open_on(alloc, config, 0, first, second)
     }
 
+    /// The configuration, which no step changes.
     pub fn config(&self) -> &Config
         ensures { result.now ≡ self.now.state.config }
     {
@@ -127,65 +127,58 @@ impl Seat {
         let _ready = self.seat.is_ready();
     }
 
-    /// The host as it is opened again at the clock, in seconds since 1970 UTC, once this step of it stopped.
+    /// A step of the host at a clock, in seconds since 1970 UTC, that is to stop: the host as it is opened again, and that it
+    /// stopped. Where a call of its disks fails before, the step meets that fault, and the host isn't to stop any more.
     pub fn crash(
         self,
         alloc: Global,
         clock: Moment,
         input: Input,
         stop: Stop,
-    ) -> Result<Seat, Memory>
+    ) -> Result<(Seat, bool), Memory>
         requires config { IsConfig self.state.config }
         requires clock { clock ≤ MAX_MOMENT }
         requires input { IsInput self.state.config input }
-        ensures seat { IfOk result (λ seat. seat ≡ crashed_at self clock input stop) }
-        ensures config { IfOk result (λ seat. seat.state.config ≡ self.state.config) }
+        ensures seat { IfOk result (λ r. r.0 ≡ ended_at self clock input stop) }
+        ensures stopped { IfOk result (λ r. r.1 ≡ is_some (stop_met (Some stop) (fault_in self clock input))) }
+        ensures config { IfOk result (λ r. r.0.state.config ≡ self.state.config) }
     {
+        let number = self.seat.fault_at()?;
+        if is_before(number, stop.call) {
+            return self.crash_unless_fault(alloc, clock, input, stop);
+        }
         self.known();
         let config = self.config().copy(alloc)?;
-        let disks = self.crash_disks(alloc, clock, input, stop)?;
-        let first = disk_of(alloc, disks.0.bytes())?;
-        let second = disk_of(alloc, disks.1.bytes())?;
-        open_on(alloc, config, clock, first, second)
+        let disks = self.crash_at_stop(alloc, clock, input, stop)?;
+        let seat = reopen_on(alloc, config, clock, disks)?;
+        Ok((seat, true))
     }
 
-    // What a crash leaves of the disks as the step stops.
-    fn crash_disks(
+    // A call that is to fail comes before the stop. Where the step makes fewer, it stops behind its last one.
+    fn crash_unless_fault(
         self,
         alloc: Global,
         clock: Moment,
         input: Input,
         stop: Stop,
-    ) -> Result<(MemoryDisk, MemoryDisk), Memory>
+    ) -> Result<(Seat, bool), Memory>
         requires config { IsConfig self.state.config }
         requires clock { clock ≤ MAX_MOMENT }
         requires input { IsInput self.state.config input }
-        ensures { IfOk result (λ disks. IsLeft (left_of self clock input stop) (pair_of (⟦<MemoryDisk as Disk>⟧.seen disks.0) (⟦<MemoryDisk as Disk>⟧.seen disks.1))) }
-    {
-        let number = self.seat.fault_at()?;
-        if is_before(number, stop.call) {
-            return self.crash_at_fault(alloc, clock, input, stop.image);
-        }
-        self.crash_at_stop(alloc, clock, input, stop)
-    }
-
-    // The call that is to fail comes before the stop.
-    fn crash_at_fault(
-        self,
-        alloc: Global,
-        clock: Moment,
-        input: Input,
-        image: Image,
-    ) -> Result<(MemoryDisk, MemoryDisk), Memory>
-        requires config { IsConfig self.state.config }
-        requires clock { clock ≤ MAX_MOMENT }
-        requires input { IsInput self.state.config input }
-        ensures { IfOk result (λ disks. IsLeft (left_faulted self clock input image) (pair_of (⟦<MemoryDisk as Disk>⟧.seen disks.0) (⟦<MemoryDisk as Disk>⟧.seen disks.1))) }
+        requires before { is_before stop.call (fault_at self) ≡ true }
+        ensures seat { IfOk result (λ r. r.0 ≡ ended_at self clock input stop) }
+        ensures stopped { IfOk result (λ r. r.1 ≡ is_some (stop_met (Some stop) (fault_in self clock input))) }
+        ensures config { IfOk result (λ r. r.0.state.config ≡ self.state.config) }
     {
         let mut seat = self;
-        let reply = seat.act(alloc, clock, input)?;
+        let Some(reply) = seat.act(alloc, clock, input)? else {
+            return Ok((seat, false));
+        };
         drop(reply);
-        seat.into_seat().crash_now(image)
+        let config = seat.config().copy(alloc)?;
+        let disks = seat.into_seat().crash_now(stop.image)?;
+        let seat = reopen_on(alloc, config, clock, disks)?;
+        Ok((seat, true))
     }
 
     fn into_seat(self) -> MachineSeat<Host>
@@ -195,7 +188,7 @@ impl Seat {
         seat
     }
 
-    // None comes before it.
+    // What a crash leaves of the disks as the step stops.
     fn crash_at_stop(
         self,
         alloc: Global,
@@ -288,6 +281,23 @@ fn open_on(
         Ok(seat) => begin(alloc, Seat { seat }, clock),
         Err(_fault) => Err(Memory),
     }
+}
+
+// The same on what a crash left of disks.
+fn reopen_on(
+    alloc: Global,
+    config: Config,
+    clock: Moment,
+    disks: (MemoryDisk, MemoryDisk),
+) -> Result<Seat, Memory>
+    requires config { IsConfig config }
+    requires clock { clock ≤ MAX_MOMENT }
+    ensures config { IfOk result (λ seat. seat.state.config ≡ config) }
+    ensures left { IfOk result (λ seat. (left : Left) → left.state.config ≡ config → IsLeft left (pair_of (⟦<MemoryDisk as Disk>⟧.seen disks.0) (⟦<MemoryDisk as Disk>⟧.seen disks.1)) → seat ≡ opened_on left clock) }
+{
+    let first = disk_of(alloc, disks.0.bytes())?;
+    let second = disk_of(alloc, disks.1.bytes())?;
+    open_on(alloc, config, clock, first, second)
 }
 
 // The first step of a host of which no call is to fail.

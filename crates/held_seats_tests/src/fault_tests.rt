@@ -51,9 +51,9 @@ fn is_left(alloc: Global, call: u64, stop: u64, image: Image, told: Told) -> Res
     let mut seat = new_seat(alloc)?;
     seat.fail_at(call);
     let is_faulted = book(alloc, &mut seat)? == Told::Nothing;
-    let mut seat = stop_look(alloc, seat, stop, image)?;
-    let is_left = book(alloc, &mut seat)? == told;
-    Ok(is_faulted && is_left)
+    let mut ended = stop_look(alloc, seat, stop, image)?;
+    let is_left = book(alloc, &mut ended.0)? == told;
+    Ok(is_faulted && ended.1 && is_left)
 }
 
 fn each_left(alloc: Global, crashes: &[(u64, u64, Told, Told)]) -> Result<bool, Memory> {
@@ -74,34 +74,38 @@ fn a_crash_behind_a_fault_leaves_what_its_image_keeps(rt: HostRuntime) -> Result
     Ok(())
 }
 
-// Which call of the booking is to fail, at which it is to stop, and what the next one is told, behind the images old and new.
-static STOPS: [(u64, u64, Told, Told); 5] = [
-    (0, 3, Told::Accepted, Told::Denied),
-    (2, 12, Told::Accepted, Told::Accepted),
-    (4, 12, Told::Accepted, Told::Denied),
-    (4, 4, Told::Accepted, Told::Denied),
-    (6, 12, Told::Denied, Told::Denied),
+// Which call of the booking is to fail, at which it is to stop, whether it stops, and what the next one is told, behind the images
+// old and new.
+static STOPS: [(u64, u64, bool, Told, Told); 6] = [
+    (0, 3, true, Told::Accepted, Told::Denied),
+    (2, 12, false, Told::Accepted, Told::Accepted),
+    (4, 12, false, Told::Denied, Told::Denied),
+    (4, 4, true, Told::Accepted, Told::Denied),
+    (5, 4, true, Told::Accepted, Told::Denied),
+    (6, 12, true, Told::Denied, Told::Denied),
 ];
 
-fn is_stopped(
+fn is_ended(
     alloc: Global,
     call: u64,
     stop: u64,
+    stopped: bool,
     image: Image,
     told: Told,
 ) -> Result<bool, Memory> {
     let mut seat = new_seat(alloc)?;
     seat.fail_at(call);
-    let mut seat = stop_booking(alloc, seat, stop, image)?;
-    Ok(book(alloc, &mut seat)? == told)
+    let mut ended = stop_booking(alloc, seat, stop, image)?;
+    let is_told = book(alloc, &mut ended.0)? == told;
+    Ok(ended.1 == stopped && is_told)
 }
 
-fn each_stopped(alloc: Global, stops: &[(u64, u64, Told, Told)]) -> Result<bool, Memory> {
-    for (call, stop, old, new) in stops {
-        if !is_stopped(alloc, *call, *stop, Image::Old, *old)? {
+fn each_ended(alloc: Global, stops: &[(u64, u64, bool, Told, Told)]) -> Result<bool, Memory> {
+    for (call, stop, stopped, old, new) in stops {
+        if !is_ended(alloc, *call, *stop, *stopped, Image::Old, *old)? {
             return Ok(false);
         }
-        if !is_stopped(alloc, *call, *stop, Image::New, *new)? {
+        if !is_ended(alloc, *call, *stop, *stopped, Image::New, *new)? {
             return Ok(false);
         }
     }
@@ -109,7 +113,7 @@ fn each_stopped(alloc: Global, stops: &[(u64, u64, Told, Told)]) -> Result<bool,
 }
 
 #[test]
-fn a_step_stops_behind_a_call_that_fails(rt: HostRuntime) -> Result<(), Fail> {
-    assert!(rt; each_stopped(rt.alloc(), &STOPS)?);
+fn a_step_stops_unless_a_call_fails_before(rt: HostRuntime) -> Result<(), Fail> {
+    assert!(rt; each_ended(rt.alloc(), &STOPS)?);
     Ok(())
 }

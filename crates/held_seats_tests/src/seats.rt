@@ -54,23 +54,28 @@ pub(crate) fn book(alloc: Global, seat: &mut Seat) -> Result<Told, Memory>
     Ok(told)
 }
 
-/// The host as it is opened again, once its booking stopped.
+/// The host behind a booking that is to stop, and whether it stopped.
 pub(crate) fn stop_booking(
     alloc: Global,
     seat: Seat,
     call: u64,
     image: Image,
-) -> Result<Seat, Memory>
+) -> Result<(Seat, bool), Memory>
     requires { IsConfig seat.state.config }
-    ensures { IfOk result (λ seat. IsConfig seat.state.config) }
+    ensures { IfOk result (λ ended. IsConfig ended.0.state.config) }
 {
     seat.crash(alloc, 0, booking(), Stop { call, image })
 }
 
 /// The same of a look at its first page.
-pub(crate) fn stop_look(alloc: Global, seat: Seat, call: u64, image: Image) -> Result<Seat, Memory>
+pub(crate) fn stop_look(
+    alloc: Global,
+    seat: Seat,
+    call: u64,
+    image: Image,
+) -> Result<(Seat, bool), Memory>
     requires { IsConfig seat.state.config }
-    ensures { IfOk result (λ seat. IsConfig seat.state.config) }
+    ensures { IfOk result (λ ended. IsConfig ended.0.state.config) }
 {
     seat.crash(alloc, 0, Input::View(Page::Home), Stop { call, image })
 }

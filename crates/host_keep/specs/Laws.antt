@@ -55,7 +55,7 @@ pub after_with : (c : Config) (s : Standing) (step : HostStep) → after (with_c
 after_with c s step = refl
 
 -- ---- the book after a call is that of the host's definition
-nothing_after : (b : Book) (c : Changes) → c.list ≡ [] → book_after b c ≡ b
+pub nothing_after : (b : Book) (c : Changes) → c.list ≡ [] → book_after b c ≡ b
 nothing_after b c is = go c.list is
   where
     go : (cs : List Change) → cs ≡ [] → book_after b (record c { list = cs }) ≡ b

@@ -1,16 +1,17 @@
 -- What a line does.
-use Rattle.std.proofs.Common.{◌≡◌, ◌∙◌, List, ap, refl, subst, sym, ℕ, ℤ}
+use Rattle.std.proofs.Common.{◌≡◌, ◌∙◌, ◌++◌, List, ap, refl, subst, sym, ℕ, ℤ}
 use Rattle.ps_time.specs.declared.class.Class.{Class}
 use Rattle.host_model.specs.declared.input.Input.{Input}
 use Rattle.host_model.specs.declared.input.Input.TheVariants as input
 use Rattle.psched_script.specs.declared.script.ScriptHost.{ScriptHost}
 use Rattle.psched_script.specs.declared.script.ScriptLine.{ScriptLine}
 use Rattle.psched_script.specs.declared.script.ScriptLine.TheVariants as line
-use Rattle.rehearsal_model.specs.Moves.{Outcomes, moment_of_line}
+use Rattle.rehearsal_model.specs.Moves.{Move, Outcomes, moment_of_line}
 use Rattle.rehearsal_model.specs.Plays.{MayArchive, MayLine}
-use Rattle.report_text.specs.Line.{booking_text}
+use Rattle.report_text.specs.Line.{booking_text, line_text}
+use Rattle.rehearsal_model.specs.Scenes.Deed.{Does}
 use Rattle.rehearsal_model.specs.Scenes.{Scene, at_last, came_at, deed_of, scene_archived, scene_deed, scene_line}
-use Rattle.rehearsal_model.specs.Telling.{came_said, line_said, unavailable}
+use Rattle.rehearsal_model.specs.Telling.{archive_said, came_said, line_said, unavailable}
 
 -- ---- what is there afterwards, at the moment of the line
 module _ (comes : Outcomes) (hosts : List ScriptHost) (b : Scene) where
@@ -46,7 +47,14 @@ module _ (comes : Outcomes) (hosts : List ScriptHost) (b : Scene) where
   pub line_may : (l : ScriptLine) (at host : ℕ) → l ≡ line.Archive at host → MayArchive comes hosts b host at → MayLine comes hosts b l
   line_may l at host is may = subst (λ (x : ScriptLine). MayLine comes hosts b x) (sym is) may
 
-  -- ---- what a booking is told
+  pub archive_told : (l : ScriptLine) (at host : ℕ) → l ≡ line.Archive at host → (old : List ℕ) (number : ℕ) → old ++ line_text number (archive_said comes hosts b host at) ≡ old ++ line_text number (line_said comes hosts b l)
+  archive_told l at host is old number = ap (λ (x : ScriptLine). old ++ line_text number (line_said comes hosts b x)) (sym is)
+
+  -- ---- a booking: what it does, and what it is told
+  pub booking_done : (l : ScriptLine) (at host : ℕ) (class : Class) (priority : ℤ) (start len : ℕ) → l ≡ line.Book at host class priority start len
+      → (i : Input) → i ≡ input.Book class priority start len → scene_deed hosts b (Does (Move.Asks host at i)) ≡ scene_deed hosts b (deed_of comes b l)
+  booking_done l at host class priority start len is i i_is = ap (λ (x : Input). scene_deed hosts b (Does (Move.Asks host at x))) i_is ∙ ap (λ (x : ScriptLine). scene_deed hosts b (deed_of comes b x)) (sym is)
+
   pub booking_said : (l : ScriptLine) (at host : ℕ) (class : Class) (priority : ℤ) (start len : ℕ) → l ≡ line.Book at host class priority start len
       → (i : Input) → i ≡ input.Book class priority start len → came_said (came_at b host at i) unavailable booking_text ≡ line_said comes hosts b l
   booking_said l at host class priority start len is i i_is = ap (λ (x : Input). came_said (came_at b host at x) unavailable booking_text) i_is ∙ ap (line_said comes hosts b) (sym is)

@@ -12,6 +12,7 @@ use std::alloc::Global;
 // The most posts of `generate`.
 const MOST_POSTS: u64 = 2_000;
 
+/// What psched is to do.
 #[derive(Clone, Copy)]
 pub enum Command {
     /// `rehearse`: runs a script and reports what its hosts did.

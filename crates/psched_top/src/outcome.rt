@@ -48,6 +48,7 @@ impl Drop for Outcome {
 }
 
 impl Outcome {
+    /// The status with which psched ends.
     pub fn status(&self) -> u8
         ensures { result ≡ status_of self.now }
     {
@@ -63,6 +64,7 @@ impl Outcome {
         }
     }
 
+    /// What psched writes.
     pub fn bytes(&self) -> &[u8]
         ensures { result.now ≡ text_of self.now }
     {

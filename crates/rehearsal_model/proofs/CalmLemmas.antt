@@ -13,9 +13,8 @@ use Rattle.rehearsal_model.specs.Hosts.{first_config}
 use Rattle.rehearsal_model.specs.Moves.{Move}
 use Rattle.rehearsal_model.specs.Plays.{IsCalm}
 use Rattle.rehearsal_model.specs.Rehearsal.{retooled}
-use Rattle.rehearsal_model.specs.Scenes.{Deed, Scene, Step, as_read, first_scene, scene_by, scene_deed, scene_rested, scene_step, seat_at, seat_in, step_of}
-use Rattle.rehearsal_model.specs.Seats.{Left, among, calls_for, calm_on, done, left_of, new_left, opened_anew, opened_on, stage_with, stepped, stepped_by, written_at}
-use Rattle.rehearsal_model.specs.Seen.{stop_at}
+use Rattle.rehearsal_model.specs.Scenes.{Deed, Scene, Step, as_read, first_scene, scene_by, scene_deed, scene_rested, scene_step, seat_at, seat_in, step_of, stop_for}
+use Rattle.rehearsal_model.specs.Seats.{Left, among, calls_for, calm_on, done, left_stopped, new_left, opened_anew, opened_on, stage_with, stepped, stepped_by, written_at}
 
 -- ---- one host
 none_failing : (calls : List Bool) → failing 0 0 calls ≡ None
@@ -68,7 +67,7 @@ module _ (hosts : List ScriptHost) (b : Scene) (calm : All IsCalm b.seats) where
   step_calm : (move : Move) (step : Step) (o : Option Stop) → All IsCalm (scene_step hosts b move step o).seats
   step_calm move step None = let h : Held Stage = seat_at b step.place in with_calm step.place (stepped h step.clock step.asked) (stepped_calm h (there step.place) step.clock step.asked)
   step_calm move step (Some stop) =
-      let left : Left = left_of (seat_at b step.place) step.clock step.asked stop in
+      let left : Left = left_stopped (seat_at b step.place) step.clock step.asked stop in
       with_calm step.place (opened_on left step.clock) (opened_calm left step.clock)
 
   rested_calm : (move : Move) → All IsCalm (scene_rested b move).seats
@@ -79,7 +78,7 @@ module _ (hosts : List ScriptHost) (b : Scene) (calm : All IsCalm b.seats) where
 
   moved_calm : (move : Move) (o : Option Step) → All IsCalm (scene_by hosts b move o).seats
   moved_calm move None = rested_calm move
-  moved_calm move (Some step) = step_calm move step (stop_at (as_read b) step.place)
+  moved_calm move (Some step) = step_calm move step (stop_for b step.place step.clock step.asked)
 
   pub deed_calm : (deed : Deed) → ArmsNone deed → All IsCalm (scene_deed hosts b deed).seats
   deed_calm (Deed.Does move) none = moved_calm move (step_of hosts (as_read b) move)

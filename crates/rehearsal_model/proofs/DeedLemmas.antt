@@ -2,8 +2,7 @@
 use Rattle.std.specs.List.{AllByRecursion}
 use Rattle.std.specs.Prelude.{◌&&◌, All, codes, if◌then◌else◌, max, nat_le, not, set}
 use Rattle.std.proofs.Common.{◌≡◌, ◌≤◌, ◌<◌, ◌-◌, ◌+◌, ◌∙◌, ◌∷◌, ℕ, Bool, true, false, List, [], length, None, Option, Some, ap, arith, map, refl, subst, sym, Result, Ok, Err}
-use Rattle.std.proofs.lemmas.Bool.Decides.{nat_tests}
-use Rattle.std.proofs.lemmas.List.{get_or-set_same, length-map, length-set, set-get_or, set-set}
+use Rattle.std.proofs.lemmas.List.{length-map, length-set, set-get_or}
 use Rattle.std.proofs.lemmas.List.Elements.{All-from_recursion, All-set}
 use Rattle.ps_time.specs.Numbers.{greatest_moment}
 use Rattle.ps_http.specs.declared.message.Response.{Response}
@@ -12,7 +11,7 @@ use Rattle.host_model.specs.declared.config.Config.{Config}
 use Rattle.host_model.specs.declared.input.Input.{Input}
 use Rattle.host_model.specs.declared.input.Input.TheVariants as input
 use Rattle.host_model.specs.declared.lead.Due.{Due}
-use Rattle.machine_seat.specs.Held.{Held, armed_at, configured, fault_at, syncs}
+use Rattle.machine_seat.specs.Held.{Held, armed_at, configured, syncs}
 use Rattle.psched_world.specs.Events.{Cause, brings, is_client}
 use Rattle.psched_world.specs.World.{Letter, Stage}
 use Rattle.api_law.specs.Orderly.{IsSized}
@@ -28,29 +27,17 @@ use Rattle.rehearsal_model.specs.Plays.{IsPlay, IsSeat, MayArchive, MayDeed, May
 use Rattle.rehearsal_model.specs.Reaching.{MayMove}
 use Rattle.rehearsal_model.specs.Rehearsal.{retooled, seen}
 use Rattle.rehearsal_model.specs.Requests.{delete, get, post}
-use Rattle.rehearsal_model.specs.Scenes.{Deed, Fork, Play, Scene, Step, Turns, as_read, at_last, book_of, but, chosen_from, chosen_stage, config_of, crash_by, deed_of, fault_of, first_play, flies, has_come, is_broken, is_kept_in, kept_all, letter_number, looked, looking, looks, never, play_line, play_unanswered, played, plainly, reopen_fork, scene_archived, scene_by, scene_crashed, scene_looked, scene_step, scene_tried, seat_at, seen_by, show_by, step_by, stop_fork, surely, tried, try_at, unless_broken, worlds_archived, worlds_by, worlds_crashed, worlds_move, worlds_step}
-use Rattle.rehearsal_model.specs.Seats.{Left, done, is_before, left_behind, left_faulted, left_stopped, left_unsynced, new_left, opened_anew, opened_on, stage_with, stepped}
-use Rattle.rehearsal_model.specs.Seen.{Seen, acted, disarmed, landed, message, nobody, stage_at, stop_at}
+use Rattle.rehearsal_model.specs.Scenes.{Deed, Fork, Play, Scene, Step, Turns, as_read, at_last, book_of, but, chosen_from, chosen_stage, config_of, crash_by, deed_of, first_play, flies, has_come, is_broken, is_kept_in, kept_all, letter_number, looked, looking, looks, never, play_line, played, plainly, scene_archived, scene_by, scene_crashed, scene_looked, scene_step, scene_tried, seat_at, seen_by, show_by, step_by, stop_for, surely, tried, try_at, unless_broken, worlds_archived, worlds_by, worlds_crashed, worlds_move, worlds_step}
+use Rattle.rehearsal_model.specs.Seats.{Left, done, left_behind, left_unsynced, new_left, opened_anew, opened_on, stage_with}
+use Rattle.rehearsal_model.specs.Seen.{Seen, acted, disarmed, landed, message, nobody}
 use Rattle.rehearsal_model.proofs.AskLemmas.{asked_by_client, asked_sized}
 use Rattle.rehearsal_model.proofs.FirstLemmas.{first_is, first_reaches}
 use Rattle.rehearsal_model.proofs.MoveLemmas.{IsMove, asking_is, moment_within, trying_is}
-use Rattle.rehearsal_model.proofs.PlayLemmas.{CanStep, can_break, forked, may_break, may_same, move_same, replied_same, seat_each, seen_quiet, sent_same, stepped_on, stepped_same, unanswered_on}
+use Rattle.rehearsal_model.proofs.PlayLemmas.{CanStep, can_break, forked, may_break, may_same, move_same, replied_same, seat_each, seen_quiet, sent_same, stepped_on, stepped_same}
 use Rattle.rehearsal_model.proofs.ReachLemmas.{receiver_within}
 use Rattle.rehearsal_model.proofs.SceneLemmas.{but_here, calm_seat, chosen_set, chosen_still, config_chosen, configured_chosen, configured_seat, opened_chosen, stage_chosen, unsynced_left_is}
 
-max_zero : (n : ℕ) → max n 0 ≡ n
-max_zero n = grind (arith, nat_tests)
-
--- with other steps that are to stop
-restopped : (hosts : List ScriptHost) (p : Play) (stops : List (ℕ × Stop)) → IsPlay hosts p → IsPlay hosts (record p { scene = record p.scene { stops = stops } })
-restopped hosts p stops is = record {
-  reaches = λ t. let r = is.reaches t in record { events = r.events; may = r.may; world = r.world; configs = r.configs; orderly = r.orderly; told = r.told; letters = r.letters; flying = r.flying; last = r.last };
-  sees = λ t. ap (λ (x : Seen). record x { stops = stops }) (is.sees t);
-  seats = is.seats;
-  long = is.long;
-}
-
--- ---- a step that is to stop
+-- ---- a step that stops
 module _ (hosts : List ScriptHost) (lawful : AreLawfulHosts hosts) (p : Play) (is : IsPlay hosts p) (m : ℕ) (low : m ≤ greatest_moment) (step : Step) (can : CanStep hosts (as_read p.scene) step) (stop : Stop) where
   abbrev b : Scene
   b = p.scene
@@ -71,7 +58,6 @@ module _ (hosts : List ScriptHost) (lawful : AreLawfulHosts hosts) (p : Play) (i
   abbrev behind : Left → Scene
   behind left = record b { seats = set b.seats place (opened_on left step.clock); flying = landed_with step.landing b.flying; last = max b.last m; stops = disarmed place b.stops }
 
-  -- ---- where nothing fails before
   module _ (kept : Bool) (cut : Stop) (left : Left) (same : crashed_stage cut (chosen_stage kept here) step.clock step.asked ≡ acted left.state step.clock input.Open) where
     abbrev crashing : Fork
     crashing = record { from = λ t. but t place kept; move = λ t. Move.Crashes (crash_by step cut) }
@@ -91,8 +77,8 @@ module _ (hosts : List ScriptHost) (lawful : AreLawfulHosts hosts) (p : Play) (i
         (All-set IsSeat b.seats place (opened_on left step.clock) (opened_seat left) is.seats)
         (length-set b.seats place (opened_on left step.clock) ∙ is.long)
 
-  stopped_on : IsPlay hosts (record { worlds = worlds_by hosts p (stop_fork here step stop); scene = behind (left_stopped here step.clock step.asked stop) })
-  stopped_on = by (not here.ready && nat_le stop.call 2)
+  pub crashed_on : IsPlay hosts (record { worlds = worlds_crashed hosts p step stop; scene = at_last m (scene_crashed b step stop) })
+  crashed_on = by (not here.ready && nat_le stop.call 2)
     where
       by : (early : Bool) → IsPlay hosts (record {
         worlds = worlds_by hosts p (if early then record { from = λ t. but t place (is_kept_in stop.call stop.image here.loose); move = λ t. Move.Crashes (crash_by step never) } else surely place (Move.Crashes (crash_by step (record { call = stop.call - length (syncs here.ready); image = stop.image }))));
@@ -100,56 +86,6 @@ module _ (hosts : List ScriptHost) (lawful : AreLawfulHosts hosts) (p : Play) (i
       })
       by true = crashes_on (is_kept_in stop.call stop.image here.loose) never (left_unsynced here stop.call stop.image) (ap (λ (s : Stage). acted s step.clock input.Open) (sym (unsynced_left_is here stop.call stop.image)))
       by false = crashes_on true (record { call = stop.call - length (syncs here.ready); image = stop.image }) (left_behind here step.clock step.asked (stop.call - length (syncs here.ready)) stop.image) refl
-
-  -- ---- where a call is to fail before
-  abbrev mid : Play
-  mid = play_unanswered hosts p step
-
-  abbrev late : Held Stage
-  late = stepped here step.clock step.asked
-
-  mid_is : IsPlay hosts mid
-  mid_is = unanswered_on hosts lawful p is 0 (omega arith) step can mid.scene (fault_of b step) (refl, refl, refl, sym (max_zero b.last), refl)
-
-  within : place < length b.seats
-  within = subst (λ (n : ℕ). place < n) (sym is.long) can.within
-
-  late_there : seat_at mid.scene place ≡ late
-  late_there = get_or-set_same b.seats place late _ within
-
-  abbrev kept_late : Bool
-  kept_late = is_kept_in 0 stop.image late.loose
-
-  abbrev left_late : Left
-  left_late = left_faulted here step.clock step.asked stop.image
-
-  reopened_stages : (t : Turns) → stages_after hosts (seen_by (but t place kept_late) mid.scene) (Move.Reopens place step.clock) ≡ chosen_from t 0 (set b.seats place (opened_on left_late step.clock))
-  reopened_stages t =
-      let stage : stage_at (seen_by (but t place kept_late) mid.scene) place ≡ chosen_stage kept_late late =
-      stage_chosen (but t place kept_late) mid.scene place ∙ (ap (λ (k : Bool). chosen_stage k (seat_at mid.scene place)) (but_here t place kept_late) ∙ ap (chosen_stage kept_late) late_there) in
-      ap (λ (s : Stage). set (chosen_from (but t place kept_late) 0 mid.scene.seats) place (acted s step.clock input.Open)) (stage ∙ sym (unsynced_left_is late 0 stop.image))
-      ∙ (ap (set (chosen_from (but t place kept_late) 0 mid.scene.seats) place) (sym (opened_chosen (t place) left_late step.clock))
-      ∙ (sym (chosen_set t place kept_late mid.scene.seats (opened_on left_late step.clock))
-      ∙ ap (chosen_from t 0) (set-set b.seats place late (opened_on left_late step.clock))))
-
-  reopened_on : IsPlay hosts (record { worlds = worlds_by hosts mid (reopen_fork late step stop.image); scene = behind left_late })
-  reopened_on =
-      restopped hosts (record { worlds = worlds_by hosts mid (reopen_fork late step stop.image); scene = record (behind left_late) { stops = b.stops } }) (disarmed place b.stops)
-      (forked hosts lawful mid mid_is m low (reopen_fork late step stop.image) (record (behind left_late) { stops = b.stops })
-      (λ t. (can.within, can.low)) (λ t. tt)
-      (λ t. seen_quiet hosts (seen_by (but t place kept_late) mid.scene) m (Move.Reopens place step.clock) (chosen_from t 0 (set b.seats place (opened_on left_late step.clock))) (landed_with step.landing b.flying) b.stops (reopened_stages t) refl refl refl)
-      (All-set IsSeat b.seats place (opened_on left_late step.clock) (opened_seat left_late) is.seats)
-      (length-set b.seats place (opened_on left_late step.clock) ∙ is.long))
-
-  pub crashed_on : IsPlay hosts (record { worlds = worlds_crashed hosts p step stop; scene = at_last m (scene_crashed b step stop) })
-  crashed_on = by (is_before stop.call (fault_at here))
-    where
-      by : (before : Bool) → IsPlay hosts (record {
-        worlds = if before then worlds_by hosts mid (reopen_fork late step stop.image) else worlds_by hosts p (stop_fork here step stop);
-        scene = behind (if before then left_late else left_stopped here step.clock step.asked stop);
-      })
-      by true = reopened_on
-      by false = stopped_on
 
 -- ---- moves
 -- that lines make
@@ -171,8 +107,8 @@ module _ (hosts : List ScriptHost) (lawful : AreLawfulHosts hosts) (p : Play) (i
       (stages : (t : Turns) → stages_after hosts (seen_by (but t step.place true) scene) move ≡ chosen_from t 0 (set scene.seats step.place (done (seat_at scene step.place) step.clock step.asked)))
       (joins : (t : Turns) → joining hosts (seen_by (but t step.place true) scene) move ≡ joining hosts (as_read scene) move)
       (flies : (t : Turns) → still_flying (seen_by t scene) move ≡ landed_with step.landing scene.flying) (stops : (t : Turns) → stops_after (seen_by t scene) move ≡ scene.stops) where
-    step_on : IsPlay hosts (record { worlds = worlds_step hosts p move step (stop_at (as_read scene) step.place); scene = at_last m (scene_step hosts scene move step (stop_at (as_read scene) step.place)) })
-    step_on = by (stop_at (as_read scene) step.place)
+    step_on : IsPlay hosts (record { worlds = worlds_step hosts p move step (stop_for scene step.place step.clock step.asked); scene = at_last m (scene_step hosts scene move step (stop_for scene step.place step.clock step.asked)) })
+    step_on = by (stop_for scene step.place step.clock step.asked)
       where
         by : (o : Option Stop) → IsPlay hosts (record { worlds = worlds_step hosts p move step o; scene = at_last m (scene_step hosts scene move step o) })
         by None = stepped_on hosts lawful p is m low step can move moves may stages joins flies stops

@@ -70,6 +70,20 @@ crashed :
 unfolding is_utf8 chars encode digits uuid_on_literals serde_json_on_literals escape_byte length_text_of record_length snapshot_length
 crashed = (refl, refl)
 
+-- A stop is armed as well: a fault at an earlier call disarms the host of it, and a stop at the same call comes first.
+abbrev stopping : Stop → List ScriptLine
+stopping stop = line.Crash 0 0 stop ∷ booking ∷ booking ∷ []
+
+both :
+    (lines_said plain hosts (failing 4) (numbered 1 (stopping (record { call = 5; image = Old })))
+    ≡ codes "1 armed\n2 503 {\"error\":\"disk\"}\n3 denied 3 conflict 00010000-0000-8001-8000-000000010000\n")
+    × (lines_said plain hosts (failing 4) (numbered 1 (stopping (record { call = 4; image = Old })))
+    ≡ codes "1 armed\n2 crashed\n3 accepted 00010000-0000-8001-8000-000000010000\n")
+    × (lines_said plain hosts (failing 5) (numbered 1 (stopping (record { call = 6; image = Old })))
+    ≡ codes "1 armed\n2 crashed\n3 denied 3 conflict 00010000-0000-8001-8000-000000010000\n")
+unfolding digits uuid_on_literals escape_byte length_text_of record_length snapshot_length
+both = (refl, refl, refl)
+
 -- a participant meets a fault as it accepts a run: its answer is a message of the script alone, and the order goes out again
 abbrev two : List ScriptHost
 two = record { name = codes "a"; number = 1 } ∷ record { name = codes "b"; number = 2 } ∷ []

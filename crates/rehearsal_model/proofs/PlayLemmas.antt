@@ -22,9 +22,9 @@ use Rattle.rehearsal_model.specs.Moves.{Move, flying_after, joining, landed_with
 use Rattle.rehearsal_model.specs.Plays.{IsPlay, IsSeat}
 use Rattle.rehearsal_model.specs.Reaching.{MayAsk, MayMove, Reaches}
 use Rattle.rehearsal_model.specs.Rehearsal.{Show, moved, seen}
-use Rattle.rehearsal_model.specs.Scenes.{Fork, Play, Scene, Step, Turns, as_read, at_last, broken_fork, brings_order, but, chosen_from, chosen_stage, count_sent, crash_by, fault_fork, fault_of, flying_then, is_synced, keeps_broken, kept_all, landing_move, lost_answer, never, nobody_seat, scene_stepped, seat_at, seat_in, seen_by, show_by, step_fork, surely, unanswered_fork, unless_fault, unsynced_fork, worlds_by, worlds_stepped}
+use Rattle.rehearsal_model.specs.Scenes.{Fork, Play, Scene, Step, Turns, as_read, at_last, broken_fork, brings_order, but, chosen_from, chosen_stage, count_sent, crash_by, fault_fork, fault_of, flying_then, is_synced, keeps_broken, kept_all, landing_move, lost_answer, never, nobody_seat, scene_stepped, seat_at, seat_in, seen_by, show_by, step_fork, stops_left, surely, unless_fault, unsynced_fork, worlds_by, worlds_stepped}
 use Rattle.rehearsal_model.specs.Seats.{broken_with, done, faulted, stepped_by, unsynced, written_at}
-use Rattle.rehearsal_model.specs.Seen.{Seen, acted, config_at, nobody, stage_at}
+use Rattle.rehearsal_model.specs.Seen.{Seen, acted, config_at, disarmed, nobody, stage_at}
 use Rattle.rehearsal_model.proofs.LineLemmas.{reaches_moved, seen_moved}
 use Rattle.rehearsal_model.proofs.MoveLemmas.{HasCause, IsMove}
 use Rattle.rehearsal_model.proofs.SceneLemmas.{broken_chosen, broken_seat, but_here, calm_seat, chosen_set, config_chosen, done_chosen, stage_chosen, synced_chosen, unsynced_seat}
@@ -54,6 +54,15 @@ module _ (hosts : List ScriptHost) (lawful : AreLawfulHosts hosts) (p : Play) (i
             subst (Reaches hosts) same (reaches_moved hosts lawful s reach m move can (subst (λ (x : Seen). MayMove x move) (sym now) (may t)) low),
             ap (seen hosts) (sym same) ∙ (seen_moved hosts lawful s reach m move can ∙ left),
           )
+
+-- with other steps that are to stop
+restopped : (hosts : List ScriptHost) (p : Play) (stops : List (ℕ × Stop)) → IsPlay hosts p → IsPlay hosts (record p { scene = record p.scene { stops = stops } })
+restopped hosts p stops is = record {
+  reaches = λ t. let r = is.reaches t in record { events = r.events; may = r.may; world = r.world; configs = r.configs; orderly = r.orderly; told = r.told; letters = r.letters; flying = r.flying; last = r.last };
+  sees = λ t. ap (λ (x : Seen). record x { stops = stops }) (is.sees t);
+  seats = is.seats;
+  long = is.long;
+}
 
 -- ---- a host's step
 -- it is a host of the script, and is asked what it may be asked
@@ -291,13 +300,7 @@ module _ (hosts : List ScriptHost) (lawful : AreLawfulHosts hosts) (p : Play) (i
           (λ t. broken_chosen here step.clock step.asked k w (t place)) later quiet
       by false quiet = unsynced_on number later quiet
 
-  -- ---- a step that is made and not answered, or meets a fault
-  pub unanswered_on : (later : Scene) (o : Option ℕ) → Quiet later (stepped_by here step.clock step.asked o) → IsPlay hosts (record { worlds = worlds_by hosts p (unanswered_fork here step o); scene = later })
-  unanswered_on later None q =
-      breaks_on (done here step.clock step.asked) (λ t. true) (calm_seat (done here step.clock step.asked) refl) (λ t. done_chosen (t place) here step.clock step.asked) later q
-  unanswered_on later (Some number) q = fault_on number later q
-
-  -- ---- a step that isn't to stop
+  -- ---- a step that doesn't stop
   module _ (move : Move) (moves : IsMove hosts (as_read b) move) (may : MayMove (as_read b) move)
       (stages : (t : Turns) → stages_after hosts (seen_by (but t place true) b) move ≡ chosen_from t 0 (set b.seats place (done here step.clock step.asked)))
       (joins : (t : Turns) → joining hosts (seen_by (but t place true) b) move ≡ joining hosts (as_read b) move)
@@ -327,11 +330,13 @@ module _ (hosts : List ScriptHost) (lawful : AreLawfulHosts hosts) (p : Play) (i
           letters = b.letters ++ unless_fault o (joining hosts (as_read b) move);
           flying = flying_then (as_read b) move step (flying_after hosts (as_read b) move) o;
           last = max b.last m;
-          stops = b.stops;
+          stops = stops_left o place b.stops;
           broken = b.broken ++ lost_answer o (brings_order (as_read b) move) (count_sent b + 1);
           unheard = b.unheard ++ lost_answer o (brings_order (as_read b) move) (count_sent b + 1);
         }
 
         by : (o : Option ℕ) → IsPlay hosts (record { worlds = worlds_by hosts p (step_fork here step move o); scene = scene_by o })
         by None = done_on (scene_by None) refl refl refl refl refl
-        by (Some number) = fault_on number (scene_by (Some number)) (refl, append-nil b.letters, refl, refl, refl)
+        by (Some number) =
+            let armed : Scene = record (scene_by (Some number)) { stops = b.stops } in
+            restopped hosts (record { worlds = worlds_by hosts p (fault_fork here step number); scene = armed }) (disarmed place b.stops) (fault_on number armed (refl, append-nil b.letters, refl, refl, refl))

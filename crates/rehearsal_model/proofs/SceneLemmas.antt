@@ -7,6 +7,7 @@ use Rattle.host_journal.specs.Crash.{is_new}
 use Rattle.host_model.specs.declared.config.Config.{Config}
 use Rattle.host_model.specs.declared.input.Input.{Input}
 use Rattle.host_model.specs.declared.input.Input.TheVariants as input
+use Rattle.host_model.specs.declared.reply.Reply.{Reply}
 use Rattle.machine_seat.specs.Crashed.{loose_in, state_unsynced}
 use Rattle.machine_seat.specs.Held.{Held, Loose, configured, syncs, with_record}
 use Rattle.machine_seat.specs.Seated.{loose_still}
@@ -14,7 +15,7 @@ use Rattle.psched_world.specs.World.{Stage}
 use Rattle.rehearsal_model.specs.After.{cut_stage}
 use Rattle.rehearsal_model.specs.Plays.{IsSeat}
 use Rattle.rehearsal_model.specs.Scenes.{Scene, Turns, but, chosen_from, chosen_stage, is_kept_in, is_synced, keeps_broken, loose_stage, nobody_seat, seat_at, seat_in, seen_by}
-use Rattle.rehearsal_model.specs.Seats.{Left, Written, broken_with, bytes_of, done, fault_in, opened_on, stage_with, stepped, stepped_by, unsynced, written_at}
+use Rattle.rehearsal_model.specs.Seats.{Left, Written, broken_with, bytes_of, done, fault_in, opened_on, reply_unless, stage_with, stepped, stepped_by, unsynced, written_at}
 use Rattle.rehearsal_model.specs.Seen.{acted, nobody, stage_at}
 use Rattle.rehearsal_model.proofs.HostLemmas.{same_number}
 use Rattle.rehearsal_model.proofs.SeenLemmas.{stage_in}
@@ -200,3 +201,12 @@ config_stepped h clock i = by (fault_in h clock i)
         go true true = refl
         go true false = refl
         go false kept = refl
+
+-- ---- whether a call failed, by what was answered
+pub failed : (f : Option ℕ) (said : Reply) → reply_unless f said ≡ None → (number : ℕ) × (f ≡ Some number)
+failed None said e = absurd cc
+failed (Some number) said e = (number, refl)
+
+pub unfailed : (f : Option ℕ) (said r : Reply) → reply_unless f said ≡ Some r → (f ≡ None) × (said ≡ r)
+unfailed None said r e = let same : said ≡ r = cc in (refl, same)
+unfailed (Some number) said r e = absurd cc

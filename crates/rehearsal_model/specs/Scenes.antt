@@ -11,7 +11,7 @@ use Rattle.host_model.specs.declared.input.Input.TheVariants as input
 use Rattle.host_model.specs.declared.view.Page.TheVariants as page
 use Rattle.host_model.specs.declared.reply.Reply.{Reply}
 use Rattle.machine_seat.specs.Crashed.{loose_in}
-use Rattle.machine_seat.specs.Held.{Held, Loose, armed_at, configured, fault_at, syncs}
+use Rattle.machine_seat.specs.Held.{Held, Loose, armed_at, configured, syncs}
 use Rattle.psched_world.specs.Events.{Cause, brings}
 use Rattle.psched_world.specs.World.{Letter, Stage, World}
 use Rattle.psched_script.specs.declared.script.Numbered.{Numbered}
@@ -26,7 +26,7 @@ use Rattle.rehearsal_model.specs.declared.came.Came.TheVariants as came
 use Rattle.rehearsal_model.specs.Moves.{Crash, Move, Outcomes, asking, attempt, flying_after, joining, landed_with, moment_of_line, receiver, stops_after, trying}
 use Rattle.rehearsal_model.specs.Rehearsal.{Show, first_world, moved, retooled}
 use Rattle.rehearsal_model.specs.Requests.{delete, get, post}
-use Rattle.rehearsal_model.specs.Seats.{answered, calm_on, crashed_at, done, fault_in, is_before, new_place, opened_anew, stage_with, stepped}
+use Rattle.rehearsal_model.specs.Seats.{answered, calm_on, crashed_at, done, fault_in, new_place, opened_anew, stage_with, stepped, stop_met}
 use Rattle.rehearsal_model.specs.Seen.{Seen, disarmed, landed, message, nobody, stop_at}
 
 pub record Scene : Type 0 where
@@ -98,9 +98,12 @@ came_by (Some stop) answer = came.Crashed
 came_by None None = came.Faulted
 came_by None (Some reply) = came.Answered reply
 
--- of the host at the place
+-- the stop that a step of the host at the place meets
+abbrev pub stop_for : Scene → ℕ → ℕ → Input → Option Stop
+stop_for b place clock i = stop_met (stop_at (as_read b) place) (fault_in (seat_at b place) clock i)
+
 abbrev pub came_at : Scene → ℕ → ℕ → Input → Came
-came_at b place clock i = came_by (stop_at (as_read b) place) (answered (seat_at b place) clock i)
+came_at b place clock i = came_by (stop_for b place clock i) (answered (seat_at b place) clock i)
 
 abbrev pub is_answered : Came → Bool
 is_answered came.Crashed = false
@@ -221,7 +224,7 @@ abbrev pub step_fork : Held Stage → Step → Move → Option ℕ → Fork
 step_fork h step move None = surely step.place move
 step_fork h step move (Some number) = fault_fork h step number
 
--- ---- a step that isn't to stop
+-- ---- a step that doesn't stop
 abbrev pub fault_of : Scene → Step → Option ℕ
 fault_of b step = fault_in (seat_at b step.place) step.clock step.asked
 
@@ -238,13 +241,18 @@ abbrev pub flying_then : Seen → Move → Step → List ℕ → Option ℕ → 
 flying_then b move step more None = more
 flying_then b move step more (Some number) = landed_with step.landing b.flying
 
+-- the first fault disarms the host of its stop too
+abbrev pub stops_left : Option ℕ → ℕ → List (ℕ × Stop) → List (ℕ × Stop)
+stops_left None place stops = stops
+stops_left (Some number) place stops = disarmed place stops
+
 abbrev pub scene_stepped : List ScriptHost → Scene → Move → Step → Scene
 scene_stepped hosts b move step = record {
   seats = set b.seats step.place (stepped (seat_at b step.place) step.clock step.asked);
   letters = b.letters ++ unless_fault (fault_of b step) (joining hosts (as_read b) move);
   flying = flying_then (as_read b) move step (flying_after hosts (as_read b) move) (fault_of b step);
   last = b.last;
-  stops = b.stops;
+  stops = stops_left (fault_of b step) step.place b.stops;
   broken = b.broken ++ lost_answer (fault_of b step) (brings_order (as_read b) move) (count_sent b + 1);
   unheard = b.unheard ++ lost_answer (fault_of b step) (brings_order (as_read b) move) (count_sent b + 1);
 }
@@ -252,7 +260,7 @@ scene_stepped hosts b move step = record {
 abbrev pub worlds_stepped : List ScriptHost → Play → Move → Step → Turns → World
 worlds_stepped hosts p move step = worlds_by hosts p (step_fork (seat_at p.scene step.place) step move (fault_of p.scene step))
 
--- ---- a step that is to stop
+-- ---- a step that stops
 -- how what is loose turns out in an image
 abbrev pub is_kept_in : ℕ → Image → Option (Loose Stage) → Bool
 is_kept_in stop image None = true
@@ -263,28 +271,6 @@ stop_fork h step stop =
     if not h.ready && nat_le stop.call 2 then record { from = λ turns. but turns step.place (is_kept_in stop.call stop.image h.loose); move = λ turns. Move.Crashes (crash_by step never) }
     else surely step.place (Move.Crashes (crash_by step (record { call = stop.call - length (syncs h.ready); image = stop.image })))
 
--- a step that is made and not answered, or meets a fault
-abbrev pub unanswered_fork : Held Stage → Step → Option ℕ → Fork
-unanswered_fork h step None = surely step.place (Move.Breaks (crash_by step never) true)
-unanswered_fork h step (Some number) = fault_fork h step number
-
--- what is loose turns out in the image, and the host is opened again
-abbrev pub reopen_fork : Held Stage → Step → Image → Fork
-reopen_fork h step image = record { from = λ turns. but turns step.place (is_kept_in 0 image h.loose); move = λ turns. Move.Reopens step.place step.clock }
-
--- after such a step the message that brought it has landed
-abbrev pub scene_unanswered : Scene → Step → Scene
-scene_unanswered b step = record b {
-  seats = set b.seats step.place (stepped (seat_at b step.place) step.clock step.asked);
-  flying = landed_with step.landing b.flying;
-}
-
-abbrev pub play_unanswered : List ScriptHost → Play → Step → Play
-play_unanswered hosts p step = record {
-  worlds = worlds_by hosts p (unanswered_fork (seat_at p.scene step.place) step (fault_of p.scene step));
-  scene = scene_unanswered p.scene step;
-}
-
 abbrev pub scene_crashed : Scene → Step → Stop → Scene
 scene_crashed b step stop = record b {
   seats = set b.seats step.place (crashed_at (seat_at b step.place) step.clock step.asked stop);
@@ -293,10 +279,7 @@ scene_crashed b step stop = record b {
 }
 
 abbrev pub worlds_crashed : List ScriptHost → Play → Step → Stop → Turns → World
-worlds_crashed hosts p step stop =
-    if is_before stop.call (fault_at (seat_at p.scene step.place))
-    then worlds_by hosts (play_unanswered hosts p step) (reopen_fork (stepped (seat_at p.scene step.place) step.clock step.asked) step stop.image)
-    else worlds_by hosts p (stop_fork (seat_at p.scene step.place) step stop)
+worlds_crashed hosts p step stop = worlds_by hosts p (stop_fork (seat_at p.scene step.place) step stop)
 
 -- ---- moves
 abbrev pub scene_step : List ScriptHost → Scene → Move → Step → Option Stop → Scene
@@ -317,11 +300,11 @@ scene_rested b _ = b
 
 abbrev pub scene_by : List ScriptHost → Scene → Move → Option Step → Scene
 scene_by hosts b move None = scene_rested b move
-scene_by hosts b move (Some step) = scene_step hosts b move step (stop_at (as_read b) step.place)
+scene_by hosts b move (Some step) = scene_step hosts b move step (stop_for b step.place step.clock step.asked)
 
 abbrev pub worlds_move : List ScriptHost → Play → Move → Option Step → Turns → World
 worlds_move hosts p move None = worlds_by hosts p (plainly move)
-worlds_move hosts p move (Some step) = worlds_step hosts p move step (stop_at (as_read p.scene) step.place)
+worlds_move hosts p move (Some step) = worlds_step hosts p move step (stop_for p.scene step.place step.clock step.asked)
 
 -- what a line does
 pub data Deed : Type 0 where

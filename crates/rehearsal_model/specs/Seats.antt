@@ -151,10 +151,6 @@ abbrev pub opened_anew : Config → Held Stage
 opened_anew config = opened_on (new_left config) 0
 
 -- ---- crashes
--- a crash between two steps: what is loose is kept in the image that keeps what no sync made sure of
-abbrev pub left_now : Held Stage → Image → Left
-left_now h image = record { state = state_unsynced h.state h.loose 0 image; place = place_unsynced h.place h.loose 0 image }
-
 -- a crash in a sync with which the step begins
 abbrev pub left_unsynced : Held Stage → ℕ → Image → Left
 left_unsynced h stop image = record { state = state_unsynced h.state h.loose stop image; place = place_unsynced h.place h.loose stop image }
@@ -166,27 +162,34 @@ left_behind h clock i number image = record {
   place = place_stopped number image h.place (written_at h clock i).record_bytes (written_at h clock i).snapshot_bytes;
 }
 
--- of a step that stops where nothing failed before
+-- of a step that stops
 abbrev pub left_stopped : Held Stage → ℕ → Input → Stop → Left
 left_stopped h clock i stop =
     if not h.ready && nat_le stop.call 2 then left_unsynced h stop.call stop.image
     else left_behind h clock i (stop.call - length (syncs h.ready)) stop.image
 
--- of one in which a call is to fail that comes before the stop: a crash behind that call, or behind the last one where the step makes fewer
-abbrev pub left_faulted : Held Stage → ℕ → Input → Image → Left
-left_faulted h clock i image = left_now (stepped h clock i) image
+-- the step stops, and the host is opened again
+abbrev pub crashed_at : Held Stage → ℕ → Input → Stop → Held Stage
+crashed_at h clock i stop = opened_on (left_stopped h clock i stop) clock
 
--- the call that is to fail comes before the stop
+-- the call that fails comes before the stop
 abbrev pub is_before : ℕ → Option ℕ → Bool
 is_before stop None = false
 is_before stop (Some number) = nat_lt number stop
 
-abbrev pub left_of : Held Stage → ℕ → Input → Stop → Left
-left_of h clock i stop = if is_before stop.call (fault_at h) then left_faulted h clock i stop.image else left_stopped h clock i stop
+-- the stop that a step meets: none where one of its calls fails before, since the first fault disarms the host of it
+abbrev pub stop_met : Option Stop → Option ℕ → Option Stop
+stop_met None failed = None
+stop_met (Some stop) failed = if is_before stop.call failed then None else Some stop
 
--- the step stops, and the host is opened again
-abbrev pub crashed_at : Held Stage → ℕ → Input → Stop → Held Stage
-crashed_at h clock i stop = opened_on (left_of h clock i stop) clock
+-- the host behind a step, by the stop that it met
+abbrev pub ended : Held Stage → ℕ → Input → Option Stop → Held Stage
+ended h clock i None = stepped h clock i
+ended h clock i (Some stop) = crashed_at h clock i stop
+
+-- of a host that is to stop
+abbrev pub ended_at : Held Stage → ℕ → Input → Stop → Held Stage
+ended_at h clock i stop = ended h clock i (stop_met (Some stop) (fault_in h clock i))
 
 -- ---- configurations
 -- a stage with another configuration; a host with one is `configured stage_with`

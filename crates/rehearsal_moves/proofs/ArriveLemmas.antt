@@ -13,8 +13,9 @@ use Rattle.api_heard.specs.Replied.{IsReplyTo}
 use Rattle.api_law.specs.Widths.{HasWidths}
 use Rattle.rehearsal_model.specs.Moves.{Move.Arrives, receiver, reply_to}
 use Rattle.rehearsal_model.specs.Reaching.{IsKnown}
-use Rattle.rehearsal_model.specs.Scenes.{Deed.Does, Scene, as_read, came_at, config_of, kept_all, scene_deed}
-use Rattle.rehearsal_model.specs.Seen.{landed, message, stop_at}
+use Rattle.rehearsal_model.specs.Scenes.{Deed.Does, Scene, as_read, came_at, config_of, kept_all, scene_deed, seat_at, stop_for}
+use Rattle.rehearsal_model.specs.Seats.{fault_in}
+use Rattle.rehearsal_model.specs.Seen.{landed, message}
 use Rattle.rehearsal_model.specs.declared.came.Came.{Came}
 use Rattle.rehearsal_model.specs.declared.came.Came.TheVariants as came
 use Rattle.rehearsal_model.proofs.SceneLemmas.{stage_chosen}
@@ -72,16 +73,16 @@ module _ (hosts : List ScriptHost) (b : Scene) (n : ℕ) (l : Letter) (playing :
 
     -- a step of a host leaves as many hosts, and the messages
     pub within_now : (now : Scene) (clock : ℕ) (i : Input) → now ≡ with_step first (receiver hosts l) clock i → place < length now.seats
-    within_now now clock i now_is = subst (λ k. place < k) (sym (ap (λ (x : Scene). length x.seats) now_is ∙ many (stop_at (as_read b) (receiver hosts l)))) within
+    within_now now clock i now_is = subst (λ k. place < k) (sym (ap (λ (x : Scene). length x.seats) now_is ∙ many (stop_for b (receiver hosts l) clock i))) within
       where
-        many : (o : Option Stop) → length (with_either first (receiver hosts l) clock i o).seats ≡ length b.seats
+        many : (o : Option Stop) → length (with_either first (receiver hosts l) clock i (fault_in (seat_at b (receiver hosts l)) clock i) o).seats ≡ length b.seats
         many None = length-set b.seats (receiver hosts l) _
         many (Some stop) = length-set b.seats (receiver hosts l) _
 
   pub letters_now : (now : Scene) (clock : ℕ) (i : Input) → now ≡ with_step first (receiver hosts l) clock i → now.letters ≡ b.letters
-  letters_now now clock i now_is = ap (λ (x : Scene). x.letters) now_is ∙ by (stop_at (as_read b) (receiver hosts l))
+  letters_now now clock i now_is = ap (λ (x : Scene). x.letters) now_is ∙ by (stop_for b (receiver hosts l) clock i)
     where
-      by : (o : Option Stop) → (with_either first (receiver hosts l) clock i o).letters ≡ b.letters
+      by : (o : Option Stop) → (with_either first (receiver hosts l) clock i (fault_in (seat_at b (receiver hosts l)) clock i) o).letters ≡ b.letters
       by None = refl
       by (Some stop) = refl
 

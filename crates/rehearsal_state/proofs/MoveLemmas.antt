@@ -15,11 +15,11 @@ use Rattle.psched_world.specs.World.{Letter, Stage}
 use Rattle.psched_script.specs.declared.script.ScriptHost.{ScriptHost}
 use Rattle.psched_script.specs.declared.script.Stop.{Stop}
 use Rattle.rehearsal_model.specs.Moves.{Move, flying_after, is_untold, joining, letter_of, numbers_from, receiver, replied, replies, sent_by}
-use Rattle.rehearsal_model.specs.Scenes.{Deed.Does, Scene, Step, as_read, brings_order, came_at, came_by, config_of, count_sent, fault_of, flying_then, is_order, is_unanswered, kept_all, lost_answer, nobody_seat, scene_by, scene_crashed, scene_deed, scene_step, seat_at, step_by, unless_fault}
-use Rattle.rehearsal_model.specs.Seats.{answered, done, fault_in, reply_unless, stepped, stepped_by}
-use Rattle.rehearsal_model.specs.Seen.{Seen, acted, landed, message, stage_at, stop_at}
+use Rattle.rehearsal_model.specs.Scenes.{Deed.Does, Scene, Step, as_read, brings_order, came_at, came_by, config_of, count_sent, fault_of, flying_then, is_order, is_unanswered, kept_all, lost_answer, nobody_seat, scene_by, scene_crashed, scene_deed, scene_step, seat_at, step_by, stop_for, stops_left, unless_fault}
+use Rattle.rehearsal_model.specs.Seats.{answered, done, fault_in, stepped, stepped_by}
+use Rattle.rehearsal_model.specs.Seen.{Seen, acted, disarmed, landed, message, stage_at}
 use Rattle.rehearsal_model.specs.declared.came.Came.TheVariants as came
-use Rattle.rehearsal_model.proofs.SceneLemmas.{stage_chosen}
+use Rattle.rehearsal_model.proofs.SceneLemmas.{failed, stage_chosen, unfailed}
 use Rattle.rehearsal_state.specs.Moved.{sent_of, with_act, with_broken, with_either, with_letters, with_step}
 
 -- ---- letters
@@ -67,14 +67,6 @@ answered_by None None r e = absurd cc
 answered_by None (Some reply) r e = let same : reply ≡ r = cc in (refl, ap Some same)
 answered_by (Some stop) a r e = absurd cc
 
-failed : (f : Option ℕ) (said : Reply) → reply_unless f said ≡ None → (number : ℕ) × (f ≡ Some number)
-failed None said e = absurd cc
-failed (Some number) said e = (number, refl)
-
-unfailed : (f : Option ℕ) (said r : Reply) → reply_unless f said ≡ Some r → (f ≡ None) × (said ≡ r)
-unfailed None said r e = let same : said ≡ r = cc in (refl, same)
-unfailed (Some number) said r e = absurd cc
-
 module _ (b : Scene) (place clock : ℕ) (i : Input) where
   -- a step that was answered was made
   pub act_done : (r : Reply) → answered (seat_at b place) clock i ≡ Some r → with_act b place clock i ≡ record b { seats = set b.seats place (done (seat_at b place) clock i) }
@@ -88,19 +80,23 @@ module _ (b : Scene) (place clock : ℕ) (i : Input) where
   abbrev said : Reply
   said = step_reply h.state.config h.state.book clock i
 
-  pub stops_there : came_at b place clock i ≡ came.Crashed → (stop : Stop) × (stop_at (as_read b) place ≡ Some stop)
-  stops_there e = crashed_by (stop_at (as_read b) place) (answered h clock i) e
+  pub stops_there : came_at b place clock i ≡ came.Crashed → (stop : Stop) × (stop_for b place clock i ≡ Some stop)
+  stops_there e = crashed_by (stop_for b place clock i) (answered h clock i) e
 
   -- a call of a disk failed
-  pub fails_there : came_at b place clock i ≡ came.Faulted → (stop_at (as_read b) place ≡ None) × ((number : ℕ) × (fault_in h clock i ≡ Some number))
-  fails_there e = let x = faulted_by (stop_at (as_read b) place) (answered h clock i) e in (x.0, failed (fault_in h clock i) said x.1)
+  pub fails_there : came_at b place clock i ≡ came.Faulted → (stop_for b place clock i ≡ None) × ((number : ℕ) × (fault_in h clock i ≡ Some number))
+  fails_there e = let x = faulted_by (stop_for b place clock i) (answered h clock i) e in (x.0, failed (fault_in h clock i) said x.1)
+
+  -- which call fails, where the step doesn't stop
+  made_with : (f : Option ℕ) → stop_for b place clock i ≡ None → fault_in h clock i ≡ f → with_step b place clock i ≡ with_either b place clock i f None
+  made_with f none fails = ap (with_either b place clock i (fault_in h clock i)) none ∙ ap (λ x. with_either b place clock i x None) fails
 
   -- neither
   module _ (r : Reply) (e : came_at b place clock i ≡ came.Answered r) where
-    abbrev parts : (stop_at (as_read b) place ≡ None) × (answered h clock i ≡ Some r)
-    parts = answered_by (stop_at (as_read b) place) (answered h clock i) r e
+    abbrev parts : (stop_for b place clock i ≡ None) × (answered h clock i ≡ Some r)
+    parts = answered_by (stop_for b place clock i) (answered h clock i) r e
 
-    pub none_stops : stop_at (as_read b) place ≡ None
+    pub none_stops : stop_for b place clock i ≡ None
     none_stops = parts.0
 
     pub none_fails : fault_in h clock i ≡ None
@@ -109,8 +105,11 @@ module _ (b : Scene) (place clock : ℕ) (i : Input) where
     pub said_so : said ≡ r
     said_so = (unfailed (fault_in h clock i) said r parts.1).1
 
+    acts : with_step b place clock i ≡ with_act b place clock i
+    acts = made_with None none_stops none_fails
+
     done_so : with_step b place clock i ≡ record b { seats = set b.seats place (done h clock i) }
-    done_so = ap (with_either b place clock i) none_stops ∙ act_done r parts.1
+    done_so = acts ∙ act_done r parts.1
 
     -- the host then
     module _ (within : place < length b.seats) where
@@ -129,9 +128,9 @@ module _ (b : Scene) (place clock : ℕ) (i : Input) where
 
 -- a step sends nothing
 pub letters_kept : (b : Scene) (place clock : ℕ) (i : Input) → (with_step b place clock i).letters ≡ b.letters
-letters_kept b place clock i = by (stop_at (as_read b) place)
+letters_kept b place clock i = by (stop_for b place clock i)
   where
-    by : (o : Option Stop) → (with_either b place clock i o).letters ≡ b.letters
+    by : (o : Option Stop) → (with_either b place clock i (fault_in (seat_at b place) clock i) o).letters ≡ b.letters
     by None = refl
     by (Some stop) = refl
 
@@ -142,7 +141,7 @@ stepped_with hosts b move step f = record {
   letters = b.letters ++ unless_fault f (joining hosts (as_read b) move);
   flying = flying_then (as_read b) move step (flying_after hosts (as_read b) move) f;
   last = b.last;
-  stops = b.stops;
+  stops = stops_left f step.place b.stops;
   broken = b.broken ++ lost_answer f (brings_order (as_read b) move) (count_sent b + 1);
   unheard = b.unheard ++ lost_answer f (brings_order (as_read b) move) (count_sent b + 1);
 }
@@ -152,36 +151,36 @@ none_lost None n = refl
 none_lost (Some number) n = refl
 
 -- by these parts
-abbrev with_parts : Scene → List (Held Stage) → List Letter → List ℕ → List ℕ → Scene
-with_parts b seats letters flying lost = record { seats = seats; letters = letters; flying = flying; last = b.last; stops = b.stops; broken = b.broken ++ lost; unheard = b.unheard ++ lost }
+abbrev with_parts : Scene → List (Held Stage) → List Letter → List ℕ → List (ℕ × Stop) → List ℕ → Scene
+with_parts b seats letters flying stops lost = record { seats = seats; letters = letters; flying = flying; last = b.last; stops = stops; broken = b.broken ++ lost; unheard = b.unheard ++ lost }
 
-joined : (b : Scene) (seats : List (Held Stage)) (letters : List Letter) (flying : List ℕ) (more : List Letter) (flown lost : List ℕ) → more ≡ letters → flown ≡ flying → lost ≡ []
-    → with_parts b seats (b.letters ++ more) flown lost ≡ record b { seats = seats; letters = b.letters ++ letters; flying = flying }
-joined b seats letters flying more flown lost j f l =
-    ap (λ x. with_parts b seats (b.letters ++ x) flown lost) j
-    ∙ (ap (λ x. with_parts b seats (b.letters ++ letters) x lost) f
-    ∙ (ap (λ x. with_parts b seats (b.letters ++ letters) flying x) l
-    ∙ (ap (λ x. record b { seats = seats; letters = b.letters ++ letters; flying = flying; broken = x; unheard = b.unheard ++ [] }) (append-nil b.broken)
-    ∙ ap (λ x. record b { seats = seats; letters = b.letters ++ letters; flying = flying; unheard = x }) (append-nil b.unheard))))
+joined : (b : Scene) (seats : List (Held Stage)) (stops : List (ℕ × Stop)) (letters : List Letter) (flying : List ℕ) (more : List Letter) (flown lost : List ℕ) → more ≡ letters → flown ≡ flying → lost ≡ []
+    → with_parts b seats (b.letters ++ more) flown stops lost ≡ record b { seats = seats; letters = b.letters ++ letters; flying = flying; stops = stops }
+joined b seats stops letters flying more flown lost j f l =
+    ap (λ x. with_parts b seats (b.letters ++ x) flown stops lost) j
+    ∙ (ap (λ x. with_parts b seats (b.letters ++ letters) x stops lost) f
+    ∙ (ap (λ x. with_parts b seats (b.letters ++ letters) flying stops x) l
+    ∙ (ap (λ x. record b { seats = seats; letters = b.letters ++ letters; flying = flying; stops = stops; broken = x; unheard = b.unheard ++ [] }) (append-nil b.broken)
+    ∙ ap (λ x. record b { seats = seats; letters = b.letters ++ letters; flying = flying; stops = stops; unheard = x }) (append-nil b.unheard))))
 
-quiet : (b : Scene) (seats : List (Held Stage)) (flying : List ℕ) → record b { seats = seats; letters = b.letters ++ []; flying = flying } ≡ record b { seats = seats; flying = flying }
-quiet b seats flying = ap (λ x. record b { seats = seats; letters = x; flying = flying }) (append-nil b.letters)
+quiet : (b : Scene) (seats : List (Held Stage)) (stops : List (ℕ × Stop)) (flying : List ℕ) → record b { seats = seats; letters = b.letters ++ []; flying = flying; stops = stops } ≡ record b { seats = seats; flying = flying; stops = stops }
+quiet b seats stops flying = ap (λ x. record b { seats = seats; letters = x; flying = flying; stops = stops }) (append-nil b.letters)
 
 module _ (hosts : List ScriptHost) (b : Scene) (place clock : ℕ) (i : Input) (move : Move) (cause : Cause) where
   abbrev step : Step
   step = record { place = place; clock = clock; cause = cause; asked = i; landing = None }
 
   quiet_step : (f : Option ℕ) → unless_fault f (joining hosts (as_read b) move) ≡ [] → flying_then (as_read b) move step (flying_after hosts (as_read b) move) f ≡ b.flying → brings_order (as_read b) move ≡ false
-      → stepped_with hosts b move step f ≡ with_act b place clock i
+      → stepped_with hosts b move step f ≡ with_either b place clock i f None
   quiet_step f j fl o =
-      joined b (set b.seats place (stepped (seat_at b place) clock i)) [] b.flying (unless_fault f (joining hosts (as_read b) move)) (flying_then (as_read b) move step (flying_after hosts (as_read b) move) f)
+      joined b (set b.seats place (stepped (seat_at b place) clock i)) (stops_left f place b.stops) [] b.flying (unless_fault f (joining hosts (as_read b) move)) (flying_then (as_read b) move step (flying_after hosts (as_read b) move) f)
       (lost_answer f (brings_order (as_read b) move) (count_sent b + 1)) j fl (ap (λ (t : Bool). lost_answer f t (count_sent b + 1)) o ∙ none_lost f (count_sent b + 1))
-      ∙ quiet b (set b.seats place (stepped (seat_at b place) clock i)) b.flying
+      ∙ quiet b (set b.seats place (stepped (seat_at b place) clock i)) (stops_left f place b.stops) b.flying
 
   -- of a move by which nothing ever joins
   pub silent : joining hosts (as_read b) move ≡ [] → flying_after hosts (as_read b) move ≡ b.flying ++ numbers_from (length b.letters + 1) (joining hosts (as_read b) move) → brings_order (as_read b) move ≡ false
-      → with_step b place clock i ≡ scene_step hosts b move step (stop_at (as_read b) place)
-  silent j fl o = by (stop_at (as_read b) place)
+      → with_step b place clock i ≡ scene_step hosts b move step (stop_for b place clock i)
+  silent j fl o = by (stop_for b place clock i)
     where
       joins : (f : Option ℕ) → unless_fault f (joining hosts (as_read b) move) ≡ []
       joins None = j
@@ -191,7 +190,7 @@ module _ (hosts : List ScriptHost) (b : Scene) (place clock : ℕ) (i : Input) (
       flies None = fl ∙ (ap (λ ls. b.flying ++ numbers_from (length b.letters + 1) ls) j ∙ append-nil b.flying)
       flies (Some number) = refl
 
-      by : (o : Option Stop) → with_either b place clock i o ≡ scene_step hosts b move step o
+      by : (s : Option Stop) → with_either b place clock i (fault_of b step) s ≡ scene_step hosts b move step s
       by None = sym (quiet_step (fault_of b step) (joins (fault_of b step)) (flies (fault_of b step)) o)
       by (Some stop) = refl
 
@@ -212,12 +211,12 @@ module _ (hosts : List ScriptHost) (b : Scene) (place clock : ℕ) where
   pub turn_crashed : came_at b place clock Turn ≡ came.Crashed → with_step b place clock Turn ≡ scene_deed hosts b (Does turns)
   turn_crashed e =
       let x = stops_there b place clock Turn e in
-      ap (with_either b place clock Turn) x.1 ∙ sym (ap (scene_step hosts b turns turning) x.1)
+      ap (with_either b place clock Turn (fault_of b turning)) x.1 ∙ sym (ap (scene_step hosts b turns turning) x.1)
 
   pub turn_faulted : came_at b place clock Turn ≡ came.Faulted → with_step b place clock Turn ≡ scene_deed hosts b (Does turns)
   turn_faulted e =
       let x = fails_there b place clock Turn e in
-      ap (with_either b place clock Turn) x.0
+      made_with b place clock Turn (Some x.1.0) x.0 x.1.1
       ∙ (sym (quiet_step hosts b place clock Turn turns (Cause.ByInner Turn) (Some x.1.0) refl refl refl)
       ∙ (ap (stepped_with hosts b turns turning) (sym x.1.1)
       ∙ sym (ap (scene_step hosts b turns turning) x.0)))
@@ -240,10 +239,9 @@ module _ (hosts : List ScriptHost) (b : Scene) (place clock : ℕ) where
     turned =
         let none = none_fails b place clock Turn r e in
         let seats : List (Held Stage) = set b.seats place (stepped (seat_at b place) clock Turn) in
-        let acts : later ≡ with_act b place clock Turn = ap (with_either b place clock Turn) (none_stops b place clock Turn r e) in
         ap (with_letters later) sends
-        ∙ (ap (λ (x : Scene). with_letters x sent) acts
-        ∙ (sym (joined b seats sent (b.flying ++ numbers_from (length b.letters + 1) sent) sent (b.flying ++ numbers_from (length b.letters + 1) sent) [] refl refl refl)
+        ∙ (ap (λ (x : Scene). with_letters x sent) (acts b place clock Turn r e)
+        ∙ (sym (joined b seats b.stops sent (b.flying ++ numbers_from (length b.letters + 1) sent) sent (b.flying ++ numbers_from (length b.letters + 1) sent) [] refl refl refl)
         ∙ (ap (stepped_with hosts b turns turning) (sym none)
         ∙ sym (ap (scene_step hosts b turns turning) (none_stops b place clock Turn r e)))))
 
@@ -255,7 +253,7 @@ taken hosts b n clock m step f = record {
   letters = b.letters ++ unless_fault f (replies hosts (as_read b) clock m);
   flying = flying_then (as_read b) (Move.Arrives n clock) step (landed n b.flying ++ numbers_from (length b.letters + 1) (replies hosts (as_read b) clock m)) f;
   last = b.last;
-  stops = b.stops;
+  stops = stops_left f step.place b.stops;
   broken = b.broken ++ lost_answer f (is_order m) (count_sent b + 1);
   unheard = b.unheard ++ lost_answer f (is_order m) (count_sent b + 1);
 }
@@ -266,11 +264,11 @@ taken_unless hosts b n clock m step (Some stop) = scene_crashed b step stop
 
 abbrev coming : List ScriptHost → Scene → ℕ → ℕ → Option Letter → Option Step → Scene
 coming hosts b n clock m None = record b { flying = landed n b.flying }
-coming hosts b n clock m (Some step) = taken_unless hosts b n clock m step (stop_at (as_read b) step.place)
+coming hosts b n clock m (Some step) = taken_unless hosts b n clock m step (stop_for b step.place step.clock step.asked)
 
 same_coming : (hosts : List ScriptHost) (b : Scene) (n clock : ℕ) (o : Option Step) → coming hosts b n clock (message (as_read b) n) o ≡ scene_by hosts b (Move.Arrives n clock) o
 same_coming hosts b n clock None = refl
-same_coming hosts b n clock (Some step) = by (stop_at (as_read b) step.place)
+same_coming hosts b n clock (Some step) = by (stop_for b step.place step.clock step.asked)
   where
     by : (o : Option Stop) → taken_unless hosts b n clock (message (as_read b) n) step o ≡ scene_step hosts b (Move.Arrives n clock) step o
     by None = refl
@@ -297,7 +295,7 @@ module _ (hosts : List ScriptHost) (b : Scene) (n clock : ℕ) (l : Letter) (sen
   then_seats = set b.seats place (stepped (seat_at b place) clock i)
 
   -- with this answer to it
-  taken_as : (f : Option ℕ) → fault_in (seat_at b place) clock i ≡ f → stop_at (as_read b) place ≡ None → taken hosts b n clock (Some l) coming_step f ≡ scene_deed hosts b (Does (Move.Arrives n clock))
+  taken_as : (f : Option ℕ) → fault_in (seat_at b place) clock i ≡ f → stop_for b place clock i ≡ None → taken hosts b n clock (Some l) coming_step f ≡ scene_deed hosts b (Does (Move.Arrives n clock))
   taken_as f is none =
       ap (taken hosts b n clock (Some l) coming_step) (sym is)
       ∙ (sym (ap (taken_unless hosts b n clock (Some l) coming_step) none)
@@ -306,7 +304,7 @@ module _ (hosts : List ScriptHost) (b : Scene) (n clock : ℕ) (l : Letter) (sen
   pub arrival_crashed : came_at b place clock i ≡ came.Crashed → with_step landed_first place clock i ≡ scene_deed hosts b (Does (Move.Arrives n clock))
   arrival_crashed e =
       let x = stops_there b place clock i e in
-      ap (with_either landed_first place clock i) x.1
+      ap (with_either landed_first place clock i (fault_of b coming_step)) x.1
       ∙ (sym (ap (taken_unless hosts b n clock (Some l) coming_step) x.1)
       ∙ comes_as hosts b n clock (Some l) sent)
 
@@ -315,13 +313,13 @@ module _ (hosts : List ScriptHost) (b : Scene) (n clock : ℕ) (l : Letter) (sen
     pub order_faulted : came_at b place clock i ≡ came.Faulted → with_broken (with_step landed_first place clock i) ≡ scene_deed hosts b (Does (Move.Arrives n clock))
     order_faulted e =
         let x = fails_there b place clock i e in
-        ap (λ (o : Option Stop). with_broken (with_either landed_first place clock i o)) x.0
+        ap with_broken (made_with landed_first place clock i (Some x.1.0) x.0 x.1.1)
         ∙ (sym (ap (λ (t : Bool). record {
           seats = then_seats;
           letters = b.letters ++ [];
           flying = landed n b.flying;
           last = b.last;
-          stops = b.stops;
+          stops = disarmed place b.stops;
           broken = b.broken ++ lost_answer (Some x.1.0) t (count_sent b + 1);
           unheard = b.unheard ++ lost_answer (Some x.1.0) t (count_sent b + 1);
         }) (ap is_unanswered order)
@@ -330,7 +328,7 @@ module _ (hosts : List ScriptHost) (b : Scene) (n clock : ℕ) (l : Letter) (sen
           letters = ls;
           flying = landed n b.flying;
           last = b.last;
-          stops = b.stops;
+          stops = disarmed place b.stops;
           broken = b.broken ++ (count_sent b + 1) ∷ [];
           unheard = b.unheard ++ (count_sent b + 1) ∷ [];
         }) (append-nil b.letters))
@@ -343,8 +341,8 @@ module _ (hosts : List ScriptHost) (b : Scene) (n clock : ℕ) (l : Letter) (sen
         ap (replied hosts (as_read b) clock l) order
         ∙ ap (λ (s : Reply). record l { reply = Some s } ∷ [])
         (ap (λ (s : Stage). step_reply s.config s.book clock i) (stage_chosen kept_all b place) ∙ said_so b place clock i r e) in
-        ap (λ (o : Option Stop). with_letters (with_either landed_first place clock i o) (record l { reply = Some r } ∷ [])) none
-        ∙ (sym (joined b then_seats (record l { reply = Some r } ∷ []) (landed n b.flying ++ numbers_from (length b.letters + 1) (record l { reply = Some r } ∷ []))
+        ap (λ (x : Scene). with_letters x (record l { reply = Some r } ∷ [])) (acts landed_first place clock i r e)
+        ∙ (sym (joined b then_seats b.stops (record l { reply = Some r } ∷ []) (landed n b.flying ++ numbers_from (length b.letters + 1) (record l { reply = Some r } ∷ []))
         (replies hosts (as_read b) clock (Some l)) (landed n b.flying ++ numbers_from (length b.letters + 1) (replies hosts (as_read b) clock (Some l))) [] said
         (ap (λ ls. landed n b.flying ++ numbers_from (length b.letters + 1) ls) said) refl)
         ∙ taken_as None (none_fails b place clock i r e) none)
@@ -354,18 +352,18 @@ module _ (hosts : List ScriptHost) (b : Scene) (n clock : ℕ) (l : Letter) (sen
     pub reply_faulted : came_at b place clock i ≡ came.Faulted → with_step landed_first place clock i ≡ scene_deed hosts b (Does (Move.Arrives n clock))
     reply_faulted e =
         let x = fails_there b place clock i e in
-        ap (with_either landed_first place clock i) x.0
-        ∙ (sym (joined b then_seats [] (landed n b.flying) [] (landed n b.flying) (lost_answer (Some x.1.0) (is_unanswered l.reply) (count_sent b + 1)) refl refl
+        made_with landed_first place clock i (Some x.1.0) x.0 x.1.1
+        ∙ (sym (joined b then_seats (disarmed place b.stops) [] (landed n b.flying) [] (landed n b.flying) (lost_answer (Some x.1.0) (is_unanswered l.reply) (count_sent b + 1)) refl refl
         (ap (λ (o : Option Reply). lost_answer (Some x.1.0) (is_unanswered o) (count_sent b + 1)) reply)
-        ∙ quiet b then_seats (landed n b.flying))
+        ∙ quiet b then_seats (disarmed place b.stops) (landed n b.flying))
         ∙ taken_as (Some x.1.0) x.1.1 x.0)
 
     pub reply_heard : (r : Reply) → came_at b place clock i ≡ came.Answered r → with_step landed_first place clock i ≡ scene_deed hosts b (Does (Move.Arrives n clock))
     reply_heard r e =
         let none = none_stops b place clock i r e in
         let none_said : replies hosts (as_read b) clock (Some l) ≡ [] = ap (replied hosts (as_read b) clock l) reply in
-        ap (with_either landed_first place clock i) none
-        ∙ (sym (joined b then_seats [] (landed n b.flying) (replies hosts (as_read b) clock (Some l)) (landed n b.flying ++ numbers_from (length b.letters + 1) (replies hosts (as_read b) clock (Some l))) [] none_said
+        acts landed_first place clock i r e
+        ∙ (sym (joined b then_seats b.stops [] (landed n b.flying) (replies hosts (as_read b) clock (Some l)) (landed n b.flying ++ numbers_from (length b.letters + 1) (replies hosts (as_read b) clock (Some l))) [] none_said
         (ap (λ ls. landed n b.flying ++ numbers_from (length b.letters + 1) ls) none_said ∙ append-nil (landed n b.flying)) refl
-        ∙ quiet b then_seats (landed n b.flying))
+        ∙ quiet b then_seats b.stops (landed n b.flying))
         ∙ taken_as None (none_fails b place clock i r e) none)

@@ -6,9 +6,9 @@ use Rattle.host_model.specs.declared.order.Order.{Order}
 use Rattle.psched_world.specs.World.{Letter}
 use Rattle.psched_script.specs.declared.script.Stop.{Stop}
 use Rattle.rehearsal_model.specs.Moves.{is_untold, letter_of, numbers_from}
-use Rattle.rehearsal_model.specs.Scenes.{Scene, as_read, count_sent, seat_at}
-use Rattle.rehearsal_model.specs.Seats.{crashed_at, stepped}
-use Rattle.rehearsal_model.specs.Seen.{Seen, disarmed, stop_at}
+use Rattle.rehearsal_model.specs.Scenes.{Scene, count_sent, seat_at, stop_for, stops_left}
+use Rattle.rehearsal_model.specs.Seats.{crashed_at, fault_in, stepped}
+use Rattle.rehearsal_model.specs.Seen.{Seen, disarmed}
 
 -- the host at the place takes a step
 abbrev pub with_act : Scene → ℕ → ℕ → Input → Scene
@@ -18,13 +18,13 @@ with_act b place clock i = record b { seats = set b.seats place (stepped (seat_a
 abbrev pub with_crash : Scene → ℕ → ℕ → Input → Stop → Scene
 with_crash b place clock i stop = record b { seats = set b.seats place (crashed_at (seat_at b place) clock i stop); stops = disarmed place b.stops }
 
--- the one or the other
-abbrev pub with_either : Scene → ℕ → ℕ → Input → Option Stop → Scene
-with_either b place clock i None = with_act b place clock i
-with_either b place clock i (Some stop) = with_crash b place clock i stop
+-- a step, by the call that fails in it, and by the stop that it meets
+abbrev pub with_either : Scene → ℕ → ℕ → Input → Option ℕ → Option Stop → Scene
+with_either b place clock i failed None = record b { seats = set b.seats place (stepped (seat_at b place) clock i); stops = stops_left failed place b.stops }
+with_either b place clock i failed (Some stop) = with_crash b place clock i stop
 
 abbrev pub with_step : Scene → ℕ → ℕ → Input → Scene
-with_step b place clock i = with_either b place clock i (stop_at (as_read b) place)
+with_step b place clock i = with_either b place clock i (fault_in (seat_at b place) clock i) (stop_for b place clock i)
 
 -- letters are sent
 abbrev pub with_letters : Scene → List Letter → Scene

@@ -1,7 +1,7 @@
 //! How far a rehearsal has come: its hosts, and the messages between them.
 ghost use Rattle.std.specs.List.{list_any};
 ghost use Rattle.std.specs.Option.{option_copied};
-ghost use Rattle.std.specs.Prelude.{◌∷◌, ◌+◌, ◌-◌, ◌^◌, ◌==◌, ◌≡◌, ◌≤◌, ◌<◌, [], IfOk, List, None, OnOk, Some, count_by, length, max, nat_lt, set, true};
+ghost use Rattle.std.specs.Prelude.{◌∷◌, ◌+◌, ◌-◌, ◌^◌, ◌==◌, ◌≡◌, ◌≤◌, ◌<◌, [], IfOk, List, None, OnOk, Some, count_by, if◌then◌else◌, is_some, length, max, nat_lt, set, true};
 ghost use Rattle.ps_time.specs.declared.moment.TheConstants.{MAX_MOMENT};
 ghost use Rattle.host_model.specs.Conditions.{IsConfig, IsInput};
 ghost use Rattle.psched_world.specs.Events.{brings};
@@ -10,10 +10,11 @@ ghost use Rattle.psched_script.specs.declared.script.ScriptHost.{ScriptHost};
 ghost use Rattle.rehearsal_model.specs.Moves.{Move.Arms, Move.Retools};
 ghost use Rattle.rehearsal_model.specs.Reaching.{IsKnown};
 ghost use Rattle.rehearsal_model.specs.Rehearsal.{retooled};
-ghost use Rattle.rehearsal_model.specs.Scenes.{Deed.Does, Deed.Fails, Deed.Hears, Deed.Reopens, as_read, at_last, came_at, config_of, count_sent, flies, has_come, is_broken, letter_number, scene_deed, seat_at, seat_in};
-ghost use Rattle.rehearsal_model.specs.Seats.{answered, crashed_at};
+ghost use Rattle.rehearsal_model.specs.declared.came.Came.TheVariants.{Crashed, Faulted};
+ghost use Rattle.rehearsal_model.specs.Scenes.{Deed.Does, Deed.Fails, Deed.Hears, Deed.Reopens, as_read, at_last, came_at, came_by, config_of, count_sent, flies, has_come, is_broken, letter_number, scene_deed, seat_at, seat_in};
+ghost use Rattle.rehearsal_model.specs.Seats.{answered, ended_at, fault_in, stop_met};
 ghost use Rattle.rehearsal_model.specs.Seen.{disarmed, landed, message, stop_at, stop_in};
-ghost use Rattle.rehearsal_state.specs.Moved.{with_act, with_broken, with_crash, with_letters, with_step};
+ghost use Rattle.rehearsal_state.specs.Moved.{with_act, with_broken, with_letters, with_step};
 ghost use Rattle.rehearsal_state.specs.Ready.{IsReady};
 
 use crate::message::Message;
@@ -90,12 +91,14 @@ impl Rehearsal {
         })
     }
 
+    /// The hosts, in the order of their declaration.
     pub fn seats(&self) -> &[Seat]
         ensures { result.now ≡ self.now.seats }
     {
         self.seats.as_slice()
     }
 
+    /// The same, given away.
     pub fn into_seats(self) -> Vec<Seat>
         ensures { result.items ≡ self.seats }
     {
@@ -112,12 +115,14 @@ impl Rehearsal {
         seats
     }
 
+    /// The messages of hosts, in the order in which they were sent.
     pub fn messages(&self) -> &[Message]
         ensures { result.now ≡ self.now.letters }
     {
         self.messages.as_slice()
     }
 
+    /// The places among them of those in flight, from 1 on, ascending.
     pub fn flying(&self) -> &[u64]
         ensures { result.now ≡ self.now.flying }
     {
@@ -163,7 +168,26 @@ impl Rehearsal {
         seat.act(alloc, clock, input)
     }
 
-    // This step stops, and the host is opened again on what that leaves of its disks, at the same clock.
+    // The same, of a host that isn't to stop.
+    fn make(
+        &mut self,
+        alloc: Global,
+        place: usize,
+        clock: Moment,
+        input: Input,
+    ) -> Result<Came, Memory>
+        requires ready { IsReady self.old place clock }
+        requires input { IsInput (config_of self.old place) input }
+        requires stop { stop_at (as_read self.old) place ≡ None }
+        ensures came { IfOk result (λ came. came ≡ came_at self.old place clock input) }
+        ensures scene { OnOk result (self.new ≡ with_step self.old place clock input) }
+    {
+        let reply = self.act(alloc, place, clock, input)?;
+        Ok(answer_of(reply))
+    }
+
+    // A step of a host that is to stop: it stops, and the host is opened again on what that leaves of its disks, at the same clock,
+    // unless a call of a disk fails before.
     fn crash(
         &mut self,
         alloc: Global,
@@ -171,18 +195,20 @@ impl Rehearsal {
         clock: Moment,
         input: Input,
         stop: Stop,
-    ) -> Result<(), Memory>
+    ) -> Result<Came, Memory>
         requires ready { IsReady self.old place clock }
         requires input { IsInput (config_of self.old place) input }
-        ensures { OnOk result (self.new ≡ with_crash self.old place clock input stop) }
+        requires stop { stop_at (as_read self.old) place ≡ Some stop }
+        ensures came { IfOk result (λ came. came ≡ came_at self.old place clock input) }
+        ensures scene { OnOk result (self.new ≡ with_step self.old place clock input) }
     {
-        crash_at(alloc, &mut self.seats, place, clock, input, stop)?;
+        let stopped = crash_at(alloc, &mut self.seats, place, clock, input, stop)?;
         disarm(&mut self.stops, place);
-        Ok(())
+        Ok(end_of(stopped))
     }
 
     /// A step of the host at a place, at a clock in seconds since 1970 UTC. Where it is to stop, the host is opened again on what
-    /// that leaves of its disks.
+    /// that leaves of its disks; a call of a disk that fails before disarms it of the stop.
     pub fn step(
         &mut self,
         alloc: Global,
@@ -196,14 +222,8 @@ impl Rehearsal {
         ensures scene { OnOk result (self.new ≡ with_step self.old place clock input) }
     {
         match self.stop(place) {
-            Some(stop) => {
-                self.crash(alloc, place, clock, input, stop)?;
-                Ok(Came::Crashed)
-            }
-            None => match self.act(alloc, place, clock, input)? {
-                Some(reply) => Ok(Came::Answered(reply)),
-                None => Ok(Came::Faulted),
-            },
+            Some(stop) => self.crash(alloc, place, clock, input, stop),
+            None => self.make(alloc, place, clock, input),
         }
     }
 
@@ -233,7 +253,7 @@ impl Rehearsal {
     }
 
     /// Of each disk of the host at a place the call of this number is to fail, counted from 1 from now on, or none for 0. The first
-    /// fault disarms both.
+    /// fault disarms both, and the host of a stop.
     pub fn fail_at(&mut self, place: usize, call: u64)
         requires { place < length self.old.seats }
         ensures { (hosts : List ScriptHost) → self.new ≡ scene_deed hosts self.old (Fails place call) }
@@ -391,7 +411,7 @@ impl Rehearsal {
     }
 }
 
-// The host at the place crashes.
+// A step of the host at the place that is to stop, and whether it stopped.
 fn crash_at(
     alloc: Global,
     seats: &mut Vec<Seat>,
@@ -399,17 +419,39 @@ fn crash_at(
     clock: Moment,
     input: Input,
     stop: Stop,
-) -> Result<(), Memory>
+) -> Result<bool, Memory>
     requires place { place < length seats.old.items }
     requires config { IsConfig (seat_in seats.old.items place).state.config }
     requires clock { clock ≤ MAX_MOMENT }
     requires input { IsInput (seat_in seats.old.items place).state.config input }
-    ensures { OnOk result (seats.new.items ≡ set seats.old.items place (crashed_at (seat_in seats.old.items place) clock input stop)) }
+    ensures stopped { IfOk result (λ stopped. stopped ≡ is_some (stop_met (Some stop) (fault_in (seat_in seats.old.items place) clock input))) }
+    ensures seats { OnOk result (seats.new.items ≡ set seats.old.items place (ended_at (seat_in seats.old.items place) clock input stop)) }
 {
     let seat = seats.remove(place);
-    let seat = seat.crash(alloc, clock, input, stop)?;
-    seats.insert(place, seat)?;
-    Ok(())
+    let ended = seat.crash(alloc, clock, input, stop)?;
+    seats.insert(place, ended.0)?;
+    Ok(ended.1)
+}
+
+// What came of a step of a host that isn't to stop, by what it answered.
+fn answer_of(reply: Option<Reply>) -> Came
+    ensures { result ≡ came_by None reply }
+{
+    match reply {
+        Some(reply) => Came::Answered(reply),
+        None => Came::Faulted,
+    }
+}
+
+// Of one that is: it stopped, or met a fault before.
+fn end_of(stopped: bool) -> Came
+    ensures { result ≡ (if stopped then Crashed else Faulted) }
+{
+    if stopped {
+        Came::Crashed
+    } else {
+        Came::Faulted
+    }
 }
 
 fn stop_of(stops: &[(usize, Stop)], place: usize) -> Option<Stop>

@@ -3,9 +3,21 @@ use Rattle.std.specs.Option.{unwrap_or}
 use Rattle.psched_script.specs.declared.script.ScriptLine.{ScriptLine}
 use Rattle.rehearsal_model.specs.Moves.{Outcomes, moment_of_line}
 use Rattle.rehearsal_model.specs.Scenes.{Scene, at_last}
-use Rattle.psched_rehearse.proofs.LineLemmas.{line_archived, line_done, line_may}
+use Rattle.psched_rehearse.proofs.LineLemmas.{archive_told, line_archived, line_done, line_may}
 use Rattle.psched_rehearse.proofs.line.run_line.Goals as goal
 use Rattle.psched_rehearse.proofs.line.run_line.Goals.{in-Archive+in_ok-archive-in-Archive, in_default+in_ok-run_event-in_default}
+
+pub returns-clause-report : goal.returns-clause-report
+returns-clause-report g c =
+    let comes : Outcomes = g.A.Archivers.comes c.args.archivers.now in
+    let hosts = c.args.hosts.now in
+    let b : Scene = c.args.now.now in
+    let l : ScriptLine = c.args.numbered.now.line in
+    elim c.match-numbered.branch [
+      | in-Archive+in_ok-archive-in-Archive w ↦
+          w.report-is ∙ (w.in_ok-archive-in-Archive.ensures.report hosts ∙ archive_told comes hosts b l w.in-Archive.at w.in-Archive.host w.in-Archive.is c.args.report.now c.args.numbered.now.number)
+      | in_default+in_ok-run_event-in_default w ↦ w.report-is ∙ w.in_ok-run_event-in_default.ensures.report comes
+    ]
 
 pub returns-clause-scene : goal.returns-clause-scene
 returns-clause-scene g c =

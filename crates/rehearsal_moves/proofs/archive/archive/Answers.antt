@@ -9,10 +9,11 @@ use Rattle.machine_seat.specs.Held.{Held}
 use Rattle.psched_world.specs.World.{Stage}
 use Rattle.rehearsal_model.specs.Moves.{Outcomes}
 use Rattle.rehearsal_model.specs.Scenes.{Scene, at_last, is_answered, looks, seat_at}
+use Rattle.rehearsal_model.specs.Telling.{archive_said, tried_said}
 use Rattle.rehearsal_state.specs.Ready.{IsReady}
 use Rattle.rehearsal_state.proofs.MoveLemmas.{config_then, ready_then, there_then}
-use Rattle.rehearsal_moves.proofs.ArchiveLemmas.{later_so, left_found, left_lost, left_sure, may_found}
-use Rattle.rehearsal_moves.proofs.ResultLemmas.{on_ok}
+use Rattle.rehearsal_moves.proofs.ArchiveLemmas.{later_so, left_found, left_lost, left_sure, may_found, tells_found}
+use Rattle.rehearsal_moves.proofs.ResultLemmas.{on_ok, reported}
 use Rattle.rehearsal_moves.proofs.archive.archive.Goals as goal
 
 abbrev look : Input
@@ -26,6 +27,11 @@ returns-then-is_ready-clause-scene g c = λ hosts.
     on_ok_weaker c.try_first.result (left_sure comes hosts c.args.now.now c.args.place c.args.clock sure c.try_first.new.now) (c.try_first.ensures.scene hosts)
 
 -- it finds that out
+pub seat-requires-in-Answered : goal.seat-requires-in-Answered
+seat-requires-in-Answered g c =
+    let said = sym c.in_ok-reply.ensures.came ∙ c.in-Answered.is in
+    subst (λ (x : Scene). c.args.place < length x.seats) (sym c.in_ok-reply.ensures.scene) (there_then c.args.now.now c.args.place c.args.clock look c.in-Answered.reply said c.requires.there)
+
 pub book-requires : goal.book-requires
 book-requires g c =
     let b : Scene = c.args.now.now in
@@ -54,6 +60,18 @@ try_first-requires-in-Answered-clause-sure g c =
     let b : Scene = c.args.now.now in
     let said = sym c.in_ok-reply.ensures.came ∙ c.in-Answered.is in
     subst (λ (x : Scene). (seat_at x c.args.place).ready ≡ true) (sym (c.advance.ensures ∙ ap (at_last c.args.clock) c.in_ok-reply.ensures.scene)) (ready_then b c.args.place c.args.clock look c.in-Answered.reply said c.requires.there)
+
+pub returns-in-Answered-clause-report : goal.returns-in-Answered-clause-report
+returns-in-Answered-clause-report g c = λ hosts.
+    let comes : Outcomes = g.A.Archivers.comes c.args.archivers.now in
+    let b : Scene = c.args.now.now in
+    let place = c.args.place in
+    let clock = c.args.clock in
+    let unsure = sym (ap (λ (h : Held Stage). h.ready) c.seat.ensures) ∙ (sym c.is_ready.ensures ∙ c.if-is_ready.false) in
+    let finds : looks b place clock ≡ true = ap is_answered (sym c.in_ok-reply.ensures.came ∙ c.in-Answered.is) in
+    let looked = later_so comes hosts b place clock c.step.new.self c.advance.new.self c.in_ok-reply.ensures.scene c.advance.ensures in
+    reported c.try_first-in-Answered.result c.try_first-in-Answered.new.report c.args.report.now c.args.line (tried_said comes c.advance.new.self place clock) (archive_said comes hosts b place clock)
+    (ap (λ (x : Scene). tried_said comes x place clock) looked ∙ tells_found comes hosts b place clock unsure finds) c.try_first-in-Answered.ensures.report
 
 pub returns-in-Answered-clause-scene : goal.returns-in-Answered-clause-scene
 returns-in-Answered-clause-scene g c = λ hosts.

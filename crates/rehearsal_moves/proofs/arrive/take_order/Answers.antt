@@ -1,5 +1,5 @@
 use Rattle.std.specs.Prelude.{slice_get}
-use Rattle.std.proofs.Common.{◌≡◌, ◌-◌, ◌∙◌, List, Some, ap, subst, sym}
+use Rattle.std.proofs.Common.{◌≡◌, ◌-◌, ◌<◌, ◌∙◌, List, Some, ap, length, subst, sym}
 use Rattle.api_heard.specs.Replied.{IsReplyTo}
 use Rattle.psched_world.specs.Events.{brings}
 use Rattle.psched_world.specs.World.{Letter}
@@ -17,6 +17,13 @@ send_back-requires-clause-place c =
     let sent = c.letter-message.ensures in
     let place_is : c.place_of-place.result ≡ receiver hosts l = c.place_of-place.ensures ∙ ap (place_numbered hosts) c.goes_to.ensures in
     within_now hosts b c.args.letter l c.requires.playing sent c.place_of-place.result place_is c.bring.new.now c.args.clock (brings l l.reply) (c.in_ok-bring.ensures.scene l sent)
+
+pub send_back-requires-clause-sent : goal.send_back-requires-clause-sent
+send_back-requires-clause-sent c =
+    let l = c.letter-message.result.now in
+    let sent = c.letter-message.ensures in
+    let kept = letters_now c.args.hosts.now c.args.now.now c.args.letter l c.requires.playing sent c.bring.new.now c.args.clock (brings l l.reply) (c.in_ok-bring.ensures.scene l sent) in
+    subst (λ (ls : List Letter). c.args.letter - 1 < length ls) (sym kept) c.requires.sent
 
 -- what was replied is a reply to the order
 pub send_back-requires-clause-told : goal.send_back-requires-clause-told

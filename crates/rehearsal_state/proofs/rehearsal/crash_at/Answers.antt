@@ -1,10 +1,10 @@
-use Rattle.std.specs.Prelude.{set, slice_index_or}
+use Rattle.std.specs.Prelude.{Some, is_some, set, slice_index_or}
 use Rattle.std.proofs.Common.{◌≡◌, ◌∙◌, List, ap, subst, sym}
 use Rattle.std.specs.List.{insert}
 use Rattle.host_model.specs.Conditions.{IsConfig, IsInput}
 use Rattle.machine_seat.specs.Held.{Held}
 use Rattle.psched_world.specs.World.{Stage}
-use Rattle.rehearsal_model.specs.Seats.{crashed_at}
+use Rattle.rehearsal_model.specs.Seats.{ended_at, fault_in, stop_met}
 use Rattle.rehearsal_model.specs.Scenes.{nobody_seat}
 use Rattle.rehearsal_state.proofs.RehearsalLemmas.{put_back, read_any}
 use Rattle.rehearsal_state.proofs.rehearsal.crash_at.Goals as goal
@@ -18,14 +18,19 @@ pub crash-requires-clause-input : goal.crash-requires-clause-input
 crash-requires-clause-input c =
     subst (λ (x : Held Stage). IsInput x.state.config c.args.input) (sym (c.remove-seat.ensures.value ∙ read_any _ c.args.place c.remove-seat.result nobody_seat c.requires.place)) c.requires.input
 
-pub returns : goal.returns
-returns c =
+pub returns-clause-stopped : goal.returns-clause-stopped
+returns-clause-stopped c =
+    let is : c.remove-seat.result ≡ slice_index_or c.args.seats.now.items c.args.place nobody_seat = c.remove-seat.ensures.value ∙ read_any _ c.args.place c.remove-seat.result nobody_seat c.requires.place in
+    c.in_ok-ended.ensures.stopped ∙ ap (λ (x : Held Stage). is_some (stop_met (Some c.args.stop) (fault_in x c.args.clock c.args.input))) is
+
+pub returns-clause-seats : goal.returns-clause-seats
+returns-clause-seats c =
     let xs : List (Held Stage) = c.args.seats.now.items in
     let place = c.args.place in
     let at : Held Stage = slice_index_or xs place nobody_seat in
-    let back : Held Stage = c.in_ok-seat.seat in
+    let back : Held Stage = c.in_ok-ended.ended.0 in
     let is : c.remove-seat.result ≡ at = c.remove-seat.ensures.value ∙ read_any xs place c.remove-seat.result nobody_seat c.requires.place in
-    let made : back ≡ crashed_at at c.args.clock c.args.input c.args.stop = c.in_ok-seat.ensures.seat ∙ ap (λ (x : Held Stage). crashed_at x c.args.clock c.args.input c.args.stop) is in
+    let made : back ≡ ended_at at c.args.clock c.args.input c.args.stop = c.in_ok-ended.ensures.seat ∙ ap (λ (x : Held Stage). ended_at x c.args.clock c.args.input c.args.stop) is in
     c.in_ok-insert.ensures.items
     ∙ (ap (λ (ys : List (Held Stage)). insert ys place back) c.remove-seat.ensures.items
     ∙ (put_back xs place back c.requires.place

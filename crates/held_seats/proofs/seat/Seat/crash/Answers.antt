@@ -1,24 +1,26 @@
-use Rattle.std.proofs.Common.{◌≡◌, ◌∙◌, List, subst, sym, ℕ}
-use Rattle.std.proofs.lemmas.Result.{IfOk-weaker}
-use Rattle.host_journal.specs.Pair.{pair_of}
-use Rattle.ps_disks.specs.History.{bytes_now}
-use Rattle.rehearsal_model.specs.Seats.{Left, crashed_at, left_of}
-use Rattle.held_seats.specs.Staged.{IsLeft}
-use Rattle.held_seats.proofs.CrashLemmas.{config_left}
+use Rattle.std.specs.Prelude.{is_some}
+use Rattle.std.proofs.Common.{◌≡◌, ◌∙◌, Some, ap, false, sym}
+use Rattle.machine_seat.specs.Held.{Held, fault_at}
+use Rattle.psched_world.specs.World.{Stage}
+use Rattle.rehearsal_model.specs.Seats.{Left, calls_for, ended, fault_in, is_before, left_stopped, stop_met, written_at}
+use Rattle.held_seats.proofs.CrashLemmas.{config_left, not_met}
 use Rattle.held_seats.proofs.seat.Seat.crash.Goals as goal
 
+-- the call that is to fail doesn't come before the stop
 pub returns-clause-seat : goal.returns-clause-seat
 returns-clause-seat c =
-    let left : Left = left_of c.args.self c.args.clock c.args.input c.args.stop in
-    let one : bytes_now c.in_ok-first.first.history ≡ bytes_now c.in_ok-disks.disks.0.history = c.in_ok-first.ensures.seen ∙ c.bytes.ensures in
-    let two : bytes_now c.in_ok-second.second.history ≡ bytes_now c.in_ok-disks.disks.1.history = c.in_ok-second.ensures.seen ∙ c.bytes-2.ensures in
-    let stands : IsLeft left (pair_of (bytes_now c.in_ok-first.first.history) (bytes_now c.in_ok-second.second.history)) =
-    subst (λ (x : List ℕ). IsLeft left (pair_of x (bytes_now c.in_ok-second.second.history))) (sym one)
-    (subst (λ (x : List ℕ). IsLeft left (pair_of (bytes_now c.in_ok-disks.disks.0.history) x)) (sym two) c.in_ok-disks.ensures) in
-    IfOk-weaker c.open_on.result _ (λ seat. seat ≡ crashed_at c.args.self c.args.clock c.args.input c.args.stop)
-    (λ seat opened. opened left (config_left c.args.self c.known.ensures c.args.clock c.args.input c.args.stop ∙ sym (c.in_ok-config.ensures ∙ c.config.ensures)) stands)
-    c.open_on.ensures.left
+    let h : Held Stage = c.args.self in
+    let left : Left = left_stopped h c.args.clock c.args.input c.args.stop in
+    let later : is_before c.args.stop.call (fault_at h) ≡ false = sym (c.is_before.ensures ∙ ap (is_before c.args.stop.call) (c.in_ok-number.ensures ∙ ap (λ (x : Held Stage). fault_at x) c.self.view_is)) ∙ c.if-is_before.false in
+    let met : stop_met (Some c.args.stop) (fault_in h c.args.clock c.args.input) ≡ Some c.args.stop = not_met c.args.stop (calls_for h (written_at h c.args.clock c.args.input)) (fault_at h) later in
+    c.in_ok-seat.ensures.left left (config_left h c.known.ensures c.args.clock c.args.input c.args.stop ∙ sym (c.in_ok-config.ensures ∙ c.config.ensures)) c.in_ok-disks.ensures
+    ∙ sym (ap (ended h c.args.clock c.args.input) met)
+
+pub returns-clause-stopped : goal.returns-clause-stopped
+returns-clause-stopped c =
+    let h : Held Stage = c.args.self in
+    let later : is_before c.args.stop.call (fault_at h) ≡ false = sym (c.is_before.ensures ∙ ap (is_before c.args.stop.call) (c.in_ok-number.ensures ∙ ap (λ (x : Held Stage). fault_at x) c.self.view_is)) ∙ c.if-is_before.false in
+    sym (ap is_some (not_met c.args.stop (calls_for h (written_at h c.args.clock c.args.input)) (fault_at h) later))
 
 pub returns-clause-config : goal.returns-clause-config
-returns-clause-config c =
-    IfOk-weaker c.open_on.result _ (λ seat. seat.state.config ≡ c.args.self.state.config) (λ seat same. same ∙ (c.in_ok-config.ensures ∙ c.config.ensures)) c.open_on.ensures.config
+returns-clause-config c = c.in_ok-seat.ensures.config ∙ (c.in_ok-config.ensures ∙ c.config.ensures)
