@@ -1,8 +1,9 @@
-//! What a host answers: its replies as responses of HTTP.
+//! What a host answers: its replies, and refusals of requests that ask nothing of it, as responses of HTTP.
 #![tactic(auto)]
 
 pub mod denial;
 pub mod object;
+pub mod refusal;
 pub mod respond;
 pub mod run_view;
 pub mod shown;

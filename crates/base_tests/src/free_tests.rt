@@ -9,7 +9,7 @@ use ps_time::key::RunKey;
 use ps_time::memory::Memory;
 use std::alloc::Global;
 use std::test::Fail;
-use tiered_list::lent::Lent;
+use ps_lists::tiered_lent::Lent;
 
 // One exclusive run from 1010 on, before 1020.
 static ONE_RUN: [Line; 1] = [(1, Exclusive, 0, 1010, 1020)];

@@ -4,7 +4,7 @@ use plugin_core::test_spec::TestSpec;
 use ps_time::memory::Memory;
 use ps_time::text::Text;
 use std::alloc::Global;
-use test_text::written::test_text;
+use plugin_text::written::test_text;
 use value_bytes::fault::CodeFault;
 use value_bytes::trees::test_in;
 

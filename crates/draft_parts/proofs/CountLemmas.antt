@@ -6,8 +6,8 @@ use Rattle.ps_time.specs.declared.key.RunKey.{RunKey}
 use Rattle.run_states.specs.ResultBytes.{row_bytes}
 use Rattle.run_states.specs.Rows.{change_row, find_row}
 use Rattle.run_states.specs.declared.row.RunRow.{RunRow}
-use Rattle.row_ledger.specs.Ledger.{bytes_at, most_counted}
-use Rattle.row_ledger.proofs.RowLemmas.{found_change}
+use Rattle.host_rows.specs.Ledger.{bytes_at, most_counted}
+use Rattle.host_rows.proofs.RowLemmas.{found_change}
 
 module _ (f : RunRow → RunRow) (same : (r : RunRow) → (f r).key ≡ r.key) (n : ℕ) (brings : (r : RunRow) → row_bytes (f r) ≤ row_bytes r + n) where
   brings_one : (b : Bool) (r : RunRow) → row_bytes (cond b (f r) r) ≤ row_bytes r + n

@@ -28,7 +28,7 @@ use Rattle.part_core.specs.Reservations.{booking_of, bookings_of, reserved, with
 use Rattle.host_model.specs.FreeStarts.{free_tiers, is_free as is_free_row, is_freeable as is_freeable_row}
 use Rattle.host_model.specs.Lawful.{NoClash}
 use Rattle.host_model.proofs.Keyed.{key_is, key_of}
-use Rattle.row_ledger.proofs.RowLemmas.{each_found}
+use Rattle.host_rows.proofs.RowLemmas.{each_found}
 use Rattle.draft_parts.specs.Overlay.{Takes, bare_bookings, booked, gathered, hides, is_near, named, near_bookings, near_gathered, over, reach_of}
 use Rattle.draft_parts.proofs.PickLemmas.{earlier, find_over, is_less, less_order}
 

@@ -22,7 +22,7 @@ use Rattle.part_core.specs.Reservations.{booking_of, bookings_of, reserved, with
 use Rattle.part_core.specs.Seen.{firm_key, next_key}
 use Rattle.host_model.specs.Book.{keys_of_rows}
 use Rattle.host_model.proofs.Placed.{find_row-key}
-use Rattle.row_ledger.proofs.RowLemmas.{each_found}
+use Rattle.host_rows.proofs.RowLemmas.{each_found}
 use Rattle.draft_parts.specs.Overlay.{hard_below, hides, is_hard, meets, meets_below, named, over}
 use Rattle.draft_parts.specs.declared.overlay.Sought.{Sought}
 

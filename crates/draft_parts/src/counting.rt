@@ -4,7 +4,7 @@ ghost use Rattle.run_states.specs.Effect.{noted_row};
 ghost use Rattle.run_states.specs.LawfulRow.{BringsResult, BringsResults};
 ghost use Rattle.run_states.specs.Life.{marked_row};
 ghost use Rattle.run_states.specs.Rows.{change_row, find_row};
-ghost use Rattle.row_ledger.specs.Ledger.{bytes_at, fact_bytes, most_counted, step_bytes};
+ghost use Rattle.host_rows.specs.Ledger.{bytes_at, fact_bytes, most_counted, step_bytes};
 ghost use Rattle.draft_parts.specs.Overlay.{over};
 
 use crate::overlay::find_over;

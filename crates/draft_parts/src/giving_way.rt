@@ -5,7 +5,7 @@ ghost use Rattle.plugin_core.specs.TestSpec.{test_length};
 ghost use Rattle.run_states.specs.Preemption.{conflicts};
 ghost use Rattle.run_states.specs.Rows.{IsAscendingRows};
 ghost use Rattle.host_timeline.specs.Booking.{conflicting, keys_of};
-ghost use Rattle.row_ledger.specs.Closing.{closed_keys};
+ghost use Rattle.host_rows.specs.Closing.{closed_keys};
 ghost use Rattle.host_model.specs.Apply.{put_new};
 ghost use Rattle.host_model.specs.Book.{keys_of_rows};
 ghost use Rattle.draft_parts.specs.Overlay.{below, over};

@@ -10,7 +10,7 @@ ghost use Rattle.run_states.specs.Rows.{find_row};
 ghost use Rattle.run_states.specs.TaskRows.{rows_of_task};
 ghost use Rattle.host_model.specs.Apply.{put_new};
 ghost use Rattle.host_timeline.specs.Booking.{conflicting_after, is_after, keys_of, lesser_of};
-ghost use Rattle.row_ledger.specs.Deadlines.{due_keys};
+ghost use Rattle.host_rows.specs.Deadlines.{due_keys};
 ghost use Rattle.draft_parts.specs.Overlay.{hard_below, below, hides, is_hard, lapsed_copy, lapsed_over, later, meets, meets_below, named, over};
 
 use host_timeline::timeline::Timeline;
@@ -20,7 +20,7 @@ use ps_time::items::Items;
 use ps_time::key::RunKey;
 use ps_time::memory::Memory;
 use ps_time::moment::{Moment, ON_DECK};
-use row_ledger::deadlines::Deadlines;
+use host_rows::deadlines::Deadlines;
 use run_states::lent::LentRows;
 use run_states::row::RunRow;
 use run_states::rows::Rows;

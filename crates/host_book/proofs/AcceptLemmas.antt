@@ -42,8 +42,8 @@ use Rattle.host_model.proofs.RowLemmas.{found_of_all}
 use Rattle.host_model.proofs.Standing.{find_row-map}
 use Rattle.host_book.specs.Host.{IsSound}
 use Rattle.host_book.specs.Pairs.{with_pair}
-use Rattle.row_ledger.specs.Closing.{closed_each}
-use Rattle.row_ledger.proofs.RowLemmas.{change_found}
+use Rattle.host_rows.specs.Closing.{closed_each}
+use Rattle.host_rows.proofs.RowLemmas.{change_found}
 use Rattle.host_book.specs.Reservations.{planned_reservation, reservation_of}
 use Rattle.host_book.proofs.BookLemmas.{same_rows, left_rows}
 use Rattle.host_book.proofs.BringLemmas.{found_changed, none_of}

@@ -26,8 +26,8 @@ use Rattle.host_model.specs.declared.change.Change.TheVariants.{LimitsSet, Poste
 use Rattle.host_model.specs.declared.task_row.TaskRow.{TaskRow}
 use Rattle.host_model.proofs.SettledBook.{book_settled}
 use Rattle.host_book.specs.Host.{IsSound, with_rows}
-use Rattle.row_ledger.specs.Deadlines.{IsDue}
-use Rattle.row_ledger.specs.Ledger.{IsNoPlan}
+use Rattle.host_rows.specs.Deadlines.{IsDue}
+use Rattle.host_rows.specs.Ledger.{IsNoPlan}
 use Rattle.host_book.specs.Reservations.{released}
 use Rattle.host_book.proofs.IndexLemmas.{bookings_closed, bookings_lifted, bookings_same, bookings_settled, bookings_started}
 

@@ -23,7 +23,7 @@ use Rattle.host_model.specs.declared.task_row.TaskRow.{TaskRow}
 use Rattle.run_states.proofs.Place.{key_is}
 use Rattle.host_model.proofs.RowLemmas.{found_of_all}
 use Rattle.host_book.specs.Ready.{heard_of, is_heard, is_merged}
-use Rattle.row_ledger.proofs.RowLemmas.{each_found, found_change, found_is}
+use Rattle.host_rows.proofs.RowLemmas.{each_found, found_change, found_is}
 
 -- ---- the row that was changed
 module _ (f : RunRow → RunRow) (same : (r : RunRow) → (f r).key ≡ r.key) (rows : List RunRow) (k : RunKey) (r : RunRow) (at : find_row rows k ≡ Some r) where

@@ -17,8 +17,8 @@ use Rattle.run_states.specs.declared.fact.Fact.TheVariants as fact
 use Rattle.run_states.specs.declared.life.LifeStep.TheVariants as life
 use Rattle.run_states.specs.declared.row.RunRow.{RunRow}
 use Rattle.run_states.specs.declared.why.Why.TheVariants.{Preempted}
-use Rattle.row_ledger.proofs.RowLemmas.{above_other, bytes_cons, bytes_put, fact_brings, step_brings}
-use Rattle.row_ledger.specs.Ledger.{most_counted}
+use Rattle.host_rows.proofs.RowLemmas.{above_other, bytes_cons, bytes_put, fact_brings, step_brings}
+use Rattle.host_rows.specs.Ledger.{most_counted}
 use Rattle.host_model.specs.Apply.{apply, put_new, rows_after, without_row, purged_key}
 use Rattle.host_model.specs.Book.{Book}
 use Rattle.host_model.specs.Effect.{change_key, effect, has_key, own_effect}

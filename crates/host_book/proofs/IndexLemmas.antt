@@ -26,10 +26,10 @@ use Rattle.host_timeline.specs.Booking.{conflicts_with, conflicting, firm_from_o
 use Rattle.host_timeline.specs.Timeline.{find_booking, started_booking, with_booking, with_started, without_booking}
 use Rattle.part_core.specs.Reservations.{reserved, booking_of, with_some, bookings_of}
 use Rattle.part_core.specs.Seen.{IsUnbooked}
-use Rattle.row_ledger.specs.Closing.{closed_each}
-use Rattle.row_ledger.specs.Deadlines.{is_among, IsDue}
+use Rattle.host_rows.specs.Closing.{closed_each}
+use Rattle.host_rows.specs.Deadlines.{is_among, IsDue}
 use Rattle.host_book.specs.Reservations.{freed_row, freed_rows, lapses, lapses_at, released, without_lapsed}
-use Rattle.row_ledger.proofs.RowLemmas.{above_other, change_found, change_none, each_found}
+use Rattle.host_rows.proofs.RowLemmas.{above_other, change_found, change_none, each_found}
 
 -- ---- one row and its reservation ----
 abbrev HasKey : RunKey → Option Booking → Type 0

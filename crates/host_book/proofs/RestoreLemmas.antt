@@ -25,8 +25,8 @@ use Rattle.host_model.proofs.Clashes.{Free, free_from}
 use Rattle.host_book.specs.Pairs.{IsAscendingPairs}
 use Rattle.host_book.specs.Restore.{with_found, IsFree}
 use Rattle.host_book.proofs.IndexLemmas.{bookings_idle, bookings_put, find_booking_none}
-use Rattle.row_ledger.proofs.LastLemmas.{at_seam, before_seam, front_up, none_last, put_last}
-use Rattle.row_ledger.proofs.RowLemmas.{each_found}
+use Rattle.host_rows.proofs.LastLemmas.{at_seam, before_seam, front_up, none_last, put_last}
+use Rattle.host_rows.proofs.RowLemmas.{each_found}
 
 -- ---- one more row behind others
 module _ (r : RunRow) (rest : List RunRow) where

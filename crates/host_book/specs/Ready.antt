@@ -11,7 +11,7 @@ use Rattle.host_model.specs.MayFollow.{CanApply}
 use Rattle.host_model.specs.NewRow.{all_unheard}
 use Rattle.host_model.specs.declared.change.Change.{Change}
 use Rattle.host_model.specs.declared.change.Change.TheVariants.{Accepted, Asked, Ended, Merged, ResultHeard}
-use Rattle.row_ledger.specs.Ledger.{most_counted}
+use Rattle.host_rows.specs.Ledger.{most_counted}
 use Rattle.host_book.specs.declared.ready.Ready.{Ready}
 
 -- what a run that is asked about knows of its other participants

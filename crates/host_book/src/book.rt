@@ -10,9 +10,9 @@ ghost use Rattle.host_model.specs.Lawful.{Lawful};
 ghost use Rattle.host_model.specs.MayFollow.{CanApply, CanApplyAll};
 ghost use Rattle.host_model.specs.declared.task_row.TaskRow.{TaskRow as TaskSeen};
 ghost use Rattle.live_law.specs.Waking.{has_come, is_awake};
-ghost use Rattle.live_rows.specs.Still.{keys_live_by, live_keys, StillStay};
-ghost use Rattle.row_ledger.specs.Deadlines.{IsAscendingDeadlines, Waits};
-ghost use Rattle.row_ledger.specs.Ledger.{most_counted};
+ghost use Rattle.host_rows.specs.Still.{keys_live_by, live_keys, StillStay};
+ghost use Rattle.host_rows.specs.Deadlines.{IsAscendingDeadlines, Waits};
+ghost use Rattle.host_rows.specs.Ledger.{most_counted};
 ghost use Rattle.host_book.specs.Ready.{AllFit, all_brought, brought_bytes, changes_of, IsReady};
 
 use crate::indexed::IndexedBook;
@@ -26,11 +26,11 @@ use ps_time::items::Items;
 use ps_time::key::RunKey;
 use ps_time::memory::Memory;
 use ps_time::moment::Moment;
-use row_ledger::deadlines::Deadlines;
+use host_rows::deadlines::Deadlines;
 use run_states::rows::Rows;
 use std::alloc::Global;
 use std::marker::Model;
-use tiered_list::lent::Lent;
+use ps_lists::tiered_lent::Lent;
 
 /// A host's book, with what is looked up in it, when its tasks wake, and places for changes.
 pub struct HostBook {

@@ -12,10 +12,10 @@ ghost use Rattle.host_model.specs.Lawful.{Lawful};
 ghost use Rattle.host_model.specs.MayFollow.{CanApply};
 ghost use Rattle.host_model.specs.declared.change.Change.TheVariants.{AcceptHeard as AcceptHeardChange, Accepted as AcceptedChange, Asked as AskedChange, Closed as ClosedChange, Confirmed as ConfirmedChange, Ended as EndedChange, FreeHeard as FreeHeardChange, LimitsSet as LimitsSetChange, MaterialHeard as MaterialHeardChange, Merged as MergedChange, Planned as PlannedChange, Posted as PostedChange, Purged as PurgedChange, ResultHeard as ResultHeardChange, Started as StartedChange, TaskClosed as TaskClosedChange, Told as ToldChange, Tried as TriedChange};
 ghost use Rattle.run_states.specs.LawfulRow.{BringsResults};
-ghost use Rattle.live_rows.specs.Still.{keys_live_by, live_keys, StillStay};
+ghost use Rattle.host_rows.specs.Still.{keys_live_by, live_keys, StillStay};
 ghost use Rattle.host_book.specs.Host.{noted};
-ghost use Rattle.row_ledger.specs.Deadlines.{due_keys, IsAscendingDeadlines, Waits};
-ghost use Rattle.row_ledger.specs.Ledger.{fact_bytes, most_counted, IsNoPlan};
+ghost use Rattle.host_rows.specs.Deadlines.{due_keys, IsAscendingDeadlines, Waits};
+ghost use Rattle.host_rows.specs.Ledger.{fact_bytes, most_counted, IsNoPlan};
 ghost use Rattle.host_model.specs.NewRow.{all_unheard};
 ghost use Rattle.host_book.specs.Ready.{brought_bytes, is_heard, is_merged, most_archives, IsBare, IsReady};
 ghost use Rattle.host_book.specs.Reservations.{lapses_at, released, without_lapsed};
@@ -37,8 +37,8 @@ use ps_time::key::RunKey;
 use ps_time::memory::Memory;
 use ps_time::moment::Moment;
 use ps_time::text::Text;
-use row_ledger::deadlines::Deadlines;
-use row_ledger::ledger::Ledger;
+use host_rows::deadlines::Deadlines;
+use host_rows::ledger::Ledger;
 use run_states::answer::{Answer, FreeAnswer, Other, Told};
 use run_states::fact::Fact;
 use run_states::life::LifeStep;
@@ -48,7 +48,7 @@ use run_states::rows::Rows;
 use run_states::why::Why;
 use std::alloc::Global;
 use std::marker::Model;
-use tiered_list::lent::Lent;
+use ps_lists::tiered_lent::Lent;
 
 /// A host's book, with what is looked up in it but for when its tasks wake, and places for changes.
 pub(crate) struct IndexedBook {

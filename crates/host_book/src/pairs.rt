@@ -8,8 +8,8 @@ use ps_time::key::RunKey;
 use ps_time::memory::Memory;
 use std::alloc::Global;
 use std::marker::Model;
-use tiered_list::lent::Lent;
-use tiered_list::tiered_list::TieredList;
+use ps_lists::tiered_lent::Lent;
+use ps_lists::tiered_list::TieredList;
 
 /// Pairs of a run and the number of its epoch, with different keys, and places that are reserved for more.
 #[derive(Drop)]

@@ -1,7 +1,7 @@
 //! The changes of a step, made ready for a book.
 ghost use Rattle.std.specs.Prelude.{◌≡◌, ◌≤◌, ◌-◌, All, IfOk, IfSome, OnOk, length};
 ghost use Rattle.run_states.specs.ResultBytes.{result_bytes as bytes_of_rows};
-ghost use Rattle.row_ledger.specs.Ledger.{most_counted};
+ghost use Rattle.host_rows.specs.Ledger.{most_counted};
 ghost use Rattle.host_book.specs.Ready.{IsReady, all_brought, changes_of};
 
 use crate::book::HostBook;

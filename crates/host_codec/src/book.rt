@@ -27,7 +27,7 @@ use run_states::lent::LentRows;
 use run_states::row::RunRow;
 use std::alloc::Global;
 use std::marker::Model;
-use tiered_list::lent::Lent;
+use ps_lists::tiered_lent::Lent;
 use value_bytes::fault::CodeFault;
 
 /// What a host keeps, seen by contracts as its book.

@@ -20,8 +20,8 @@ use Rattle.host_model.specs.RecordLength.{change_bytes}
 use Rattle.host_model.specs.declared.change.Change.{Change}
 use Rattle.run_states.proofs.Place.{key_is}
 use Rattle.host_model.proofs.SettledBook.{book_settled}
-use Rattle.row_ledger.specs.Ledger.{most_counted}
-use Rattle.row_ledger.proofs.RowLemmas.{above_other, bytes_cons, bytes_settled}
+use Rattle.host_rows.specs.Ledger.{most_counted}
+use Rattle.host_rows.proofs.RowLemmas.{above_other, bytes_cons, bytes_settled}
 use Rattle.host_draft.specs.Draft.{IsDraft, Seen, admits, book_now, with_draft}
 use Rattle.draft_parts.specs.Overlay.{over}
 

@@ -7,8 +7,8 @@ use Rattle.run_states.specs.Rows.{Rows, find_row}
 use Rattle.run_states.specs.declared.row.RunRow.{RunRow}
 use Rattle.run_states.specs.declared.why.Closing.{Closing}
 use Rattle.run_states.proofs.Place.{key_is}
-use Rattle.row_ledger.specs.Deadlines.{is_among, IsDue}
-use Rattle.row_ledger.proofs.RowLemmas.{found_is}
+use Rattle.host_rows.specs.Deadlines.{is_among, IsDue}
+use Rattle.host_rows.proofs.RowLemmas.{found_is}
 use Rattle.host_model.proofs.RowLemmas.{found_of_all}
 use Rattle.host_model.proofs.Standing.{find_row-map}
 use Rattle.draft_parts.specs.Overlay.{lapsed_copy, lapsed_over, named, over}

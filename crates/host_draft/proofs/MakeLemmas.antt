@@ -10,9 +10,9 @@ use Rattle.run_states.specs.Life.{first}
 use Rattle.run_states.specs.ResultBytes.{result_bytes, row_bytes}
 use Rattle.run_states.specs.Rows.{change_row, find_row, lift_row, put_row}
 use Rattle.run_states.specs.declared.row.RunRow.{RunRow}
-use Rattle.row_ledger.specs.Ledger.{bytes_at, most_counted}
-use Rattle.row_ledger.proofs.RowLemmas.{bytes_changed, bytes_lifted, bytes_put, bytes_within, found_change}
-use Rattle.row_ledger.proofs.LiveLemmas.{length_changed, length_put}
+use Rattle.host_rows.specs.Ledger.{bytes_at, most_counted}
+use Rattle.host_rows.proofs.RowLemmas.{bytes_changed, bytes_lifted, bytes_put, bytes_within, found_change}
+use Rattle.host_rows.proofs.LiveLemmas.{length_changed, length_put}
 use Rattle.host_model.specs.Apply.{apply, put_new}
 use Rattle.host_model.specs.Book.{Book}
 use Rattle.host_model.specs.Lawful.{Lawful}

@@ -15,8 +15,8 @@ use Rattle.run_states.specs.declared.row.RunRow.{RunRow}
 use Rattle.run_states.proofs.Place.{noted_key, preempted_key}
 use Rattle.host_timeline.specs.Booking.{conflicting, keys_of}
 use Rattle.host_timeline.specs.declared.booking.Booking.{Booking}
-use Rattle.row_ledger.specs.Closing.{closed_keys}
-use Rattle.row_ledger.proofs.LiveLemmas.{length_changed}
+use Rattle.host_rows.specs.Closing.{closed_keys}
+use Rattle.host_rows.proofs.LiveLemmas.{length_changed}
 use Rattle.part_core.specs.Reservations.{bookings_of}
 use Rattle.part_core.specs.Seen.{IsUnbooked}
 use Rattle.host_model.specs.Apply.{apply, put_new}

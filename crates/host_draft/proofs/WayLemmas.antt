@@ -17,9 +17,9 @@ use Rattle.run_states.specs.declared.row.RunRow.{RunRow}
 use Rattle.run_states.specs.declared.why.Why.TheVariants.{Preempted}
 use Rattle.run_states.proofs.Place.{key_is, preempted_key}
 use Rattle.host_timeline.specs.Booking.{conflicting, conflicts_with, keys_of}
-use Rattle.row_ledger.specs.Closing.{closed_keys}
-use Rattle.row_ledger.proofs.ClosingLemmas.{closed_each_keys}
-use Rattle.row_ledger.proofs.RowLemmas.{bytes_cons, each_found}
+use Rattle.host_rows.specs.Closing.{closed_keys}
+use Rattle.host_rows.proofs.ClosingLemmas.{closed_each_keys}
+use Rattle.host_rows.proofs.RowLemmas.{bytes_cons, each_found}
 use Rattle.part_core.specs.Reservations.{bookings_of}
 use Rattle.part_core.specs.Seen.{IsUnbooked}
 use Rattle.host_model.specs.Apply.{put_new}

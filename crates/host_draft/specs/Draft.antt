@@ -6,7 +6,7 @@ use Rattle.limit_apply.specs.Limits.{Config as Limits}
 use Rattle.run_states.specs.ResultBytes.{result_bytes}
 use Rattle.run_states.specs.Rows.{find_row}
 use Rattle.run_states.specs.declared.row.RunRow.{RunRow}
-use Rattle.row_ledger.specs.Ledger.{most_counted}
+use Rattle.host_rows.specs.Ledger.{most_counted}
 use Rattle.host_model.specs.Apply.{apply_all, settled}
 use Rattle.host_model.specs.Book.{Book, last_limits}
 use Rattle.host_model.specs.Draft.{Draft, fresh}

@@ -6,8 +6,8 @@ use Rattle.host_journal.specs.Image.{ImageState}
 use Rattle.host_model.specs.Book.{Book}
 use Rattle.host_model.specs.Lawful.{Lawful}
 use Rattle.host_model.specs.declared.config.Config.{Config}
-use Rattle.kept_host.specs.Stands.{StandsAs, StandsFor}
-use Rattle.kept_host.proofs.ListLemmas.{either_stands, stands_either}
+use Rattle.host_replay.specs.Stands.{StandsAs, StandsFor}
+use Rattle.host_replay.proofs.ListLemmas.{either_stands, stands_either}
 use Rattle.machine_keep.specs.Refusal.{StandsOf}
 use Rattle.host_keep.specs.Standing.{Standing, StandsNow, StoodOnce}
 

@@ -11,8 +11,8 @@ use Rattle.host_model.specs.declared.change.Change.{Change}
 use Rattle.host_model.specs.declared.change.Changes.{Changes}
 use Rattle.host_model.specs.declared.config.Config.{Config}
 use Rattle.host_model.specs.declared.reply.Reply.{Reply}
-use Rattle.kept_host.specs.Stands.{StandsAs}
-use Rattle.kept_host.proofs.ListLemmas.{lead_on}
+use Rattle.host_replay.specs.Stands.{StandsAs}
+use Rattle.host_replay.proofs.ListLemmas.{lead_on}
 use Rattle.machine_keep.specs.Kept.{after_step}
 use Rattle.host_keep.specs.Standing.{Answers, Follows, IsNext, Standing, StandsNow, after, changes_in, with_config}
 use Rattle.host_keep.specs.declared.call.HostCall.{HostCall}

@@ -1,4 +1,4 @@
 pub mod Laws
 pub mod Opening
 pub mod Standing
-pub use Rattle.kept_host.specs.Stands
+pub use Rattle.host_replay.specs.Stands

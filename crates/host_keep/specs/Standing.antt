@@ -10,9 +10,9 @@ use Rattle.host_model.specs.Step.{step_changes, step_reply}
 use Rattle.host_model.specs.declared.change.Changes.{Changes}
 use Rattle.host_model.specs.declared.config.Config.{Config}
 use Rattle.host_model.specs.declared.reply.Reply.{Reply}
-use Rattle.kept_host.specs.Stands.{StandsAs}
+use Rattle.host_replay.specs.Stands.{StandsAs}
 use Rattle.ps_time.specs.Numbers.{greatest_moment}
-use Rattle.row_ledger.specs.Ledger.{most_counted}
+use Rattle.host_rows.specs.Ledger.{most_counted}
 use Rattle.run_states.specs.ResultBytes.{result_bytes}
 use Rattle.host_keep.specs.declared.call.HostCall.{HostCall}
 use Rattle.host_keep.specs.declared.call.HostStep.{HostStep}

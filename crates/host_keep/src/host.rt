@@ -3,7 +3,7 @@ ghost use Rattle.std.specs.Prelude.{◌-◌, ◌<◌, ◌≡◌, ◌≤◌, All,
 ghost use Rattle.value_bytes.specs.Changes.{changes};
 ghost use Rattle.host_book.specs.Ready.{IsReady, all_brought};
 ghost use Rattle.host_keep.specs.Standing.{Makes};
-ghost use Rattle.row_ledger.specs.Ledger.{most_counted};
+ghost use Rattle.host_rows.specs.Ledger.{most_counted};
 ghost use Rattle.run_states.specs.ResultBytes.{result_bytes};
 
 use crate::call::{HostCall, HostStep};
@@ -15,8 +15,8 @@ use host_model::change::Changes;
 use host_model::config::Config;
 use host_model::law::law_step;
 use host_model::reply::{Outcome, Reply};
-use host_step::decide::decide;
-use kept_host::restore::{Restored as RestoredBook, restore};
+use host_core::decide::decide;
+use host_replay::restore::{Restored as RestoredBook, restore};
 use machine_keep::machine::{Decided, Machine, RestoreFault, Restored};
 use ps_time::items::Items;
 use ps_time::memory::Memory;

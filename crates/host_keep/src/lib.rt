@@ -8,4 +8,4 @@ mod parts;
 
 /// The book of a host, and the law that its disks stand for one book alone.
 pub use host_book::book;
-pub use kept_host::law;
+pub use host_replay::law;

@@ -15,7 +15,7 @@ ghost use Rattle.machine_keep.specs.Course.{Unwritten};
 ghost use Rattle.machine_keep.specs.Kept.{IsMade, StandsEither, StandsFor};
 ghost use Rattle.machine_keep.specs.Opening.{EachUnlessUndone, StandsAsBefore};
 ghost use Rattle.machine_keep.specs.Refusal.{IsRefusedAt};
-ghost use Rattle.kept_host.specs.Stands.{StandsFor as IsListOf};
+ghost use Rattle.host_replay.specs.Stands.{StandsFor as IsListOf};
 ghost use Rattle.host_keep.specs.Opening.{Halted, IsFirstAnswer, IsFirstFault, IsStarting, KeptHost, Started, Unstarted, started};
 ghost use Rattle.host_keep.specs.Standing.{StandsNow, StoodOnce};
 

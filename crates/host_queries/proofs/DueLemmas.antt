@@ -10,7 +10,7 @@ use Rattle.archive_retry.specs.declared.state.ArchiveState.{ArchiveState}
 use Rattle.run_states.specs.LawfulRow.{HasArchives}
 use Rattle.run_states.specs.Rows.{find_row}
 use Rattle.run_states.specs.declared.row.RunRow.{RunRow}
-use Rattle.live_rows.specs.Still.{is_live, live_keys, live_rows}
+use Rattle.host_rows.specs.Still.{is_live, live_keys, live_rows}
 use Rattle.live_law.proofs.StillLemmas.{listed, silent, silent_due}
 use Rattle.host_model.specs.Archives.{due, due_from_index, due_pairs}
 use Rattle.host_model.specs.Book.{Book, keys_of_rows, moment_at}

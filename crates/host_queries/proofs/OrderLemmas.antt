@@ -9,8 +9,8 @@ use Rattle.run_states.specs.LawfulRow.{HasOrigin}
 use Rattle.run_states.specs.Life.{settled_row, settled_rows}
 use Rattle.run_states.specs.Rows.{IsAscendingRows, find_row}
 use Rattle.run_states.specs.declared.row.RunRow.{RunRow}
-use Rattle.live_rows.specs.Still.{is_live_by, keys_live_by}
-use Rattle.live_rows.proofs.KeyLemmas.{passing_up}
+use Rattle.host_rows.specs.Still.{is_live_by, keys_live_by}
+use Rattle.host_rows.proofs.KeyLemmas.{passing_up}
 use Rattle.live_law.proofs.StillLemmas.{silent, silent_orders, unlive_ever, unlive_settled}
 use Rattle.host_model.specs.Apply.{settled}
 use Rattle.host_model.specs.Book.{Book, moment_at}

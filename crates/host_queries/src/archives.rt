@@ -15,7 +15,7 @@ use ps_time::moment::Moment;
 use run_states::row::RunRow;
 use run_states::rows::Rows;
 use std::alloc::Global;
-use tiered_list::lent::Lent;
+use ps_lists::tiered_lent::Lent;
 
 /// Every run and archive that is due at a clock, in seconds since 1970 UTC: by key, then by the archive's position among
 /// those of its task, from 0 on. Rows that aren't live aren't looked at.

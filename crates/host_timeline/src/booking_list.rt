@@ -10,13 +10,13 @@ ghost use Rattle.host_timeline.specs.Timeline.{started_booking};
 use crate::booking::{Booking, started};
 use crate::lane::{Place, place_of};
 use crate::lent::LentBookings;
-use placed_list::placed_list::PlacedList;
+use ps_lists::placed_list::PlacedList;
 use ps_time::memory::Memory;
 use ps_time::moment::Moment;
 use std::alloc::Global;
 use std::cmp::Ordering;
 use std::marker::Model;
-use tiered_list::tiered_list::TieredList;
+use ps_lists::tiered_list::TieredList;
 
 /// Bookings, and their starts in the same order, eight bytes each: a search among starts looks at no booking, and needs a
 /// small part of the memory that bookings take.
@@ -28,7 +28,7 @@ pub(crate) struct BookingList {
 
 impl Model for BookingList {
     ghost use Rattle.std.specs.Prelude.{◌≡◌, min};
-    ghost use Rattle.placed_list.specs.PlacedList.{PlacedList as Seen};
+    ghost use Rattle.ps_lists.specs.PlacedList.{PlacedList as Seen};
     ghost use Rattle.host_timeline.specs.declared.booking.Booking.{Booking as SeenBooking};
     ghost use Rattle.host_timeline.specs.Lane.{starts_of};
 

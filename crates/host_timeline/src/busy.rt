@@ -13,7 +13,7 @@ use ps_time::memory::Memory;
 use ps_time::moment::Moment;
 use std::alloc::Global;
 use std::marker::Model;
-use tiered_list::lent::Lent;
+use ps_lists::tiered_lent::Lent;
 
 /// What bookings of conflicting classes take, for a normal and for an exclusive run.
 #[derive(Drop)]

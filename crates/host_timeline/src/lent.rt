@@ -8,7 +8,7 @@ ghost use Rattle.host_timeline.specs.Timeline.{IsAscendingBookings, IsGapFor, Is
 
 use crate::booking::Booking;
 use crate::lane::{Place, place_of};
-use placed_list::lent::Lent;
+use ps_lists::placed_lent::Lent;
 use ps_time::key::RunKey;
 use std::cmp::Ordering;
 use std::marker::Model;

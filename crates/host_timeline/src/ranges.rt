@@ -12,8 +12,8 @@ use ps_time::memory::Memory;
 use ps_time::moment::Moment;
 use std::alloc::Global;
 use std::marker::Model;
-use tiered_list::lent::Lent;
-use tiered_list::tiered_list::TieredList;
+use ps_lists::tiered_lent::Lent;
+use ps_lists::tiered_list::TieredList;
 
 /// Ranges of seconds, each maximal, and places that are reserved for more.
 #[derive(Drop)]

@@ -18,7 +18,7 @@ use crate::free_starts::{keep_firm, near_bookings, reach, windows_beside};
 use crate::lanes::Lanes;
 use crate::least_key::{add_conflicts, first_conflict, least_conflict, least_firm, lesser_of};
 use crate::lent::LentBookings;
-use placed_list::placed_list::PlacedList;
+use ps_lists::placed_list::PlacedList;
 use ps_time::class::Class;
 use ps_time::interval::{Interval, Window};
 use ps_time::items::Items;
@@ -28,7 +28,7 @@ use ps_time::moment::{Length, Moment};
 use ps_time::tiers::Tiers;
 use std::alloc::Global;
 use std::marker::Model;
-use tiered_list::lent::Lent;
+use ps_lists::tiered_lent::Lent;
 
 /// The bookings of a host, at most one of a key, and places that are reserved for more.
 #[derive(Drop)]

@@ -3,7 +3,7 @@
 use ps_time::memory::Memory;
 use std::alloc::{AllocError, AllocFailed};
 use std::io;
-use trial_inputs::fault::LineFault;
+use host_input_trials::fault::LineFault;
 
 /// Why there is no table, or only a part of one.
 #[derive(Clone, Copy)]

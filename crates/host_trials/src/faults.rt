@@ -6,9 +6,9 @@ use crate::fault::TableFault;
 use crate::host::{Disks, KeptHost, Outcome};
 use ps_time::moment::Moment;
 use std::alloc::Global;
-use trial_inputs::booking::{a_booking, later};
-use trial_inputs::given::{asked_of, clock_of};
-use trial_inputs::inputs::an_input;
+use host_input_trials::booking::{a_booking, later};
+use host_input_trials::given::{asked_of, clock_of};
+use host_input_trials::inputs::an_input;
 
 /// A step of a script, and the steps before it.
 #[derive(Clone, Copy)]

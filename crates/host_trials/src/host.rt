@@ -19,7 +19,7 @@ use ps_time::memory::Memory;
 use ps_time::moment::Moment;
 use std::alloc::Global;
 use std::marker::Model;
-use trial_config::config::config;
+use host_input_trials::config::config;
 
 /// The disks of a host, in their order.
 pub(crate) type Disks = (MemoryDisk, MemoryDisk);

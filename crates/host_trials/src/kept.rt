@@ -11,7 +11,7 @@ use ps_files::folder_rack::FolderRack;
 use std::alloc::Global;
 use std::fs::File;
 use std::println;
-use trial_config::config::config;
+use host_input_trials::config::config;
 
 type Files = (FileDisk<File>, FileDisk<File>);
 

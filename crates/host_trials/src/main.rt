@@ -1,6 +1,6 @@
 //! Tries a kept host. Without a word it opens one on new disks in memory and has it make steps, of which calls of the disks fail.
 //! Standard input has a line for each step: a name, a clock in seconds since 1970 UTC, and what the host is asked then, in the words
-//! of `trial_inputs`. These lines are written:
+//! of `host_input_trials`. These lines are written:
 //!
 //! - `new` and `again`: the book's moment, and how many rows and epochs it has, of a host on new disks at 1000, and of what its disks
 //!   give at 1010;

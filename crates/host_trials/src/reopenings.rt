@@ -5,8 +5,8 @@ use crate::faults::{Books, Step, book_of, host_before};
 use crate::host::{Disks, KeptHost};
 use ps_disks::image::Image;
 use std::alloc::Global;
-use trial_inputs::booking::later;
-use trial_inputs::given::clock_of;
+use host_input_trials::booking::later;
+use host_input_trials::given::clock_of;
 
 // The disks are opened once more so many seconds later.
 const AGAIN: u64 = 2;

@@ -6,7 +6,7 @@ use crate::host::KeptHost;
 use crate::openings::cut_letters;
 use crate::reopenings::{calls_of, opening_letters};
 use std::println;
-use trial_inputs::given::{asked_of, name_of};
+use host_input_trials::given::{asked_of, name_of};
 
 fn print_host(rt: &HostRuntime, word: &str, host: &KeptHost) -> Result<(), TableFault> {
     let (moment, rows, epochs) = host.stands();

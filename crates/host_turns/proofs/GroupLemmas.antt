@@ -17,12 +17,12 @@ use Rattle.host_model.specs.declared.change.Change.{Change}
 use Rattle.host_model.specs.declared.config.Config.{Config}
 use Rattle.host_model.specs.declared.task_row.TaskRow.{TaskRow}
 use Rattle.host_model.proofs.Placed.{find_row-key, find_row-own}
-use Rattle.live_rows.specs.LiveKeys.{find_own}
-use Rattle.live_rows.specs.Still.{is_live_by}
+use Rattle.host_rows.specs.LiveKeys.{find_own}
+use Rattle.host_rows.specs.Still.{is_live_by}
 use Rattle.live_law.specs.Groups.{going_keys, make_keys}
 use Rattle.live_law.proofs.DraftLemmas.{made_keeps}
 use Rattle.host_draft.specs.Draft.{Seen, with_draft}
-use Rattle.host_wishes.specs.Wishes.{HoldActive}
+use Rattle.host_turns.specs.Wishes.{HoldActive}
 use Rattle.host_turns.specs.Turns.{HoldExclusive, IsLiveTurn, IsOfHost, IsTurn, MayMake, wish_of}
 use Rattle.host_turns.specs.declared.due.Due.{Due}
 use Rattle.host_turns.proofs.GrantLemmas.{Granted, ask_grants, due_grants, granted_lawful, granted_next, purge_grants}

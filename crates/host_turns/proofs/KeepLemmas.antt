@@ -39,11 +39,11 @@ use Rattle.host_model.proofs.Placed.{find_row-key}
 use Rattle.host_model.proofs.EffectEvolves.{effect_evolves}
 use Rattle.host_model.proofs.Standing.{changed_key, changed_row, effect_key, way_evolves}
 use Rattle.host_model.proofs.Wishes.{end_granted, merge_granted, plan_granted, start_granted}
-use Rattle.live_rows.specs.LiveKeys.{find_own}
-use Rattle.live_rows.specs.Still.{is_live_by, keys_live_by}
-use Rattle.live_rows.proofs.WaitLemmas.{both}
+use Rattle.host_rows.specs.LiveKeys.{find_own}
+use Rattle.host_rows.specs.Still.{is_live_by, keys_live_by}
+use Rattle.host_rows.proofs.WaitLemmas.{both}
 use Rattle.live_law.proofs.StillLemmas.{silent, unlive_ever}
-use Rattle.host_wishes.specs.Wishes.{HoldActive, HoldHindering}
+use Rattle.host_turns.specs.Wishes.{HoldActive, HoldHindering}
 use Rattle.host_turns.specs.Turns.{HoldExclusive, exclusive_keys, hindering_keys, is_exclusive_at, wish_of}
 use Rattle.host_turns.specs.declared.due.Due.{Due}
 use Rattle.host_turns.specs.declared.due.Due.TheVariants.{End, Merge, Start, Plan}

@@ -2,6 +2,8 @@ pub mod AwakeLemmas
 pub mod GrantLemmas
 pub mod GroupLemmas
 pub mod KeepLemmas
+pub mod PurgeLemmas
 pub mod RowLemmas
+pub mod StartLemmas
 pub mod TaskLemmas
 pub mod TurnLemmas

@@ -18,7 +18,7 @@ use Rattle.host_model.specs.Merging.{results_of}
 use Rattle.host_model.specs.declared.task_row.TaskRow.{TaskRow}
 use Rattle.host_model.proofs.RowFacts.{lawful_at}
 use Rattle.lead_core.specs.Planning.{MayPlan}
-use Rattle.host_wishes.specs.Wishes.{MayEnd, MayMerge}
+use Rattle.host_turns.specs.Wishes.{MayEnd, MayMerge}
 
 up_to : (m : ℕ) (o : Option ℕ) → m ≤ greatest_moment → IsUpTo m o → IsUpTo greatest_moment o
 up_to m None bound low = tt

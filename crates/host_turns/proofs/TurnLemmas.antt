@@ -15,7 +15,7 @@ use Rattle.host_model.specs.declared.config.Config.{Config}
 use Rattle.host_model.specs.declared.task_row.TaskRow.{TaskRow}
 use Rattle.host_model.proofs.DraftLemmas.{turned_is}
 use Rattle.host_model.proofs.SettledBook.{book_settled}
-use Rattle.live_rows.specs.Still.{keys_live_by, StillStay}
+use Rattle.host_rows.specs.Still.{keys_live_by, StillStay}
 use Rattle.live_law.specs.Groups.{going_keys, let_go, make_keys, turned_by, turned_most}
 use Rattle.live_law.specs.Waking.{make_asked, turned_awake}
 use Rattle.live_law.proofs.AwakeLemmas.{awake_same}

@@ -8,7 +8,7 @@ use Rattle.plugin_core.specs.TestSpec.{test_class}
 use Rattle.limit_apply.specs.Limits.{Config as Limits}
 use Rattle.run_states.specs.Rows.{find_row}
 use Rattle.run_states.specs.declared.row.RunRow.{RunRow}
-use Rattle.live_rows.specs.LiveKeys.{find_own}
+use Rattle.host_rows.specs.LiveKeys.{find_own}
 use Rattle.host_model.specs.Apply.{apply}
 use Rattle.host_model.specs.Book.{Book, limits_in}
 use Rattle.host_model.specs.Ending.{end_run}
@@ -22,7 +22,7 @@ use Rattle.host_model.specs.declared.config.Config.{Config}
 use Rattle.host_model.specs.declared.task_row.TaskRow.{TaskRow}
 use Rattle.host_draft.specs.Draft.{Seen}
 use Rattle.host_draft.specs.Making.{IsReadOn}
-use Rattle.host_wishes.specs.Wishes.{HoldActive}
+use Rattle.host_turns.specs.Wishes.{HoldActive}
 use Rattle.host_turns.specs.declared.due.Due.{Due}
 use Rattle.host_turns.specs.declared.due.Due.TheVariants.{End, Merge, Start, Plan}
 

@@ -1,9 +1,13 @@
-//! A turn of a host: all that is due at a moment, group by group, over a draft of its book.
+//! A turn of a host: what is due of each row at a moment, and all of it, group by group, over a draft of its book.
 #![tactic(auto)]
 
 pub mod due;
+pub mod ending;
 mod exclusive;
 mod groups;
+pub mod merging;
+pub mod purging;
+pub mod starting;
 pub mod turn;
 mod wishes;
 

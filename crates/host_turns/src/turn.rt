@@ -6,7 +6,7 @@ ghost use Rattle.ps_time.specs.Numbers.{most_changes};
 ghost use Rattle.ps_time.specs.declared.moment.TheConstants.{MAX_MOMENT};
 ghost use Rattle.live_law.specs.Groups.{asked_key, is_past_at, let_go, lets_go, turned_most};
 ghost use Rattle.live_law.specs.Waking.{turned_awake};
-ghost use Rattle.live_rows.specs.Still.{keys_live_by, StillStay};
+ghost use Rattle.host_rows.specs.Still.{keys_live_by, StillStay};
 ghost use Rattle.host_model.specs.Apply.{settled};
 ghost use Rattle.host_model.specs.Draft.{fresh, turned};
 ghost use Rattle.host_model.specs.Turn.{changed, turn as turn_of};

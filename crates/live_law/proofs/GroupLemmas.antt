@@ -40,7 +40,7 @@ use Rattle.host_model.proofs.Standing.{changed_key, changed_row, find_row-map, w
 use Rattle.host_model.proofs.Wishes.{end_granted, merge_granted, plan_granted, start_granted}
 use Rattle.host_model.proofs.GrownLemmas.{settled_evolves}
 use Rattle.live_law.specs.Groups.{going_keys, let_go, make_keys, turned_by, turned_most, turned_over}
-use Rattle.live_rows.specs.Still.{is_live_by, keys_live_by, StillStay}
+use Rattle.host_rows.specs.Still.{is_live_by, keys_live_by, StillStay}
 use Rattle.live_law.proofs.DraftLemmas.{made_keeps}
 use Rattle.live_law.proofs.PurgeLemmas.{purges_live, purges_same, Lasts}
 use Rattle.live_law.proofs.StillLemmas.{idle_by, idle_end, idle_merge, idle_plan, idle_start, some_same, unlive_settled, IsIdle}

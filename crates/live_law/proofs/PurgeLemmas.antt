@@ -31,9 +31,9 @@ use Rattle.host_model.proofs.RowLemmas.{all_of_found}
 use Rattle.host_model.proofs.Standing.{changed_row}
 use Rattle.host_model.proofs.Wishes.{ask_granted, purge_granted}
 use Rattle.live_law.specs.Groups.{asked_key, going_keys, is_past_at, let_go, lets_go, make_keys}
-use Rattle.live_rows.specs.Still.{has_come, is_live_by, is_still, is_waiting, keys_live_by, StillStay}
-use Rattle.live_rows.proofs.StayLemmas.{fewer_stay, has_later, later_lifted, later_put, newest_beside}
-use Rattle.live_rows.proofs.WaitLemmas.{waiting_parts}
+use Rattle.host_rows.specs.Still.{has_come, is_live_by, is_still, is_waiting, keys_live_by, StillStay}
+use Rattle.host_rows.proofs.LaterLemmas.{fewer_stay, has_later, later_lifted, later_put, newest_beside}
+use Rattle.host_rows.proofs.WaitLemmas.{waiting_parts}
 use Rattle.live_law.proofs.DraftLemmas.{draft_keeps, made_keeps}
 use Rattle.live_law.proofs.StillLemmas.{some_same, unlive_by}
 

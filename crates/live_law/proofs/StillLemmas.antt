@@ -27,8 +27,8 @@ use Rattle.host_model.specs.Walk.{change_if}
 use Rattle.host_model.specs.declared.change.Change.{Change}
 use Rattle.host_model.specs.declared.config.Config.{Config}
 use Rattle.host_model.specs.declared.order.OrderBody.{OrderBody}
-use Rattle.live_rows.specs.Still.{has_come, is_called, is_decided, is_live, is_live_by, is_mergeable, is_quiet, is_still, is_told, is_waiting, live_rows}
-use Rattle.live_rows.proofs.WaitLemmas.{both, is_not, waiting_lapse, waiting_parts, Waiting}
+use Rattle.host_rows.specs.Still.{has_come, is_called, is_decided, is_live, is_live_by, is_mergeable, is_quiet, is_still, is_told, is_waiting, live_rows}
+use Rattle.host_rows.proofs.WaitLemmas.{both, is_not, waiting_lapse, waiting_parts, Waiting}
 
 -- ---- tests
 pub some_same : (a b : RunRow) → Some a ≡ Some b → a ≡ b

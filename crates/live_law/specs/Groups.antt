@@ -17,7 +17,7 @@ use Rattle.host_model.specs.Starting.{start_run}
 use Rattle.host_model.specs.declared.change.Change.{Change}
 use Rattle.host_model.specs.declared.change.Change.TheVariants.{Asked}
 use Rattle.host_model.specs.declared.config.Config.{Config}
-use Rattle.live_rows.specs.Still.{is_live_by}
+use Rattle.host_rows.specs.Still.{is_live_by}
 
 -- for the row of each of these keys, in order
 abbrev pub make_keys : (Book → RunRow → Option Change) → ℕ → List RunKey → Draft → Draft

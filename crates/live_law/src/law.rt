@@ -11,7 +11,7 @@ ghost use Rattle.host_model.specs.Lawful.{Lawful};
 ghost use Rattle.host_model.specs.Orders.{orders_of};
 ghost use Rattle.host_model.specs.declared.config.Config.{Config};
 ghost use Rattle.live_law.specs.Groups.{going_keys, let_go, turned_by, turned_most, turned_over};
-ghost use Rattle.live_rows.specs.Still.{is_live, is_live_by, keys_live_by, live_rows, StillStay};
+ghost use Rattle.host_rows.specs.Still.{is_live, is_live_by, keys_live_by, live_rows, StillStay};
 
 /// A law: the turn whose groups over rows go only over the keys of the rows that were live by its moment, but for the purging, is
 /// the turn.

@@ -2,7 +2,7 @@
 ghost use Rattle.std.specs.Prelude.{◌≡◌, ◌≢◌, Some, codes};
 ghost use Rattle.ps_doors.specs.Archiver.{HasLength};
 ghost use Rattle.ps_doors.specs.declared.archiver.Tried.TheVariants.{Failed, Memory as NoMemory};
-ghost use Rattle.psched_script.specs.Lawful.{IsLawful};
+ghost use Rattle.rehearsal_script.specs.Lawful.{IsLawful};
 
 use crate::scripts::{lines, script};
 use archivers::by_name::Archivers;
@@ -11,7 +11,7 @@ use ps_time::key::RunKey;
 use ps_time::memory::Memory;
 use ps_time::text::Text;
 use psched_rehearse::rehearse::rehearse;
-use psched_script::script::Script;
+use rehearsal_script::script::Script;
 use std::alloc::Global;
 use std::process::Abort;
 use std::test::Fail;

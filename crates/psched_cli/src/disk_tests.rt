@@ -1,11 +1,11 @@
 //! When the disks of the hosts of a rehearsal are written: as each step is made, and not at the end.
-ghost use Rattle.psched_script.specs.Lawful.{IsLawful};
+ghost use Rattle.rehearsal_script.specs.Lawful.{IsLawful};
 
 use crate::scripts::script;
 use archivers::plain::PlainArchivers;
 use ps_time::memory::Memory;
 use psched_rehearse::rehearse::{Disks, Rehearsed, run_script};
-use psched_script::script::Script;
+use rehearsal_script::script::Script;
 use std::alloc::Global;
 use std::process::Abort;
 use std::test::Fail;

@@ -1,10 +1,10 @@
 //! Texts and scripts of tests, in one line: a bar stands for each end of a line.
 ghost use Rattle.std.specs.Prelude.{IfOk};
-ghost use Rattle.psched_script.specs.Lawful.{IsLawful};
+ghost use Rattle.rehearsal_script.specs.Lawful.{IsLawful};
 
 use ps_time::memory::Memory;
-use psched_script::read::read_script;
-use psched_script::script::{Script, ScriptFault};
+use rehearsal_script::read::read_script;
+use rehearsal_script::script::{Script, ScriptFault};
 use std::alloc::{AllocError, Global};
 use std::test::Fail;
 

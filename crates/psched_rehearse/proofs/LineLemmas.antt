@@ -3,12 +3,12 @@ use Rattle.std.proofs.Common.{◌≡◌, ◌∙◌, ◌++◌, List, ap, refl, su
 use Rattle.ps_time.specs.declared.class.Class.{Class}
 use Rattle.host_model.specs.declared.input.Input.{Input}
 use Rattle.host_model.specs.declared.input.Input.TheVariants as input
-use Rattle.psched_script.specs.declared.script.ScriptHost.{ScriptHost}
-use Rattle.psched_script.specs.declared.script.ScriptLine.{ScriptLine}
-use Rattle.psched_script.specs.declared.script.ScriptLine.TheVariants as line
+use Rattle.rehearsal_script.specs.declared.script.ScriptHost.{ScriptHost}
+use Rattle.rehearsal_script.specs.declared.script.ScriptLine.{ScriptLine}
+use Rattle.rehearsal_script.specs.declared.script.ScriptLine.TheVariants as line
 use Rattle.rehearsal_model.specs.Moves.{Move, Outcomes, moment_of_line}
 use Rattle.rehearsal_model.specs.Plays.{MayArchive, MayLine}
-use Rattle.report_text.specs.Line.{booking_text, line_text}
+use Rattle.rehearsal_report.specs.Line.{booking_text, line_text}
 use Rattle.rehearsal_model.specs.Scenes.Deed.{Does}
 use Rattle.rehearsal_model.specs.Scenes.{Scene, at_last, came_at, deed_of, scene_archived, scene_deed, scene_line}
 use Rattle.rehearsal_model.specs.Telling.{archive_said, came_said, line_said, unavailable}

@@ -6,16 +6,16 @@ use Rattle.std.proofs.lemmas.Option.{slice_get-get_or}
 use Rattle.ps_time.specs.Numbers.{greatest_moment}
 use Rattle.host_model.specs.Conditions.{IsConfig, IsInput}
 use Rattle.host_model.specs.Lawful.{Lawful}
-use Rattle.api_heard.specs.Replied.{IsReplyTo}
-use Rattle.api_law.specs.Widths.{HasWidths}
-use Rattle.psched_script.specs.Lawful.{AreLawfulHosts, IsLawfulLine}
-use Rattle.psched_script.specs.declared.script.Numbered.{Numbered}
-use Rattle.psched_script.specs.declared.script.ScriptHost.{ScriptHost}
-use Rattle.machine_seat.specs.Held.{Held}
-use Rattle.psched_world.specs.Events.{brings}
-use Rattle.psched_world.specs.Laws.{Safe}
-use Rattle.psched_world.specs.World.{Letter, Stage}
-use Rattle.report_text.specs.Line.{line_text}
+use Rattle.api_peer.specs.Replied.{IsReplyTo}
+use Rattle.api_peer.specs.Widths.{HasWidths}
+use Rattle.rehearsal_script.specs.Lawful.{AreLawfulHosts, IsLawfulLine}
+use Rattle.rehearsal_script.specs.declared.script.Numbered.{Numbered}
+use Rattle.rehearsal_script.specs.declared.script.ScriptHost.{ScriptHost}
+use Rattle.simulated_machine.specs.Held.{Held}
+use Rattle.world_law.specs.Events.{brings}
+use Rattle.world_law.specs.Laws.{Safe}
+use Rattle.world_law.specs.World.{Letter, Stage}
+use Rattle.rehearsal_report.specs.Line.{line_text}
 use Rattle.rehearsal_model.specs.Hosts.{first_config}
 use Rattle.rehearsal_model.specs.Moves.{Outcomes, receiver, reply_to}
 use Rattle.rehearsal_model.specs.Plays.{IsPlay, MayLine}
@@ -28,7 +28,7 @@ use Rattle.rehearsal_model.proofs.DeedLemmas.{line_on}
 use Rattle.rehearsal_model.proofs.HostLemmas.{right_first}
 use Rattle.rehearsal_model.proofs.ReachLemmas.{book_lawful, brings_input, comes_known, config_is, receiver_within, replied_so, script_peers}
 use Rattle.rehearsal_model.proofs.SceneLemmas.{stage_chosen}
-use Rattle.rehearsal_moves.specs.Playing.{IsPlaying}
+use Rattle.rehearsal_lines.specs.Playing.{IsPlaying}
 
 pub playing : (hosts : List ScriptHost) → AreLawfulHosts hosts → (p : Play) → IsPlay hosts p → IsPlaying hosts p.scene
 playing hosts lawful p is =

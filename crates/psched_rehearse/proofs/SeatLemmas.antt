@@ -1,9 +1,9 @@
 -- Hosts that are told one after another.
 use Rattle.std.proofs.Common.{◌≡◌, ◌∷◌, List, [], arith, length, map, refl, subst}
-use Rattle.machine_seat.specs.Held.{Held}
+use Rattle.simulated_machine.specs.Held.{Held}
 use Rattle.ps_disks.specs.MemoryDisk.{DiskState}
-use Rattle.psched_world.specs.World.{Stage}
-use Rattle.rehearsal_moves.specs.Kept.{AreKeptOn, IsKeptOn}
+use Rattle.world_law.specs.World.{Stage}
+use Rattle.rehearsal_lines.specs.Kept.{AreKeptOn, IsKeptOn}
 
 pub none_left : (ss : List (Held Stage)) → length ss ≡ 0 → ss ≡ []
 none_left [] is = refl

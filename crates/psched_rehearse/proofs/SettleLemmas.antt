@@ -3,8 +3,8 @@ use Rattle.std.proofs.Common.{◌≡◌, ◌∙◌, ℕ, ap, refl, true}
 use Rattle.host_model.specs.declared.input.Input.{Input}
 use Rattle.host_model.specs.declared.input.Input.TheVariants as input
 use Rattle.host_model.specs.declared.view.Page.TheVariants as page
-use Rattle.machine_seat.specs.Held.{Held, armed_at}
-use Rattle.psched_world.specs.World.{Stage}
+use Rattle.simulated_machine.specs.Held.{Held, armed_at}
+use Rattle.world_law.specs.World.{Stage}
 use Rattle.rehearsal_model.specs.Seats.{done, stepped}
 use Rattle.rehearsal_model.proofs.CalmLemmas.{stepped_done}
 

@@ -4,18 +4,18 @@ use Rattle.std.proofs.Common.{◌≡◌, ◌≤◌, ◌+◌, ◌++◌, ◌∙◌
 use Rattle.std.proofs.lemmas.List.{length-append}
 use Rattle.host_model.specs.declared.input.Input.TheVariants.{Turn}
 use Rattle.host_model.specs.declared.reply.Reply.{Reply}
-use Rattle.psched_script.specs.declared.script.ScriptHost.{ScriptHost}
-use Rattle.psched_script.specs.declared.script.Stop.{Stop}
-use Rattle.psched_world.specs.Events.{Cause}
-use Rattle.psched_world.specs.World.{Letter}
-use Rattle.report_text.specs.Line.{changes_text}
+use Rattle.rehearsal_script.specs.declared.script.ScriptHost.{ScriptHost}
+use Rattle.rehearsal_script.specs.declared.script.Stop.{Stop}
+use Rattle.world_law.specs.Events.{Cause}
+use Rattle.world_law.specs.World.{Letter}
+use Rattle.rehearsal_report.specs.Line.{changes_text}
 use Rattle.rehearsal_model.specs.Moves.{Move.Turns, sent_at}
 use Rattle.rehearsal_model.specs.Rehearsal.{letters_told}
 use Rattle.rehearsal_model.specs.Scenes.{Deed.Does, Scene, Step, as_read, came_at, count_sent, scene_deed, scene_step, unless_fault}
 use Rattle.rehearsal_model.specs.Telling.{came_said, disk_fault, turn_said}
 use Rattle.rehearsal_model.specs.declared.came.Came.{Came}
 use Rattle.rehearsal_model.specs.declared.came.Came.TheVariants as came
-use Rattle.rehearsal_moves.proofs.MoveLemmas.{none_fails, none_stops}
+use Rattle.rehearsal_lines.proofs.MoveLemmas.{none_fails, none_stops}
 
 module _ (hosts : List ScriptHost) (b : Scene) (place clock : ℕ) where
   abbrev what_came : Came

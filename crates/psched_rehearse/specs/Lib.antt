@@ -1,2 +1,2 @@
-pub use Rattle.rehearsal_moves.specs.Playing
-pub use Rattle.rehearsal_moves.specs.Ready
+pub use Rattle.rehearsal_lines.specs.Playing
+pub use Rattle.rehearsal_lines.specs.Ready

@@ -5,4 +5,4 @@ pub mod line;
 pub mod rehearse;
 
 /// Messages that arrive, what hosts are asked, the requests that lines of a script make, and the hosts of a rehearsal as they stand.
-pub use rehearsal_moves::{arrive, ask, requests, state};
+pub use rehearsal_lines::{arrive, ask, requested, state};

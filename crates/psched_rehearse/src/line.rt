@@ -1,35 +1,35 @@
 //! A line of a script is run on the hosts as they stand, and reported.
 ghost use Rattle.std.specs.Prelude.{◌≡◌, ◌++◌, ◌<◌, All, List, OnOk, codes, false, length, true};
 ghost use Rattle.host_model.specs.Conditions.{IsConfig};
-ghost use Rattle.psched_script.specs.Lawful.{IsLawfulLine};
-ghost use Rattle.psched_script.specs.declared.script.ScriptHost.{ScriptHost};
-ghost use Rattle.report_text.specs.Line.{line_text};
+ghost use Rattle.rehearsal_script.specs.Lawful.{IsLawfulLine};
+ghost use Rattle.rehearsal_script.specs.declared.script.ScriptHost.{ScriptHost};
+ghost use Rattle.rehearsal_report.specs.Line.{line_text};
 ghost use Rattle.rehearsal_model.specs.Moves.{Move.Arms, Move.Retools, Move.Turns, Outcomes};
 ghost use Rattle.rehearsal_model.specs.Plays.{MayLine};
 ghost use Rattle.rehearsal_model.specs.Reaching.{IsScriptPeer};
 ghost use Rattle.rehearsal_model.specs.Rehearsal.{retooled};
 ghost use Rattle.rehearsal_model.specs.Scenes.{Deed.Does, Deed.Fails, config_of, deed_of, scene_deed, scene_line};
 ghost use Rattle.rehearsal_model.specs.Telling.{line_said, turn_said};
-ghost use Rattle.rehearsal_moves.specs.Ready.{IsReady};
-ghost use Rattle.rehearsal_moves.specs.Playing.{AreLawful, IsPlaying, is_archive, is_asked, is_at_path, is_of_message};
+ghost use Rattle.rehearsal_lines.specs.Ready.{IsReady};
+ghost use Rattle.rehearsal_lines.specs.Playing.{AreLawful, IsPlaying, is_archive, is_asked, is_at_path, is_of_message};
 
 use archivers::by_name::Archivers;
 use ps_time::items::Items;
 use ps_time::memory::Memory;
 use ps_time::moment::Moment;
 use ps_time::text::Text;
-use psched_script::script::{Numbered, ScriptHost, ScriptLine, Stop};
-use rehearsal_moves::archive::archive;
-use rehearsal_moves::arrive::{deliver, lose, repeat};
-use rehearsal_moves::ask::{CRASHED, DISK_FAULT, book, booking, limit};
-use rehearsal_moves::request::{delete, get, post};
-use rehearsal_moves::state::came::Came;
-use rehearsal_moves::state::rehearsal::Rehearsal;
-use rehearsal_moves::state::tell::add_letters;
-use rehearsal_moves::state::turn::turn;
-use report_text::line::{add_ok, add_said};
-use report_text::message::begin_turn;
-use report_text::report::ReportText;
+use rehearsal_script::script::{Numbered, ScriptHost, ScriptLine, Stop};
+use rehearsal_lines::archive::archive;
+use rehearsal_lines::arrive::{deliver, lose, repeat};
+use rehearsal_lines::ask::{CRASHED, DISK_FAULT, book, booking, limit};
+use rehearsal_lines::request::{delete, get, post};
+use rehearsal_lines::state::came::Came;
+use rehearsal_lines::state::rehearsal::Rehearsal;
+use rehearsal_lines::state::tell::add_letters;
+use rehearsal_lines::state::turn::turn;
+use rehearsal_report::line::{add_ok, add_said};
+use rehearsal_report::message::begin_turn;
+use rehearsal_report::report::ReportText;
 use std::alloc::Global;
 
 fn retool(

@@ -2,14 +2,14 @@
 ghost use Rattle.std.specs.Prelude.{◌≡◌, ◌++◌, ◌≤◌, All, IfOk, OnOk, flat_map, map, true};
 ghost use Rattle.ps_time.specs.declared.moment.TheConstants.{MAX_MOMENT};
 ghost use Rattle.host_model.specs.Conditions.{IsConfig};
-ghost use Rattle.psched_script.specs.Lawful.{AreLawfulHosts, IsLawful};
-ghost use Rattle.psched_world.specs.Laws.{Safe};
+ghost use Rattle.rehearsal_script.specs.Lawful.{AreLawfulHosts, IsLawful};
+ghost use Rattle.world_law.specs.Laws.{Safe};
 ghost use Rattle.rehearsal_model.specs.Hosts.{first_config};
 ghost use Rattle.rehearsal_model.specs.Rehearsal.{stage_table};
 ghost use Rattle.rehearsal_model.specs.Scenes.{Turns, first_scene, last_scene, world_of};
 ghost use Rattle.rehearsal_model.specs.Seats.{opened_anew};
 ghost use Rattle.rehearsal_model.specs.Telling.{lines_said, report_of};
-ghost use Rattle.rehearsal_moves.specs.Kept.{AreKeptOn};
+ghost use Rattle.rehearsal_lines.specs.Kept.{AreKeptOn};
 
 use crate::line::run_line;
 use archivers::by_name::Archivers;
@@ -19,13 +19,13 @@ use ps_disks::memory_disk::MemoryDisk;
 use ps_time::items::Items;
 use ps_time::memory::Memory;
 use ps_time::moment::Moment;
-use psched_script::script::{Script, ScriptHost};
+use rehearsal_script::script::{Script, ScriptHost};
 use rehearsal_model::law::{law_config, law_message, law_played};
-use rehearsal_moves::state::hosts::first_config;
-use rehearsal_moves::state::rehearsal::Rehearsal;
-use rehearsal_moves::state::seat::Seat;
-use report_text::report::ReportText;
-use report_text::table::add_table;
+use rehearsal_lines::state::hosts::first_config;
+use rehearsal_lines::state::rehearsal::Rehearsal;
+use rehearsal_lines::state::seat::Seat;
+use rehearsal_report::report::ReportText;
+use rehearsal_report::table::add_table;
 use std::alloc::Global;
 use std::mem::forget;
 

@@ -5,14 +5,14 @@ use Rattle.ps_ports.specs.declared.fault.AllFault.{AllFault}
 use Rattle.ps_ports.specs.declared.fault.AllFault.TheVariants.{TooLong as MoreCame, ReadFault, Memory}
 use Rattle.limit_ident.specs.declared.fault.LimitFault.{LimitFault}
 use Rattle.limit_apply.specs.Limits.{Config}
-use Rattle.psched_script.specs.declared.script.Script.{Script}
-use Rattle.psched_script.specs.declared.script.ScriptFault.{ScriptFault}
-use Rattle.psched_script.specs.Refusal.{fault_text}
+use Rattle.rehearsal_script.specs.declared.script.Script.{Script}
+use Rattle.rehearsal_script.specs.declared.script.ScriptFault.{ScriptFault}
+use Rattle.rehearsal_script.specs.Refusal.{fault_text}
 use Rattle.rehearsal_model.specs.Moves.{Outcomes}
 use Rattle.rehearsal_model.specs.Telling.{report_of}
-use Rattle.psched_script.specs.Script.{script_of}
+use Rattle.rehearsal_script.specs.Script.{script_of}
 use Rattle.limit_apply.specs.Read.{config_in}
-use Rattle.generated_work.specs.Summary.{summary_of}
+use Rattle.rehearsal_generate.specs.Summary.{summary_of}
 use Rattle.psched_top.specs.Limits.{refusal_text, valid_text}
 use Rattle.psched_top.specs.declared.command.Command.{Command}
 use Rattle.psched_top.specs.declared.command.Command.TheVariants.{Rehearse, ValidateLimits, Generate, Help, Version as VersionWord}

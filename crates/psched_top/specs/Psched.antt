@@ -3,16 +3,16 @@ use Rattle.std.specs.Prelude.{◌≡◌, ◌⊎◌, ℕ, true, List, [], Option,
 use Rattle.std.specs.Io.KnownBytes.{Appends}
 use Rattle.ps_ports.specs.All.{WrotePrefix}
 use Rattle.ps_ports.specs.Causes.{Rose}
-use Rattle.psched_world.specs.Laws.{Safe}
-use Rattle.psched_world.specs.World.{World}
+use Rattle.world_law.specs.Laws.{Safe}
+use Rattle.world_law.specs.World.{World}
 use Rattle.limit_apply.specs.Limits.{Config}
-use Rattle.psched_script.specs.declared.script.Script.{Script}
+use Rattle.rehearsal_script.specs.declared.script.Script.{Script}
 use Rattle.rehearsal_model.specs.Moves.{Outcomes}
 use Rattle.rehearsal_model.specs.Scenes.{Turns, world_of}
 use Rattle.rehearsal_model.specs.Telling.{report_of}
-use Rattle.psched_script.specs.Script.{script_of}
-use Rattle.generated_work.specs.Summary.{summary_of}
-use Rattle.generated_work.specs.Work.{work_of}
+use Rattle.rehearsal_script.specs.Script.{script_of}
+use Rattle.rehearsal_generate.specs.Summary.{summary_of}
+use Rattle.rehearsal_generate.specs.Work.{work_of}
 use Rattle.psched_top.specs.Command.{takes_input}
 use Rattle.limit_apply.specs.Read.{config_in}
 use Rattle.psched_top.specs.Limits.{valid_text}

@@ -3,7 +3,7 @@ ghost use Rattle.std.specs.Prelude.{◌≡◌, ◌≢◌, ◌≤◌, ◌<◌, �
 ghost use Rattle.std.specs.Io.KnownBytes.{Appends};
 ghost use Rattle.ps_ports.specs.All.{WrotePrefix};
 ghost use Rattle.ps_ports.specs.Causes.{Rose};
-ghost use Rattle.psched_script.specs.Script.{script_of};
+ghost use Rattle.rehearsal_script.specs.Script.{script_of};
 ghost use Rattle.rehearsal_model.specs.Moves.{Outcomes};
 ghost use Rattle.psched_top.specs.Command.{asked, takes_input, wants_memory};
 ghost use Rattle.psched_top.specs.Outcome.{outcome_of, outcome_of_script, status_of, text_of, unread_of};
@@ -13,16 +13,16 @@ use crate::command::{Command, read_command};
 use crate::limits::validate_bytes;
 use crate::outcome::Outcome;
 use archivers::by_name::Archivers;
-use generated_work::generate::generate;
-use generated_work::rehearse::rehearse;
+use rehearsal_generate::generate::generate;
+use rehearsal_generate::rehearse::rehearse;
 use ps_ports::all::{read_all, write_all};
 use ps_ports::fault::AllFault;
 use ps_ports::sink::Sink;
 use ps_ports::source::Source;
 use ps_time::memory::Memory;
 use ps_time::text::Text;
-use psched_script::read::read_script;
-use psched_script::script::ScriptFault;
+use rehearsal_script::read::read_script;
+use rehearsal_script::script::ScriptFault;
 use std::alloc::Global;
 
 // The most bytes of an input.

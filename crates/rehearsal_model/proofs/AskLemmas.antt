@@ -26,9 +26,9 @@ use Rattle.api_input.specs.declared.refusal.Refusal.{Refusal}
 use Rattle.api_input.specs.declared.refusal.Refusal.TheVariants.{Method, Query}
 use Rattle.api_reply.specs.Replies.{answered}
 use Rattle.api_reply.specs.Shown.{error}
-use Rattle.psched_world.specs.Events.{is_client}
-use Rattle.api_law.specs.Orderly.{IsSized}
-use Rattle.api_law.proofs.InputLemmas.{understood_sized}
+use Rattle.world_law.specs.Events.{is_client}
+use Rattle.api_peer.specs.Orderly.{IsSized}
+use Rattle.api_peer.proofs.InputLemmas.{understood_sized}
 use Rattle.rehearsal_model.specs.Requests.{asks, is_target, is_too_large, or_refused, request_to}
 
 abbrev IsClient : Input → Type 0

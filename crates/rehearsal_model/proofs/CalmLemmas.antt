@@ -5,10 +5,10 @@ use Rattle.std.proofs.Common.{◌≡◌, ◌-◌, ◌+◌, ◌∙◌, ◌∷◌,
 use Rattle.std.proofs.lemmas.List.Elements.{All-map, All-set, recursion_from_All}
 use Rattle.host_model.specs.declared.input.Input.{Input}
 use Rattle.host_model.specs.declared.input.Input.TheVariants as input
-use Rattle.machine_seat.specs.Held.{Held, configured, failing, fault_at, on_first, on_second, schedule}
-use Rattle.psched_world.specs.World.{Stage}
-use Rattle.psched_script.specs.declared.script.ScriptHost.{ScriptHost}
-use Rattle.psched_script.specs.declared.script.Stop.{Stop}
+use Rattle.simulated_machine.specs.Held.{Held, configured, failing, fault_at, on_first, on_second, schedule}
+use Rattle.world_law.specs.World.{Stage}
+use Rattle.rehearsal_script.specs.declared.script.ScriptHost.{ScriptHost}
+use Rattle.rehearsal_script.specs.declared.script.Stop.{Stop}
 use Rattle.rehearsal_model.specs.Hosts.{first_config}
 use Rattle.rehearsal_model.specs.Moves.{Move}
 use Rattle.rehearsal_model.specs.Plays.{IsCalm}

@@ -11,15 +11,15 @@ use Rattle.host_model.specs.declared.config.Config.{Config}
 use Rattle.host_model.specs.declared.input.Input.{Input}
 use Rattle.host_model.specs.declared.input.Input.TheVariants as input
 use Rattle.host_model.specs.declared.lead.Due.{Due}
-use Rattle.machine_seat.specs.Held.{Held, armed_at, configured, syncs}
-use Rattle.psched_world.specs.Events.{Cause, brings, is_client}
-use Rattle.psched_world.specs.World.{Letter, Stage}
-use Rattle.api_law.specs.Orderly.{IsSized}
-use Rattle.psched_script.specs.Lawful.{AreLawfulHosts, IsLawfulLine}
-use Rattle.psched_script.specs.declared.script.ScriptHost.{ScriptHost}
-use Rattle.psched_script.specs.declared.script.ScriptLine.{ScriptLine}
-use Rattle.psched_script.specs.declared.script.ScriptLine.TheVariants as line
-use Rattle.psched_script.specs.declared.script.Stop.{Stop}
+use Rattle.simulated_machine.specs.Held.{Held, armed_at, configured, syncs}
+use Rattle.world_law.specs.Events.{Cause, brings, is_client}
+use Rattle.world_law.specs.World.{Letter, Stage}
+use Rattle.api_peer.specs.Orderly.{IsSized}
+use Rattle.rehearsal_script.specs.Lawful.{AreLawfulHosts, IsLawfulLine}
+use Rattle.rehearsal_script.specs.declared.script.ScriptHost.{ScriptHost}
+use Rattle.rehearsal_script.specs.declared.script.ScriptLine.{ScriptLine}
+use Rattle.rehearsal_script.specs.declared.script.ScriptLine.TheVariants as line
+use Rattle.rehearsal_script.specs.declared.script.Stop.{Stop}
 use Rattle.rehearsal_model.specs.After.{arrived_at, crashed_stage, moved_seen, opened_stage, stages_after}
 use Rattle.rehearsal_model.specs.Hosts.{first_config}
 use Rattle.rehearsal_model.specs.Moves.{Move, Outcomes, asking, attempt, joining, landed_with, moment_of_line, receiver, replies, still_flying, stops_after, trying}

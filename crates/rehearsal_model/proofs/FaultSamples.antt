@@ -16,11 +16,11 @@ use Rattle.ps_time.specs.declared.class.Class.TheVariants.{Exclusive}
 use Rattle.archivers.specs.Outcome.{plain}
 use Rattle.schedule_rule.specs.Rule.{first_from}
 use Rattle.api_reply.specs.Shown.{moment_data, run_text, second_data, task_text}
-use Rattle.psched_script.specs.declared.script.Numbered.{Numbered}
-use Rattle.psched_script.specs.declared.script.ScriptHost.{ScriptHost}
-use Rattle.psched_script.specs.declared.script.ScriptLine.{ScriptLine}
-use Rattle.psched_script.specs.declared.script.ScriptLine.TheVariants as line
-use Rattle.psched_script.specs.declared.script.Stop.{Stop}
+use Rattle.rehearsal_script.specs.declared.script.Numbered.{Numbered}
+use Rattle.rehearsal_script.specs.declared.script.ScriptHost.{ScriptHost}
+use Rattle.rehearsal_script.specs.declared.script.ScriptLine.{ScriptLine}
+use Rattle.rehearsal_script.specs.declared.script.ScriptLine.TheVariants as line
+use Rattle.rehearsal_script.specs.declared.script.Stop.{Stop}
 use Rattle.rehearsal_model.specs.Scenes.{Deed, Scene, first_scene, scene_line, scene_lines, scene_played}
 use Rattle.rehearsal_model.specs.Seats.{record_length, snapshot_length}
 use Rattle.rehearsal_model.specs.Telling.{line_said, lines_said}

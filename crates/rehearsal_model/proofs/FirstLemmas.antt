@@ -7,15 +7,15 @@ use Rattle.std.proofs.lemmas.Option.{get_or_from_slice_get, slice_get-get_or, sl
 use Rattle.host_model.specs.Book.{empty_book}
 use Rattle.host_model.proofs.LawfulBook.{empty_lawful}
 use Rattle.host_model.specs.declared.input.Input.TheVariants as input
-use Rattle.psched_world.specs.Events.{Event, Event.Reopen, MayRun, Right, run, step_stage}
-use Rattle.psched_world.specs.World.{Letter, Stage, World, push, start}
-use Rattle.psched_world.proofs.Worlds.{now_same}
-use Rattle.api_law.proofs.OrderlyChanges.{empty_orderly}
-use Rattle.api_law.proofs.OrderlySteps.{step_orderly}
-use Rattle.api_law.proofs.ToldChanges.{empty_told}
-use Rattle.api_law.proofs.ToldSteps.{step_told}
-use Rattle.psched_script.specs.Lawful.{AreLawfulHosts}
-use Rattle.psched_script.specs.declared.script.ScriptHost.{ScriptHost}
+use Rattle.world_law.specs.Events.{Event, Event.Reopen, MayRun, Right, run, step_stage}
+use Rattle.world_law.specs.World.{Letter, Stage, World, push, start}
+use Rattle.world_law.proofs.Worlds.{now_same}
+use Rattle.api_peer.proofs.OrderlyChanges.{empty_orderly}
+use Rattle.api_peer.proofs.OrderlySteps.{step_orderly}
+use Rattle.api_peer.proofs.ToldChanges.{empty_told}
+use Rattle.api_peer.proofs.ToldSteps.{step_told}
+use Rattle.rehearsal_script.specs.Lawful.{AreLawfulHosts}
+use Rattle.rehearsal_script.specs.declared.script.ScriptHost.{ScriptHost}
 use Rattle.rehearsal_model.specs.After.{first_seen, opened_stage}
 use Rattle.rehearsal_model.specs.Hosts.{config_numbered, every_tool, first_config, name_numbered}
 use Rattle.rehearsal_model.specs.Reaching.{IsAsFirst, IsBetween, IsOrderlyStage, IsToldStage, Reaches}

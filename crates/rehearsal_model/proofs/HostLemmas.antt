@@ -19,9 +19,9 @@ use Rattle.limit_apply.proofs.OpenLemmas.{open_again}
 use Rattle.task_spec.specs.ReadTask.{is_tool}
 use Rattle.host_model.specs.Conditions.{IsConfig, IsPeer, numbers_differ}
 use Rattle.host_model.specs.declared.config.Peer.{Peer}
-use Rattle.psched_world.specs.Events.{Right}
-use Rattle.psched_script.specs.Lawful.{AreLawfulHosts, IsLawfulHost}
-use Rattle.psched_script.specs.declared.script.ScriptHost.{ScriptHost}
+use Rattle.world_law.specs.Events.{Right}
+use Rattle.rehearsal_script.specs.Lawful.{AreLawfulHosts, IsLawfulHost}
+use Rattle.rehearsal_script.specs.declared.script.ScriptHost.{ScriptHost}
 use Rattle.rehearsal_model.specs.Hosts.{config_numbered, every_tool, first_config, found_config, host_numbered, name_numbered, opened_host, others_of, peer_of, stranger}
 use Rattle.rehearsal_model.specs.Moves.{place_numbered}
 use Rattle.rehearsal_model.specs.Reaching.{IsHost}

@@ -1,10 +1,10 @@
 -- The invariants of the world hold of each world that a rehearsal comes to.
 use Rattle.std.proofs.Common.{List, subst, sym}
 use Rattle.host_model.proofs.StepFollows.{step_follows}
-use Rattle.psched_world.proofs.Invariant.{Inv}
-use Rattle.psched_world.proofs.Keeping.{always_inv}
-use Rattle.psched_script.specs.Lawful.{AreLawfulHosts}
-use Rattle.psched_script.specs.declared.script.ScriptHost.{ScriptHost}
+use Rattle.world_law.proofs.Invariant.{Inv}
+use Rattle.world_law.proofs.Keeping.{always_inv}
+use Rattle.rehearsal_script.specs.Lawful.{AreLawfulHosts}
+use Rattle.rehearsal_script.specs.declared.script.ScriptHost.{ScriptHost}
 use Rattle.rehearsal_model.specs.Hosts.{config_numbered, name_numbered}
 use Rattle.rehearsal_model.specs.Reaching.{Reaches}
 use Rattle.rehearsal_model.specs.Rehearsal.{Show}

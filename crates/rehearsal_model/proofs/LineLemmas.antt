@@ -22,16 +22,16 @@ use Rattle.host_model.specs.declared.order.OrderBody.TheVariants as order
 use Rattle.host_model.specs.declared.reply.Reply.{Reply}
 use Rattle.host_model.specs.Orders.{orders}
 use Rattle.host_model.proofs.StepFollows.{step_lawful}
-use Rattle.psched_world.specs.Events.{Cause, Event, MayRun, brings, is_inner, run}
-use Rattle.psched_world.specs.World.{Letter, Stage, World, input_of, start}
-use Rattle.api_order.specs.Meant.{KeepsBounds}
-use Rattle.api_law.specs.Orderly.{IsSized}
-use Rattle.api_law.proofs.OrderLemmas.{orders_bound}
-use Rattle.api_law.proofs.OrderlySteps.{step_orderly}
-use Rattle.api_law.proofs.ToldSteps.{step_told}
-use Rattle.psched_script.specs.Lawful.{AreLawfulHosts}
-use Rattle.psched_script.specs.declared.script.ScriptHost.{ScriptHost}
-use Rattle.psched_script.specs.declared.script.Stop.{Stop}
+use Rattle.world_law.specs.Events.{Cause, Event, MayRun, brings, is_inner, run}
+use Rattle.world_law.specs.World.{Letter, Stage, World, input_of, start}
+use Rattle.api_peer.specs.Meant.{KeepsBounds}
+use Rattle.api_peer.specs.Orderly.{IsSized}
+use Rattle.api_peer.proofs.OrderLemmas.{orders_bound}
+use Rattle.api_peer.proofs.OrderlySteps.{step_orderly}
+use Rattle.api_peer.proofs.ToldSteps.{step_told}
+use Rattle.rehearsal_script.specs.Lawful.{AreLawfulHosts}
+use Rattle.rehearsal_script.specs.declared.script.ScriptHost.{ScriptHost}
+use Rattle.rehearsal_script.specs.declared.script.Stop.{Stop}
 use Rattle.machine_keep.specs.Crash.{keeps_step}
 use Rattle.rehearsal_model.specs.After.{arrived_at, crashed_stage, cut_stage, moved_seen, stages_after}
 use Rattle.rehearsal_model.specs.Hosts.{config_numbered, name_numbered, others_of, peer_of}

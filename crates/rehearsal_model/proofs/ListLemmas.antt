@@ -5,8 +5,8 @@ use Rattle.std.proofs.Common.{◌≡◌, ◌==◌, inl, inr, ℕ, zero, suc, fal
 use Rattle.std.proofs.lemmas.Bool.Decides.{nat_tests}
 use Rattle.std.proofs.lemmas.List.{length-reverse, reverse-append}
 use Rattle.std.proofs.lemmas.List.Elements.{All-head, All-push, All-same, All-tail, recursion_from_All}
-use Rattle.psched_world.specs.World.{aged}
-use Rattle.psched_world.proofs.Stages.{aged_cases}
+use Rattle.world_law.specs.World.{aged}
+use Rattle.world_law.proofs.Stages.{aged_cases}
 
 -- ---- each
 pub each_weaker : {X : Type 0} (P Q : X → Type 0) → ((x : X) → P x → Q x) → (xs : List X) → AllByRecursion P xs → AllByRecursion Q xs

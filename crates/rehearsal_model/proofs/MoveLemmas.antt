@@ -16,16 +16,16 @@ use Rattle.host_model.specs.declared.input.Input.TheVariants as input
 use Rattle.host_model.specs.declared.lead.Due.{Due}
 use Rattle.host_model.specs.declared.reply.Reply.{Reply}
 use Rattle.host_model.proofs.StepFollows.{step_follows}
-use Rattle.psched_world.specs.Events.{Cause, Event, MayHappen, MayRun, Right, answered, arrived, brings, brought_to, config_by, cut, delivered, goes_to, happens, idle_stage, input_by, is_client, is_inner, reply_now, run, step_stage, stepped}
-use Rattle.psched_world.specs.World.{Letter, Stage, World, aged, push, stages, start}
-use Rattle.api_law.specs.Orderly.{IsSized}
-use Rattle.psched_world.proofs.Lawfulness.{right_now}
-use Rattle.psched_world.proofs.Stages.{aged_last}
-use Rattle.psched_world.proofs.Worlds.{now_same, stages_same}
-use Rattle.psched_script.specs.Lawful.{AreLawfulHosts, IsLawfulLine}
-use Rattle.psched_script.specs.declared.script.ScriptHost.{ScriptHost}
-use Rattle.psched_script.specs.declared.script.ScriptLine.{ScriptLine}
-use Rattle.psched_script.specs.declared.script.ScriptLine.TheVariants as line
+use Rattle.world_law.specs.Events.{Cause, Event, MayHappen, MayRun, Right, answered, arrived, brings, brought_to, config_by, cut, delivered, goes_to, happens, idle_stage, input_by, is_client, is_inner, reply_now, run, step_stage, stepped}
+use Rattle.world_law.specs.World.{Letter, Stage, World, aged, push, stages, start}
+use Rattle.api_peer.specs.Orderly.{IsSized}
+use Rattle.world_law.proofs.Lawfulness.{right_now}
+use Rattle.world_law.proofs.Stages.{aged_last}
+use Rattle.world_law.proofs.Worlds.{now_same, stages_same}
+use Rattle.rehearsal_script.specs.Lawful.{AreLawfulHosts, IsLawfulLine}
+use Rattle.rehearsal_script.specs.declared.script.ScriptHost.{ScriptHost}
+use Rattle.rehearsal_script.specs.declared.script.ScriptLine.{ScriptLine}
+use Rattle.rehearsal_script.specs.declared.script.ScriptLine.TheVariants as line
 use Rattle.machine_keep.specs.Crash.{keeps_step}
 use Rattle.rehearsal_model.specs.After.{arrived_at, crashed_stage, cut_stage, stages_after, stepped_at}
 use Rattle.rehearsal_model.specs.Hosts.{config_numbered, first_config, name_numbered}

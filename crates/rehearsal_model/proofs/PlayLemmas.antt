@@ -11,12 +11,12 @@ use Rattle.host_model.specs.declared.config.Config.{Config}
 use Rattle.host_model.specs.declared.input.Input.{Input}
 use Rattle.host_model.specs.declared.input.Input.TheVariants as input
 use Rattle.host_model.specs.declared.reply.Reply.{Reply}
-use Rattle.machine_seat.specs.Held.{Held, syncs}
-use Rattle.psched_world.specs.Events.{Cause, brings}
-use Rattle.psched_world.specs.World.{Letter, Stage, World}
-use Rattle.psched_script.specs.Lawful.{AreLawfulHosts}
-use Rattle.psched_script.specs.declared.script.ScriptHost.{ScriptHost}
-use Rattle.psched_script.specs.declared.script.Stop.{Stop}
+use Rattle.simulated_machine.specs.Held.{Held, syncs}
+use Rattle.world_law.specs.Events.{Cause, brings}
+use Rattle.world_law.specs.World.{Letter, Stage, World}
+use Rattle.rehearsal_script.specs.Lawful.{AreLawfulHosts}
+use Rattle.rehearsal_script.specs.declared.script.ScriptHost.{ScriptHost}
+use Rattle.rehearsal_script.specs.declared.script.Stop.{Stop}
 use Rattle.rehearsal_model.specs.After.{cut_stage, moved_seen, stages_after, stepped_at}
 use Rattle.rehearsal_model.specs.Moves.{Move, flying_after, joining, landed_with, numbers_from, receiver, replied, sent_at, sent_by, still_flying, stops_after}
 use Rattle.rehearsal_model.specs.Plays.{IsPlay, IsSeat}

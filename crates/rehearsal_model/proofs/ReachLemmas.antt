@@ -14,19 +14,19 @@ use Rattle.host_model.specs.declared.order.OrderBody.{OrderBody}
 use Rattle.host_model.specs.declared.order.OrderBody.TheVariants as order
 use Rattle.host_model.specs.declared.reply.Reply.{Reply}
 use Rattle.host_model.proofs.StepFollows.{step_follows}
-use Rattle.psched_world.specs.Events.{brings, goes_to}
-use Rattle.psched_world.specs.Laws.{Once, Safe, SaysDiffers}
-use Rattle.psched_world.specs.World.{Letter, Stage, aged, input_of}
-use Rattle.psched_world.proofs.Agreeing.{once_law, safe_law}
-use Rattle.psched_world.proofs.Invariant.{Inv, LetterOk}
-use Rattle.psched_world.proofs.Lawfulness.{lawful_now, right_now}
-use Rattle.psched_world.proofs.Letters.{order_in}
-use Rattle.api_heard.specs.Replied.{IsReplyTo}
-use Rattle.api_law.specs.Told.{AreTold}
-use Rattle.api_law.specs.Widths.{HasWidths}
-use Rattle.api_law.proofs.AnswerLemmas.{replied}
-use Rattle.psched_script.specs.Lawful.{AreLawfulHosts, IsLawfulHost}
-use Rattle.psched_script.specs.declared.script.ScriptHost.{ScriptHost}
+use Rattle.world_law.specs.Events.{brings, goes_to}
+use Rattle.world_law.specs.Laws.{Once, Safe, SaysDiffers}
+use Rattle.world_law.specs.World.{Letter, Stage, aged, input_of}
+use Rattle.world_law.proofs.Agreeing.{once_law, safe_law}
+use Rattle.world_law.proofs.Invariant.{Inv, LetterOk}
+use Rattle.world_law.proofs.Lawfulness.{lawful_now, right_now}
+use Rattle.world_law.proofs.Letters.{order_in}
+use Rattle.api_peer.specs.Replied.{IsReplyTo}
+use Rattle.api_peer.specs.Told.{AreTold}
+use Rattle.api_peer.specs.Widths.{HasWidths}
+use Rattle.api_peer.proofs.AnswerLemmas.{replied}
+use Rattle.rehearsal_script.specs.Lawful.{AreLawfulHosts, IsLawfulHost}
+use Rattle.rehearsal_script.specs.declared.script.ScriptHost.{ScriptHost}
 use Rattle.rehearsal_model.specs.Hosts.{config_numbered, host_numbered, name_numbered, others_of, peer_of}
 use Rattle.rehearsal_model.specs.Moves.{place_numbered, receiver, reply_to}
 use Rattle.rehearsal_model.specs.Reaching.{IsBetween, IsHost, IsKnown, IsScriptPeer, Reaches}

@@ -19,11 +19,11 @@ use Rattle.limit_rule.specs.declared.limit.Rule.TheVariants.{PassFail}
 use Rattle.limit_apply.specs.Limits.{Config}
 use Rattle.limit_apply.specs.Open.{open_config}
 use Rattle.api_reply.specs.Shown.{moment_data, run_text, second_data, task_text}
-use Rattle.psched_script.specs.declared.script.Numbered.{Numbered}
-use Rattle.psched_script.specs.declared.script.Script.{Script}
-use Rattle.psched_script.specs.declared.script.ScriptHost.{ScriptHost}
-use Rattle.psched_script.specs.declared.script.ScriptLine.{ScriptLine}
-use Rattle.psched_script.specs.declared.script.ScriptLine.TheVariants as line
+use Rattle.rehearsal_script.specs.declared.script.Numbered.{Numbered}
+use Rattle.rehearsal_script.specs.declared.script.Script.{Script}
+use Rattle.rehearsal_script.specs.declared.script.ScriptHost.{ScriptHost}
+use Rattle.rehearsal_script.specs.declared.script.ScriptLine.{ScriptLine}
+use Rattle.rehearsal_script.specs.declared.script.ScriptLine.TheVariants as line
 use Rattle.rehearsal_model.specs.Seats.{record_length, snapshot_length}
 use Rattle.rehearsal_model.specs.Telling.{report_of}
 

@@ -8,10 +8,10 @@ use Rattle.host_model.specs.declared.config.Config.{Config}
 use Rattle.host_model.specs.declared.input.Input.{Input}
 use Rattle.host_model.specs.declared.input.Input.TheVariants as input
 use Rattle.host_model.specs.declared.reply.Reply.{Reply}
-use Rattle.machine_seat.specs.Crashed.{loose_in, state_unsynced}
-use Rattle.machine_seat.specs.Held.{Held, Loose, configured, syncs, with_record}
-use Rattle.machine_seat.specs.Seated.{loose_still}
-use Rattle.psched_world.specs.World.{Stage}
+use Rattle.simulated_machine.specs.Crashed.{loose_in, state_unsynced}
+use Rattle.simulated_machine.specs.Held.{Held, Loose, configured, syncs, with_record}
+use Rattle.simulated_machine.specs.Seated.{loose_still}
+use Rattle.world_law.specs.World.{Stage}
 use Rattle.rehearsal_model.specs.After.{cut_stage}
 use Rattle.rehearsal_model.specs.Plays.{IsSeat}
 use Rattle.rehearsal_model.specs.Scenes.{Scene, Turns, but, chosen_from, chosen_stage, is_kept_in, is_synced, keeps_broken, loose_stage, nobody_seat, seat_at, seat_in, seen_by}

@@ -5,10 +5,10 @@ use Rattle.std.proofs.Common.{◌≡◌, ◌≢◌, ◌==◌, ℕ, zero, suc, fa
 use Rattle.std.proofs.lemmas.Bool.Decides.{nat_tests}
 use Rattle.std.proofs.lemmas.Option.{get_or_from_slice_get, slice_get-map}
 use Rattle.host_model.specs.declared.input.Input.{Input}
-use Rattle.psched_world.specs.Events.{stepped}
-use Rattle.psched_world.specs.World.{Stage, World, push, stages}
-use Rattle.psched_world.proofs.Worlds.{now_same}
-use Rattle.psched_script.specs.declared.script.ScriptHost.{ScriptHost}
+use Rattle.world_law.specs.Events.{stepped}
+use Rattle.world_law.specs.World.{Stage, World, push, stages}
+use Rattle.world_law.proofs.Worlds.{now_same}
+use Rattle.rehearsal_script.specs.declared.script.ScriptHost.{ScriptHost}
 use Rattle.rehearsal_model.specs.Seen.{acted, nobody}
 use Rattle.rehearsal_model.proofs.HostLemmas.{Differ, StandsAt}
 use Rattle.rehearsal_model.proofs.ListLemmas.{each_at}

@@ -9,8 +9,8 @@ use Rattle.host_model.specs.Orders.{orders}
 use Rattle.host_model.specs.declared.config.Config.{Config}
 use Rattle.host_model.specs.declared.config.Peer.{Peer}
 use Rattle.host_model.specs.declared.order.Order.{Order}
-use Rattle.psched_world.specs.Events.{Event.Tell, MayRun, happens, run, sent, told, told_from}
-use Rattle.psched_world.specs.World.{Letter, Stage, World, aged, number_of, stages}
+use Rattle.world_law.specs.Events.{Event.Tell, MayRun, happens, run, sent, told, told_from}
+use Rattle.world_law.specs.World.{Letter, Stage, World, aged, number_of, stages}
 use Rattle.rehearsal_model.specs.Moves.{is_untold, letter_of, sent_by}
 use Rattle.rehearsal_model.specs.Rehearsal.{tells_from}
 use Rattle.rehearsal_model.specs.Seen.{Seen}

@@ -5,8 +5,8 @@ use Rattle.host_model.specs.declared.config.Config.{Config}
 use Rattle.host_model.specs.declared.input.Input.{Input}
 use Rattle.host_model.specs.declared.order.Order.{Order}
 use Rattle.host_model.specs.declared.reply.Reply.{Reply}
-use Rattle.psched_world.specs.Events.{Event, Event.Client, Event.Cut, Event.Deliver, Event.Inner, Event.Lose, Event.Reconfigure, Event.Refuse, Event.Reopen, Event.Tell, MayRun, answered, arrived, config_by, cut, delivered, happens, input_by, is_client, is_inner, run, sent, stepped, told, told_from}
-use Rattle.psched_world.specs.World.{Letter, Stage, World, aged, number_of, stages}
+use Rattle.world_law.specs.Events.{Event, Event.Client, Event.Cut, Event.Deliver, Event.Inner, Event.Lose, Event.Reconfigure, Event.Refuse, Event.Reopen, Event.Tell, MayRun, answered, arrived, config_by, cut, delivered, happens, input_by, is_client, is_inner, run, sent, stepped, told, told_from}
+use Rattle.world_law.specs.World.{Letter, Stage, World, aged, number_of, stages}
 
 -- ---- one list after another
 pub run_more : (es fs : List Event) (w : World) → run (es ++ fs) w ≡ run fs (run es w)

@@ -4,10 +4,10 @@ use Rattle.machine_keep.specs.Crash.{keeps_step}
 use Rattle.host_model.specs.Book.{empty_book}
 use Rattle.host_model.specs.declared.input.Input.{Input}
 use Rattle.host_model.specs.declared.input.Input.TheVariants as input
-use Rattle.psched_world.specs.Events.{brings}
-use Rattle.psched_world.specs.World.{Letter, Stage}
-use Rattle.psched_script.specs.declared.script.ScriptHost.{ScriptHost}
-use Rattle.psched_script.specs.declared.script.Stop.{Stop}
+use Rattle.world_law.specs.Events.{brings}
+use Rattle.world_law.specs.World.{Letter, Stage}
+use Rattle.rehearsal_script.specs.declared.script.ScriptHost.{ScriptHost}
+use Rattle.rehearsal_script.specs.declared.script.Stop.{Stop}
 use Rattle.rehearsal_model.specs.Hosts.{first_config}
 use Rattle.rehearsal_model.specs.Moves.{Move, flying_after, joining, receiver, stops_after}
 use Rattle.rehearsal_model.specs.Rehearsal.{retooled}

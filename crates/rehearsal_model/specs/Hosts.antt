@@ -5,7 +5,7 @@ use Rattle.plugin_tool.specs.Choice.{tools_by_name}
 use Rattle.plugin_tool.specs.Tool.{tool_text}
 use Rattle.host_model.specs.declared.config.Config.{Config}
 use Rattle.host_model.specs.declared.config.Peer.{Peer}
-use Rattle.psched_script.specs.declared.script.ScriptHost.{ScriptHost}
+use Rattle.rehearsal_script.specs.declared.script.ScriptHost.{ScriptHost}
 
 -- the key that every host of a script shows to every other
 abbrev pub peer_key : List ℕ

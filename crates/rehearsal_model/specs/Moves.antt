@@ -16,12 +16,12 @@ use Rattle.host_model.specs.declared.order.Order.{Order}
 use Rattle.host_model.specs.declared.order.OrderBody.{OrderBody}
 use Rattle.host_model.specs.declared.order.OrderBody.TheVariants as order
 use Rattle.host_model.specs.declared.reply.Reply.{Reply}
-use Rattle.psched_world.specs.Events.{Cause, brings, goes_to}
-use Rattle.psched_world.specs.World.{Letter, Stage, number_of}
-use Rattle.psched_script.specs.Told.{moment_told}
-use Rattle.psched_script.specs.declared.script.ScriptHost.{ScriptHost}
-use Rattle.psched_script.specs.declared.script.ScriptLine.{ScriptLine}
-use Rattle.psched_script.specs.declared.script.Stop.{Stop}
+use Rattle.world_law.specs.Events.{Cause, brings, goes_to}
+use Rattle.world_law.specs.World.{Letter, Stage, number_of}
+use Rattle.rehearsal_script.specs.Told.{moment_told}
+use Rattle.rehearsal_script.specs.declared.script.ScriptHost.{ScriptHost}
+use Rattle.rehearsal_script.specs.declared.script.ScriptLine.{ScriptLine}
+use Rattle.rehearsal_script.specs.declared.script.Stop.{Stop}
 use Rattle.rehearsal_model.specs.Seen.{Seen, acted, disarmed, landed, message, reply_at, stage_at}
 
 -- a step that stops: of the host at a place, at a clock, by what it came, and what it was asked

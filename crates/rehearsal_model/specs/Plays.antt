@@ -1,11 +1,11 @@
 -- What holds of every rehearsal in which calls of disks may fail: each way in which what is loose turns out is a world.
 use Rattle.std.specs.Prelude.{◌≡◌, All, List, Some, false, length, true, ℕ}
 use Rattle.host_model.specs.Conditions.{IsInput}
-use Rattle.machine_seat.specs.Held.{Held, Loose}
-use Rattle.psched_world.specs.World.{Stage}
-use Rattle.psched_script.specs.declared.script.ScriptHost.{ScriptHost}
-use Rattle.psched_script.specs.declared.script.ScriptLine.{ScriptLine}
-use Rattle.psched_script.specs.declared.script.ScriptLine.TheVariants as line
+use Rattle.simulated_machine.specs.Held.{Held, Loose}
+use Rattle.world_law.specs.World.{Stage}
+use Rattle.rehearsal_script.specs.declared.script.ScriptHost.{ScriptHost}
+use Rattle.rehearsal_script.specs.declared.script.ScriptLine.{ScriptLine}
+use Rattle.rehearsal_script.specs.declared.script.ScriptLine.TheVariants as line
 use Rattle.rehearsal_model.specs.Moves.{Move, Outcomes}
 use Rattle.rehearsal_model.specs.Reaching.{Reaches}
 use Rattle.rehearsal_model.specs.Rehearsal.{seen}

@@ -5,12 +5,12 @@ use Rattle.ps_time.specs.Numbers.{greatest_moment}
 use Rattle.host_model.specs.Conditions.{IsInput}
 use Rattle.host_model.specs.declared.config.Config.{Config}
 use Rattle.host_model.specs.declared.config.Peer.{Peer}
-use Rattle.psched_world.specs.Events.{Cause, Event, MayRun, run}
-use Rattle.psched_world.specs.World.{Letter, Stage, start}
-use Rattle.api_order.specs.Meant.{KeepsBounds, Knows}
-use Rattle.api_law.specs.Orderly.{IsOrderly}
-use Rattle.api_law.specs.Told.{AreTold}
-use Rattle.psched_script.specs.declared.script.ScriptHost.{ScriptHost}
+use Rattle.world_law.specs.Events.{Cause, Event, MayRun, run}
+use Rattle.world_law.specs.World.{Letter, Stage, start}
+use Rattle.api_peer.specs.Meant.{KeepsBounds, Knows}
+use Rattle.api_peer.specs.Orderly.{IsOrderly}
+use Rattle.api_peer.specs.Told.{AreTold}
+use Rattle.rehearsal_script.specs.declared.script.ScriptHost.{ScriptHost}
 use Rattle.rehearsal_model.specs.Hosts.{config_numbered, first_config, name_numbered, peer_key}
 use Rattle.rehearsal_model.specs.Moves.{Move, place_numbered}
 use Rattle.rehearsal_model.specs.Rehearsal.{Show, seen}

@@ -7,12 +7,12 @@ use Rattle.host_model.specs.declared.config.Config.{Config}
 use Rattle.host_model.specs.declared.input.Input.TheVariants as input
 use Rattle.host_model.specs.declared.order.Order.{Order}
 use Rattle.host_model.specs.declared.reply.Reply.{Reply}
-use Rattle.psched_world.specs.Events.{Event, run}
-use Rattle.psched_world.specs.World.{Letter, Stage, World, start}
-use Rattle.psched_script.specs.declared.script.ScriptHost.{ScriptHost}
-use Rattle.psched_script.specs.declared.script.Stop.{Stop}
-use Rattle.report_text.specs.Line.{order_kind, sent_text}
-use Rattle.report_text.specs.Table.{table_text}
+use Rattle.world_law.specs.Events.{Event, run}
+use Rattle.world_law.specs.World.{Letter, Stage, World, start}
+use Rattle.rehearsal_script.specs.declared.script.ScriptHost.{ScriptHost}
+use Rattle.rehearsal_script.specs.declared.script.Stop.{Stop}
+use Rattle.rehearsal_report.specs.Line.{order_kind, sent_text}
+use Rattle.rehearsal_report.specs.Table.{table_text}
 use Rattle.rehearsal_model.specs.Hosts.{config_numbered, first_config, name_numbered}
 use Rattle.rehearsal_model.specs.Moves.{Move, flying_after, is_untold, stops_after}
 use Rattle.rehearsal_model.specs.Seen.{Seen, acted, config_at, stage_at}

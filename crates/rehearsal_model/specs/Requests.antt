@@ -12,7 +12,7 @@ use Rattle.api_input.specs.Understood.{understood}
 use Rattle.api_input.specs.declared.refusal.Refusal.{Refusal}
 use Rattle.api_reply.specs.Replies.{answered}
 use Rattle.api_reply.specs.Shown.{error}
-use Rattle.api_refusal.specs.Errors.{refused}
+use Rattle.api_reply.specs.Errors.{refused}
 
 -- a request of somebody who is no peer
 abbrev pub request_to : List ℕ → List ℕ → List ℕ → Request

@@ -10,16 +10,16 @@ use Rattle.host_model.specs.declared.input.Input.{Input}
 use Rattle.host_model.specs.declared.input.Input.TheVariants as input
 use Rattle.host_model.specs.declared.view.Page.TheVariants as page
 use Rattle.host_model.specs.declared.reply.Reply.{Reply}
-use Rattle.machine_seat.specs.Crashed.{loose_in}
-use Rattle.machine_seat.specs.Held.{Held, Loose, armed_at, configured, syncs}
-use Rattle.psched_world.specs.Events.{Cause, brings}
-use Rattle.psched_world.specs.World.{Letter, Stage, World}
-use Rattle.psched_script.specs.declared.script.Numbered.{Numbered}
-use Rattle.psched_script.specs.declared.script.Script.{Script}
-use Rattle.psched_script.specs.declared.script.ScriptHost.{ScriptHost}
-use Rattle.psched_script.specs.declared.script.ScriptLine.{ScriptLine}
-use Rattle.psched_script.specs.declared.script.ScriptLine.TheVariants as line
-use Rattle.psched_script.specs.declared.script.Stop.{Stop}
+use Rattle.simulated_machine.specs.Crashed.{loose_in}
+use Rattle.simulated_machine.specs.Held.{Held, Loose, armed_at, configured, syncs}
+use Rattle.world_law.specs.Events.{Cause, brings}
+use Rattle.world_law.specs.World.{Letter, Stage, World}
+use Rattle.rehearsal_script.specs.declared.script.Numbered.{Numbered}
+use Rattle.rehearsal_script.specs.declared.script.Script.{Script}
+use Rattle.rehearsal_script.specs.declared.script.ScriptHost.{ScriptHost}
+use Rattle.rehearsal_script.specs.declared.script.ScriptLine.{ScriptLine}
+use Rattle.rehearsal_script.specs.declared.script.ScriptLine.TheVariants as line
+use Rattle.rehearsal_script.specs.declared.script.Stop.{Stop}
 use Rattle.rehearsal_model.specs.Hosts.{first_config}
 use Rattle.rehearsal_model.specs.declared.came.Came.{Came}
 use Rattle.rehearsal_model.specs.declared.came.Came.TheVariants as came

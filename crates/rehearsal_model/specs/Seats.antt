@@ -12,11 +12,11 @@ use Rattle.host_model.specs.declared.input.Input.{Input}
 use Rattle.host_model.specs.declared.input.Input.TheVariants as input
 use Rattle.host_model.specs.declared.reply.Reply.{Reply}
 use Rattle.machine_keep.specs.Crash.{keeps_step}
-use Rattle.machine_seat.specs.Crashed.{place_stopped, place_unsynced, state_unsynced}
-use Rattle.machine_seat.specs.Held.{Held, Place, calls_of, fault_at, is_many_at, on_first, on_second, place_after, schedule, syncs, with_snapshot}
-use Rattle.machine_seat.specs.Seated.{loose_broken, loose_still, place_broken, state_broken}
-use Rattle.psched_world.specs.World.{Stage}
-use Rattle.psched_script.specs.declared.script.Stop.{Stop}
+use Rattle.simulated_machine.specs.Crashed.{place_stopped, place_unsynced, state_unsynced}
+use Rattle.simulated_machine.specs.Held.{Held, Place, calls_of, fault_at, is_many_at, on_first, on_second, place_after, schedule, syncs, with_snapshot}
+use Rattle.simulated_machine.specs.Seated.{loose_broken, loose_still, place_broken, state_broken}
+use Rattle.world_law.specs.World.{Stage}
+use Rattle.rehearsal_script.specs.declared.script.Stop.{Stop}
 use Rattle.rehearsal_model.specs.After.{cut_stage}
 use Rattle.rehearsal_model.specs.Seen.{acted}
 

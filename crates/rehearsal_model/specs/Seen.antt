@@ -5,8 +5,8 @@ use Rattle.host_model.specs.Step.{step_book, step_reply}
 use Rattle.host_model.specs.declared.config.Config.{Config}
 use Rattle.host_model.specs.declared.input.Input.{Input}
 use Rattle.host_model.specs.declared.reply.Reply.{Reply}
-use Rattle.psched_world.specs.World.{Letter, Stage}
-use Rattle.psched_script.specs.declared.script.Stop.{Stop}
+use Rattle.world_law.specs.World.{Letter, Stage}
+use Rattle.rehearsal_script.specs.declared.script.Stop.{Stop}
 use Rattle.rehearsal_model.specs.Hosts.{opened_host, stranger}
 
 pub record Seen : Type 0 where

@@ -8,14 +8,14 @@ use Rattle.host_model.specs.declared.lead.Due.{Due}
 use Rattle.host_model.specs.declared.reply.Reply.{Reply}
 use Rattle.host_model.specs.declared.view.Page.TheVariants as page
 use Rattle.ps_http.specs.declared.message.Response.{Response}
-use Rattle.psched_world.specs.Events.{brings}
-use Rattle.psched_world.specs.World.{Letter}
-use Rattle.psched_script.specs.declared.script.Numbered.{Numbered}
-use Rattle.psched_script.specs.declared.script.Script.{Script}
-use Rattle.psched_script.specs.declared.script.ScriptHost.{ScriptHost}
-use Rattle.psched_script.specs.declared.script.ScriptLine.{ScriptLine}
-use Rattle.psched_script.specs.declared.script.ScriptLine.TheVariants as line
-use Rattle.report_text.specs.Line.{archive_text, booking_text, changes_text, limits_text, line_text, response_text, sent_text}
+use Rattle.world_law.specs.Events.{brings}
+use Rattle.world_law.specs.World.{Letter}
+use Rattle.rehearsal_script.specs.declared.script.Numbered.{Numbered}
+use Rattle.rehearsal_script.specs.declared.script.Script.{Script}
+use Rattle.rehearsal_script.specs.declared.script.ScriptHost.{ScriptHost}
+use Rattle.rehearsal_script.specs.declared.script.ScriptLine.{ScriptLine}
+use Rattle.rehearsal_script.specs.declared.script.ScriptLine.TheVariants as line
+use Rattle.rehearsal_report.specs.Line.{archive_text, booking_text, changes_text, limits_text, line_text, response_text, sent_text}
 use Rattle.rehearsal_model.specs.Hosts.{name_numbered}
 use Rattle.rehearsal_model.specs.Moves.{Outcomes, attempt, receiver, replied, sent_at, tried_as}
 use Rattle.rehearsal_model.specs.Rehearsal.{letters_told, stage_table}

@@ -9,11 +9,11 @@ use Rattle.host_model.specs.declared.input.Input.{Input}
 use Rattle.host_model.specs.declared.input.Input.TheVariants.{Turn}
 use Rattle.host_model.specs.declared.order.Order.{Order}
 use Rattle.host_model.specs.declared.reply.Reply.{Reply}
-use Rattle.machine_seat.specs.Held.{Held}
-use Rattle.psched_world.specs.Events.{Cause, brings}
-use Rattle.psched_world.specs.World.{Letter, Stage}
-use Rattle.psched_script.specs.declared.script.ScriptHost.{ScriptHost}
-use Rattle.psched_script.specs.declared.script.Stop.{Stop}
+use Rattle.simulated_machine.specs.Held.{Held}
+use Rattle.world_law.specs.Events.{Cause, brings}
+use Rattle.world_law.specs.World.{Letter, Stage}
+use Rattle.rehearsal_script.specs.declared.script.ScriptHost.{ScriptHost}
+use Rattle.rehearsal_script.specs.declared.script.Stop.{Stop}
 use Rattle.rehearsal_model.specs.Moves.{Move, flying_after, is_untold, joining, letter_of, numbers_from, receiver, replied, replies, sent_by}
 use Rattle.rehearsal_model.specs.Scenes.{Deed.Does, Scene, Step, as_read, brings_order, came_at, came_by, config_of, count_sent, fault_of, flying_then, is_order, is_unanswered, kept_all, lost_answer, nobody_seat, scene_by, scene_crashed, scene_deed, scene_step, seat_at, step_by, stop_for, stops_left, unless_fault}
 use Rattle.rehearsal_model.specs.Seats.{answered, done, fault_in, stepped, stepped_by}

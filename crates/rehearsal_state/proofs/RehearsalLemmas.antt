@@ -5,9 +5,9 @@ use Rattle.std.proofs.Common.{◌<◌, ◌≡◌, ◌∙◌, ◌∷◌, Bool, Li
 use Rattle.host_model.specs.Step.{step_reply}
 use Rattle.host_model.specs.declared.input.Input.{Input}
 use Rattle.host_model.specs.declared.reply.Reply.{Reply}
-use Rattle.machine_seat.specs.Held.{Held}
-use Rattle.psched_world.specs.World.{Stage}
-use Rattle.psched_script.specs.declared.script.Stop.{Stop}
+use Rattle.simulated_machine.specs.Held.{Held}
+use Rattle.world_law.specs.World.{Stage}
+use Rattle.rehearsal_script.specs.declared.script.Stop.{Stop}
 use Rattle.rehearsal_model.specs.Scenes.{Scene, as_read, came_at, came_by, nobody_seat, seat_at, seat_in, stop_for, stops_left}
 use Rattle.rehearsal_model.specs.Seats.{answered, ended, ended_at, fault_in, reply_unless, stepped, stop_met}
 use Rattle.rehearsal_model.specs.Seen.{disarmed, stop_at, stop_in}

@@ -7,8 +7,8 @@ use Rattle.ps_time.specs.Name.{is_name}
 use Rattle.host_model.specs.declared.config.Config.{Config}
 use Rattle.host_model.specs.declared.config.Peer.{Peer}
 use Rattle.host_model.specs.declared.order.Order.{Order}
-use Rattle.api_order.specs.Ordered.{IsOrder, peer_named}
-use Rattle.letter_bytes.specs.Carried.{CarriesFrom, CarriesOrder}
+use Rattle.api_peer.specs.Ordered.{IsOrder, peer_named}
+use Rattle.api_peer.specs.Carried.{CarriesFrom, CarriesOrder}
 use Rattle.rehearsal_model.specs.Hosts.{peer_key}
 use Rattle.rehearsal_model.specs.Reaching.{IsScriptPeer}
 

@@ -2,7 +2,7 @@
 use Rattle.std.specs.Prelude.{List, None, Option, Some, ℕ}
 use Rattle.host_model.specs.declared.order.Order.{Order}
 use Rattle.host_model.specs.declared.reply.Reply.{Reply}
-use Rattle.letter_bytes.specs.Carried.{CarriesOrder, CarriesReply}
+use Rattle.api_peer.specs.Carried.{CarriesOrder, CarriesReply}
 use Rattle.rehearsal_model.specs.Hosts.{peer_key}
 
 -- they carry the order of the host with this number, or the reply to it

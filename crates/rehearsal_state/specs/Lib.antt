@@ -1,4 +1,4 @@
 pub mod Carried
 pub mod Moved
 pub mod Ready
-pub use Rattle.held_seats.specs.Kept
+pub use Rattle.simulated_host.specs.Kept

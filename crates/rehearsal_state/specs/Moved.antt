@@ -3,8 +3,8 @@ use Rattle.std.specs.Prelude.{◌++◌, ◌+◌, ◌∷◌, [], List, None, Opti
 use Rattle.host_model.specs.declared.config.Config.{Config}
 use Rattle.host_model.specs.declared.input.Input.{Input}
 use Rattle.host_model.specs.declared.order.Order.{Order}
-use Rattle.psched_world.specs.World.{Letter}
-use Rattle.psched_script.specs.declared.script.Stop.{Stop}
+use Rattle.world_law.specs.World.{Letter}
+use Rattle.rehearsal_script.specs.declared.script.Stop.{Stop}
 use Rattle.rehearsal_model.specs.Moves.{is_untold, letter_of, numbers_from}
 use Rattle.rehearsal_model.specs.Scenes.{Scene, count_sent, seat_at, stop_for, stops_left}
 use Rattle.rehearsal_model.specs.Seats.{crashed_at, fault_in, stepped}

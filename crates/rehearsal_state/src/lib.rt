@@ -7,7 +7,7 @@ pub mod tell;
 pub mod turn;
 
 /// A host, which is kept on two disks in memory.
-pub use held_seats::seat;
+pub use simulated_host::seat;
 /// The book of a host.
 pub use host_keep::book;
 /// What is asked of a host about archives.
@@ -15,4 +15,4 @@ pub use host_queries::{archives, attempt};
 /// What comes of a step.
 pub use rehearsal_model::came;
 /// The hosts of a script, as each of them knows the others.
-pub use script_hosts::hosts;
+pub use rehearsal_hosts::hosts;

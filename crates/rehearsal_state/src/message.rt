@@ -2,9 +2,9 @@
 ghost use Rattle.std.specs.Prelude.{◌≡◌, ◌≤◌, IfOk, None, Some};
 ghost use Rattle.ps_time.specs.declared.moment.TheConstants.{MAX_MOMENT};
 ghost use Rattle.api_reply.specs.Bounds.{IsReplyShown};
-ghost use Rattle.api_heard.specs.Replied.{IsReplyTo};
-ghost use Rattle.letter_bytes.specs.Carried.{CarriesOrder};
-ghost use Rattle.psched_world.specs.Events.{brings, goes_to};
+ghost use Rattle.api_peer.specs.Replied.{IsReplyTo};
+ghost use Rattle.api_peer.specs.Carried.{CarriesOrder};
+ghost use Rattle.world_law.specs.Events.{brings, goes_to};
 ghost use Rattle.rehearsal_model.specs.Hosts.{peer_key};
 ghost use Rattle.rehearsal_model.specs.Reaching.{IsKnown};
 
@@ -13,8 +13,8 @@ use host_model::input::Input;
 use host_model::order::Order;
 use host_model::reply::Reply;
 use host_queries::orders::copy_order;
-use letter_bytes::order::receive_order;
-use letter_bytes::reply::{receive_reply, send_reply};
+use api_peer::order::receive_order;
+use api_peer::reply::{receive_reply, send_reply};
 use ps_http::reader::FieldSpans;
 use ps_time::items::Items;
 use ps_time::memory::Memory;
@@ -35,7 +35,7 @@ pub struct Message {
 }
 
 impl Model for Message {
-    ghost use Rattle.psched_world.specs.World.{Letter};
+    ghost use Rattle.world_law.specs.World.{Letter};
     ghost use Rattle.rehearsal_state.specs.Carried.{IsCarried};
 
     ghost Value = { Letter };

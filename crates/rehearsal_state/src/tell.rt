@@ -4,10 +4,10 @@ ghost use Rattle.rehearsal_model.specs.Rehearsal.{letter_told, letters_told};
 
 use crate::message::Message;
 use ps_time::memory::Memory;
-use psched_script::script::ScriptHost;
-use report_text::message::{add_sent, end_line, kind_name};
-use report_text::report::ReportText;
-use script_hosts::hosts::name_of;
+use rehearsal_script::script::ScriptHost;
+use rehearsal_report::message::{add_sent, end_line, kind_name};
+use rehearsal_report::report::ReportText;
+use rehearsal_hosts::hosts::name_of;
 
 fn add_letter(
     report: &mut ReportText,

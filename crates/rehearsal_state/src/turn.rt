@@ -4,8 +4,8 @@ ghost use Rattle.std.specs.Prelude.{◌++◌, ◌∷◌, ◌≡◌, ◌<◌, ◌
 ghost use Rattle.ps_time.specs.declared.moment.TheConstants.{MAX_MOMENT};
 ghost use Rattle.host_model.specs.declared.input.Input.TheVariants.{Turn as AsTurn};
 ghost use Rattle.host_model.specs.Orders.{orders as all_orders};
-ghost use Rattle.api_order.specs.Ordered.{IsOrder};
-ghost use Rattle.psched_script.specs.declared.script.ScriptHost.{ScriptHost};
+ghost use Rattle.api_peer.specs.Ordered.{IsOrder};
+ghost use Rattle.rehearsal_script.specs.declared.script.ScriptHost.{ScriptHost};
 ghost use Rattle.rehearsal_model.specs.Moves.{Move.Turns, is_of, is_untold, letter_of, same_key, same_kind, sent_by, tells};
 ghost use Rattle.rehearsal_model.specs.Reaching.{IsScriptPeer};
 ghost use Rattle.rehearsal_model.specs.Scenes.{Deed.Does, as_read, came_at, config_of, scene_deed, seat_at};
@@ -14,13 +14,13 @@ ghost use Rattle.rehearsal_state.specs.Ready.{IsReady};
 
 use crate::message::Message;
 use crate::rehearsal::Rehearsal;
-use api_law::laws::law_orders;
-use held_seats::seat::Seat;
+use api_peer::bounds_law::law_orders;
+use simulated_host::seat::Seat;
 use host_model::config::Config;
 use host_model::input::Input;
 use host_model::order::{Order, OrderBody};
 use host_queries::orders::orders;
-use letter_bytes::order::send_order;
+use api_peer::order::send_order;
 use ps_time::items::Items;
 use ps_time::key::RunKey;
 use ps_time::memory::Memory;

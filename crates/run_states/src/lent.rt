@@ -5,7 +5,7 @@ ghost use Rattle.std.specs.Option.{option_copied};
 ghost use Rattle.run_states.specs.Rows.{IsAscendingRows, is_above, rows_above};
 
 use crate::row::RunRow;
-use placed_list::lent::Lent;
+use ps_lists::placed_lent::Lent;
 use ps_time::key::RunKey;
 use std::marker::Model;
 

@@ -17,7 +17,7 @@ use ps_json::tree::read_tree;
 use ps_time::text::Text;
 use serde_json::Value;
 use std::alloc::Global;
-use test_text::written::test_text;
+use plugin_text::written::test_text;
 
 /// The tree of a text.
 pub fn tree_in(alloc: Global, text: &Text) -> Result<Value, CodeFault>

@@ -1,12 +1,12 @@
-//! That orders can be sent, taken and answered. What they say is told by the theorems of `api_input_tests`.
-ghost use Rattle.api_order.specs.Ordered.{IsOrder};
+//! That orders can be sent, taken and answered. What they say is told by the theorems of this crate.
+ghost use Rattle.api_peer.specs.Ordered.{IsOrder};
 
 use crate::tests::given::a_host;
 use crate::tests::orders_given::an_order;
 use api_answer::heard::heard;
 use api_input::refusal::Refusal;
 use api_input::understand::read_input;
-use api_order::request::order_request;
+use api_peer::request::order_request;
 use host_model::config::Config;
 use host_model::input::Input;
 use host_model::order::Order;

@@ -1,6 +1,6 @@
 //! Orders, each by its name.
 ghost use Rattle.std.specs.Prelude.{IfOk};
-ghost use Rattle.api_order.specs.Ordered.{IsOrder};
+ghost use Rattle.api_peer.specs.Ordered.{IsOrder};
 
 use crate::tests::given::a_test;
 use host_model::order::{Order, OrderBody};

@@ -1,8 +1,8 @@
 use Rattle.std.proofs.Common.{arith}
 use Rattle.run_states.specs.Life.{marked_row}
 use Rattle.run_states.proofs.Place.{marked_key}
-use Rattle.row_ledger.specs.Ledger.{step_bytes}
-use Rattle.row_ledger.proofs.RowLemmas.{step_brings}
+use Rattle.host_rows.specs.Ledger.{step_bytes}
+use Rattle.host_rows.proofs.RowLemmas.{step_brings}
 use Rattle.draft_parts.proofs.CountLemmas.{recount, recount_fits}
 use Rattle.draft_parts.proofs.counting.mark.Goals as goal
 

@@ -1,8 +1,8 @@
 use Rattle.std.proofs.Common.{arith}
 use Rattle.run_states.specs.Effect.{noted_row}
 use Rattle.run_states.proofs.Place.{noted_key}
-use Rattle.row_ledger.specs.Ledger.{fact_bytes}
-use Rattle.row_ledger.proofs.RowLemmas.{fact_brings}
+use Rattle.host_rows.specs.Ledger.{fact_bytes}
+use Rattle.host_rows.proofs.RowLemmas.{fact_brings}
 use Rattle.draft_parts.proofs.CountLemmas.{recount, recount_fits}
 use Rattle.draft_parts.proofs.counting.note.Goals as goal
 

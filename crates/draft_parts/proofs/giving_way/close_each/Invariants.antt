@@ -1,5 +1,5 @@
 use Rattle.std.proofs.Common.{◌≡◌, drop}
-use Rattle.row_ledger.specs.Closing.{closed_keys}
+use Rattle.host_rows.specs.Closing.{closed_keys}
 use Rattle.draft_parts.proofs.giving_way.close_each.Given as goal
 
 -- what is left decides

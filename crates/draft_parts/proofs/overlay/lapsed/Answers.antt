@@ -1,6 +1,6 @@
 use Rattle.std.proofs.Common.{◌≡◌, ◌+◌, ◌∷◌, ◌∙◌, [], drop, ap, sym, arith}
-use Rattle.row_ledger.specs.Deadlines.{due_keys, key_then}
-use Rattle.row_ledger.proofs.DeadlineLemmas.{due_end}
+use Rattle.host_rows.specs.Deadlines.{due_keys, key_then}
+use Rattle.host_rows.proofs.DeadlineLemmas.{due_end}
 use Rattle.draft_parts.specs.Overlay.{lapsed_over}
 use Rattle.draft_parts.proofs.overlay.lapsed.Goals as goal
 

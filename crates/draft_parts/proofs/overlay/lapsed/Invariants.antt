@@ -1,5 +1,5 @@
 use Rattle.std.proofs.Common.{◌≡◌, [], drop}
-use Rattle.row_ledger.specs.Deadlines.{due_keys}
+use Rattle.host_rows.specs.Deadlines.{due_keys}
 use Rattle.draft_parts.specs.Overlay.{lapsed_over}
 use Rattle.draft_parts.proofs.overlay.lapsed.Given as goal
 

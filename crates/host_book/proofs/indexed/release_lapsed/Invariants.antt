@@ -1,5 +1,5 @@
 use Rattle.std.proofs.Common.{◌≡◌, ◌≤◌, drop}
-use Rattle.row_ledger.specs.Deadlines.{due_keys}
+use Rattle.host_rows.specs.Deadlines.{due_keys}
 use Rattle.host_book.specs.Reservations.{released}
 use Rattle.host_book.proofs.indexed.release_lapsed.Given as goal
 

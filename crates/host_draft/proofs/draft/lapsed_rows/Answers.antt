@@ -1,8 +1,8 @@
 use Rattle.std.specs.Prelude.{IfOk}
 use Rattle.std.proofs.Common.{◌≡◌, ◌≤◌, List, [], subst, arith}
 use Rattle.run_states.specs.declared.row.RunRow.{RunRow}
-use Rattle.row_ledger.specs.Deadlines.{due_keys, latest}
-use Rattle.row_ledger.proofs.FiledLemmas.{all_due}
+use Rattle.host_rows.specs.Deadlines.{due_keys, latest}
+use Rattle.host_rows.proofs.FiledLemmas.{all_due}
 use Rattle.host_draft.proofs.DueLemmas.{opened_ok}
 use Rattle.draft_parts.specs.Overlay.{lapsed_over}
 use Rattle.host_draft.proofs.draft.lapsed_rows.Goals as goal

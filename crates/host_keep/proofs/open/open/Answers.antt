@@ -11,7 +11,7 @@ use Rattle.host_model.specs.declared.input.Input.TheVariants.{Open}
 use Rattle.host_model.specs.declared.reply.LimitsWrong.{LimitsWrong}
 use Rattle.host_model.specs.declared.reply.Reply.{Reply}
 use Rattle.host_model.specs.declared.reply.Reply.TheVariants.{LimitsWrong as limits_wrong}
-use Rattle.kept_host.specs.Stands.{StandsFor}
+use Rattle.host_replay.specs.Stands.{StandsFor}
 use Rattle.machine_keep.specs.Calls.{TellsPair, TellsSome, sync_calls}
 use Rattle.machine_keep.specs.Course.{Unwritten}
 use Rattle.machine_keep.specs.Kept.{IsMade, StandsEither}

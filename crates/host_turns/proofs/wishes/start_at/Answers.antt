@@ -1,6 +1,6 @@
 use Rattle.std.proofs.Common.{◌∙◌, ap, subst, sym}
 use Rattle.plugin_core.specs.TestSpec.{test_class}
-use Rattle.host_wishes.specs.Wishes.{HoldHindering}
+use Rattle.host_turns.specs.Wishes.{HoldHindering}
 use Rattle.host_turns.specs.Turns.{hindering_keys}
 use Rattle.host_turns.proofs.KeepLemmas.{hindering_held}
 use Rattle.host_turns.proofs.wishes.start_at.Goals as goal

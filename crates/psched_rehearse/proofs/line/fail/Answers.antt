@@ -1,4 +1,4 @@
-use Rattle.rehearsal_moves.proofs.ResultLemmas.{on_ok}
+use Rattle.rehearsal_lines.proofs.ResultLemmas.{on_ok}
 use Rattle.psched_rehearse.proofs.line.fail.Goals as goal
 
 pub returns-clause-scene : goal.returns-clause-scene

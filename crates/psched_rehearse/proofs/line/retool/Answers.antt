@@ -1,7 +1,7 @@
 use Rattle.std.proofs.Common.{◌∙◌, List, ap, ℕ}
 use Rattle.rehearsal_model.specs.Moves.{Move.Retools}
 use Rattle.rehearsal_model.specs.Scenes.{Deed.Does, Scene, scene_deed}
-use Rattle.rehearsal_moves.proofs.ResultLemmas.{on_ok}
+use Rattle.rehearsal_lines.proofs.ResultLemmas.{on_ok}
 use Rattle.psched_rehearse.proofs.line.retool.Goals as goal
 
 pub returns-clause-scene : goal.returns-clause-scene

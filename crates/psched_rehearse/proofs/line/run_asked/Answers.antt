@@ -1,11 +1,11 @@
 use Rattle.std.proofs.Common.{◌≡◌, rules}
 use Rattle.host_model.specs.declared.input.Input.TheVariants as input
-use Rattle.report_text.specs.Line.{booking_text}
+use Rattle.rehearsal_report.specs.Line.{booking_text}
 use Rattle.rehearsal_model.specs.Moves.{Move}
 use Rattle.rehearsal_model.specs.Scenes.Deed.{Does}
 use Rattle.rehearsal_model.specs.Scenes.{Scene, came_at, deed_of, scene_deed}
 use Rattle.rehearsal_model.specs.Telling.{came_said, line_said, unavailable}
-use Rattle.rehearsal_moves.proofs.ResultLemmas.{reported, seen_as}
+use Rattle.rehearsal_lines.proofs.ResultLemmas.{reported, seen_as}
 use Rattle.psched_rehearse.proofs.LineLemmas.{booking_done, booking_said}
 use Rattle.psched_rehearse.proofs.line.run_asked.Goals as goal
 

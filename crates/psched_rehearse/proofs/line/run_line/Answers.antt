@@ -1,6 +1,6 @@
 use Rattle.std.proofs.Common.{◌≡◌, ◌∙◌, ap}
 use Rattle.std.specs.Option.{unwrap_or}
-use Rattle.psched_script.specs.declared.script.ScriptLine.{ScriptLine}
+use Rattle.rehearsal_script.specs.declared.script.ScriptLine.{ScriptLine}
 use Rattle.rehearsal_model.specs.Moves.{Outcomes, moment_of_line}
 use Rattle.rehearsal_model.specs.Scenes.{Scene, at_last}
 use Rattle.psched_rehearse.proofs.LineLemmas.{archive_told, line_archived, line_done, line_may}

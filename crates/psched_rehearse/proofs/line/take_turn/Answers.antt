@@ -1,14 +1,14 @@
 use Rattle.std.specs.Prelude.{codes}
 use Rattle.std.proofs.Common.{◌+◌, ◌++◌, ◌∙◌, List, sym}
 use Rattle.std.proofs.lemmas.Result.{on_ok_weaker}
-use Rattle.psched_world.specs.World.{Letter}
-use Rattle.report_text.specs.Line.{changes_text}
+use Rattle.world_law.specs.World.{Letter}
+use Rattle.rehearsal_report.specs.Line.{changes_text}
 use Rattle.rehearsal_model.specs.Moves.{sent_at}
 use Rattle.rehearsal_model.specs.Rehearsal.{letters_told}
 use Rattle.rehearsal_model.specs.Scenes.{Scene, as_read, count_sent}
 use Rattle.rehearsal_model.specs.Telling.{disk_fault, turn_said}
-use Rattle.rehearsal_moves.proofs.ResultLemmas.{reported}
-use Rattle.rehearsal_moves.proofs.TellLemmas.{told_as}
+use Rattle.rehearsal_lines.proofs.ResultLemmas.{reported}
+use Rattle.rehearsal_lines.proofs.TellLemmas.{told_as}
 use Rattle.psched_rehearse.proofs.TurnLemmas.{after_turn, crash_told, fault_told, longer, turn_told}
 use Rattle.psched_rehearse.proofs.line.take_turn.Goals as goal
 

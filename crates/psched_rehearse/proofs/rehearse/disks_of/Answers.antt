@@ -1,10 +1,10 @@
 use Rattle.std.proofs.Common.{◌≡◌, ◌∙◌, ◌++◌, ◌∷◌, List, [], append_assoc, ap, subst, sym}
 use Rattle.std.proofs.lemmas.List.{append-nil}
 use Rattle.std.specs.Vec.Iter.{into_iter_items}
-use Rattle.machine_seat.specs.Held.{Held}
+use Rattle.simulated_machine.specs.Held.{Held}
 use Rattle.ps_disks.specs.MemoryDisk.{DiskState}
-use Rattle.psched_world.specs.World.{Stage}
-use Rattle.rehearsal_moves.specs.Kept.{AreKeptOn}
+use Rattle.world_law.specs.World.{Stage}
+use Rattle.rehearsal_lines.specs.Kept.{AreKeptOn}
 use Rattle.psched_rehearse.proofs.SeatLemmas.{none_left}
 use Rattle.psched_rehearse.proofs.rehearse.disks_of.Goals as goal
 

@@ -1,7 +1,7 @@
 use Rattle.std.proofs.Common.{◌++◌, List}
 use Rattle.std.specs.Vec.Iter.{into_iter_items}
 use Rattle.ps_disks.specs.MemoryDisk.{DiskState}
-use Rattle.rehearsal_moves.specs.Kept.{AreKeptOn}
+use Rattle.rehearsal_lines.specs.Kept.{AreKeptOn}
 use Rattle.psched_rehearse.proofs.rehearse.disks_of.Given as goal
 
 -- with those of the hosts that are left they are those of all

@@ -1,14 +1,14 @@
 use Rattle.std.proofs.Common.{◌≡◌, ◌<◌, ◌+◌, ◌++◌, ◌∙◌, ◌∷◌, [], List, ap, arith, drop, get_or, length, subst, sym}
 use Rattle.std.proofs.lemmas.List.{drop_all, drop_more}
-use Rattle.psched_script.specs.Lawful.{IsLawfulLine}
-use Rattle.psched_script.specs.declared.script.Numbered.{Numbered}
-use Rattle.psched_script.specs.declared.script.ScriptHost.{ScriptHost}
-use Rattle.report_text.specs.Line.{line_text}
+use Rattle.rehearsal_script.specs.Lawful.{IsLawfulLine}
+use Rattle.rehearsal_script.specs.declared.script.Numbered.{Numbered}
+use Rattle.rehearsal_script.specs.declared.script.ScriptHost.{ScriptHost}
+use Rattle.rehearsal_report.specs.Line.{line_text}
 use Rattle.rehearsal_model.specs.Moves.{Outcomes}
 use Rattle.rehearsal_model.specs.Plays.{MayLine}
 use Rattle.rehearsal_model.specs.Scenes.{Scene, scene_line}
 use Rattle.rehearsal_model.specs.Telling.{line_said}
-use Rattle.rehearsal_moves.specs.Playing.{IsPlaying}
+use Rattle.rehearsal_lines.specs.Playing.{IsPlaying}
 use Rattle.psched_rehearse.proofs.PlayLemmas.{HasCome, all_configs, all_told, last_low, one_more, playing, worlds_safe}
 use Rattle.psched_rehearse.proofs.rehearse.run_lines.Goals as goal
 

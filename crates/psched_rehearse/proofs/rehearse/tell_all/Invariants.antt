@@ -2,8 +2,8 @@ use Rattle.std.specs.Prelude.{All, flat_map}
 use Rattle.std.proofs.Common.{◌≡◌, ◌++◌, map}
 use Rattle.std.specs.Vec.Iter.{into_iter_items}
 use Rattle.host_model.specs.Conditions.{IsConfig}
-use Rattle.machine_seat.specs.Held.{Held}
-use Rattle.psched_world.specs.World.{Stage}
+use Rattle.simulated_machine.specs.Held.{Held}
+use Rattle.world_law.specs.World.{Stage}
 use Rattle.rehearsal_model.specs.Rehearsal.{stage_table}
 use Rattle.psched_rehearse.proofs.rehearse.tell_all.Given as goal
 

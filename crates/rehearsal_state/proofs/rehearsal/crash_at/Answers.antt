@@ -2,8 +2,8 @@ use Rattle.std.specs.Prelude.{Some, is_some, set, slice_index_or}
 use Rattle.std.proofs.Common.{◌≡◌, ◌∙◌, List, ap, subst, sym}
 use Rattle.std.specs.List.{insert}
 use Rattle.host_model.specs.Conditions.{IsConfig, IsInput}
-use Rattle.machine_seat.specs.Held.{Held}
-use Rattle.psched_world.specs.World.{Stage}
+use Rattle.simulated_machine.specs.Held.{Held}
+use Rattle.world_law.specs.World.{Stage}
 use Rattle.rehearsal_model.specs.Seats.{ended_at, fault_in, stop_met}
 use Rattle.rehearsal_model.specs.Scenes.{nobody_seat}
 use Rattle.rehearsal_state.proofs.RehearsalLemmas.{put_back, read_any}

@@ -1,6 +1,6 @@
 use Rattle.std.proofs.Common.{◌==◌, Bool, ℕ, not, rules, tests}
 use Rattle.std.proofs.lemmas.Fn.{filter_same}
-use Rattle.psched_script.specs.declared.script.Stop.{Stop}
+use Rattle.rehearsal_script.specs.declared.script.Stop.{Stop}
 use Rattle.rehearsal_state.proofs.rehearsal.disarm.Goals as goal
 
 -- the closure is the test

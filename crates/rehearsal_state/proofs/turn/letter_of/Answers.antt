@@ -1,5 +1,5 @@
 use Rattle.std.proofs.Common.{List, subst, sym, ℕ}
-use Rattle.letter_bytes.specs.Carried.{CarriesFrom, CarriesOrder}
+use Rattle.api_peer.specs.Carried.{CarriesFrom, CarriesOrder}
 use Rattle.rehearsal_model.specs.Hosts.{peer_key}
 use Rattle.rehearsal_state.proofs.TurnLemmas.{authorities, carried_by}
 use Rattle.rehearsal_state.proofs.turn.letter_of.Goals as goal

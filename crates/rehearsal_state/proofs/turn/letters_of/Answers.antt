@@ -1,10 +1,10 @@
 use Rattle.std.specs.Prelude.{All}
 use Rattle.std.proofs.Common.{◌∙◌, ◌∷◌, ◌++◌, List, [], ap, append_assoc, subst, sym}
 use Rattle.std.proofs.lemmas.List.Elements.{All-head, All-tail}
-use Rattle.api_order.specs.Ordered.{IsOrder}
+use Rattle.api_peer.specs.Ordered.{IsOrder}
 use Rattle.std.specs.Vec.Iter.{into_iter_items}
 use Rattle.host_model.specs.declared.order.Order.{Order}
-use Rattle.psched_world.specs.World.{Letter}
+use Rattle.world_law.specs.World.{Letter}
 use Rattle.rehearsal_model.specs.Scenes.{as_read}
 use Rattle.rehearsal_model.specs.Seen.{Seen}
 use Rattle.rehearsal_state.specs.Moved.{sent_of}

@@ -1,7 +1,7 @@
 use Rattle.std.specs.Prelude.{All}
 use Rattle.std.proofs.Common.{◌≡◌, ◌++◌}
 use Rattle.host_model.specs.declared.order.Order.{Order}
-use Rattle.api_order.specs.Ordered.{IsOrder}
+use Rattle.api_peer.specs.Ordered.{IsOrder}
 use Rattle.std.specs.Vec.Iter.{into_iter_items}
 use Rattle.rehearsal_model.specs.Scenes.{as_read}
 use Rattle.rehearsal_state.specs.Moved.{sent_of}

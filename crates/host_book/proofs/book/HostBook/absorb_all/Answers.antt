@@ -1,6 +1,6 @@
 use Rattle.std.proofs.Common.{◌≤◌, ◌-◌, subst, sym}
-use Rattle.row_ledger.proofs.RowLemmas.{bytes_settled}
-use Rattle.row_ledger.specs.Ledger.{most_counted}
+use Rattle.host_rows.proofs.RowLemmas.{bytes_settled}
+use Rattle.host_rows.specs.Ledger.{most_counted}
 use Rattle.host_model.proofs.SettledBook.{book_settled}
 use Rattle.host_model.specs.Apply.{settled}
 use Rattle.host_book.proofs.BytesLemmas.{all_fit}

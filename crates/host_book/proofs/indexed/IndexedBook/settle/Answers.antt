@@ -1,7 +1,7 @@
 use Rattle.std.proofs.Common.{◌≤◌, All, sym, subst, ◌∙◌, arith}
 use Rattle.host_model.specs.Book.{Book}
-use Rattle.row_ledger.specs.Deadlines.{due_keys, latest, IsDue}
-use Rattle.row_ledger.proofs.FiledLemmas.{all_due}
+use Rattle.host_rows.specs.Deadlines.{due_keys, latest, IsDue}
+use Rattle.host_rows.proofs.FiledLemmas.{all_due}
 use Rattle.host_book.specs.Host.{Host}
 use Rattle.host_book.proofs.BookLemmas.{settled_sound}
 use Rattle.host_book.proofs.indexed.IndexedBook.settle.Goals as goal

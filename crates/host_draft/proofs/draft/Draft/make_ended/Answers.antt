@@ -6,8 +6,8 @@ use Rattle.std.proofs.Common.{length}
 use Rattle.archive_retry.specs.Merge.{IsResultText}
 use Rattle.run_states.specs.Life.{end_row, marked_row}
 use Rattle.run_states.specs.declared.life.LifeStep.TheVariants.{End}
-use Rattle.row_ledger.specs.Ledger.{most_counted}
-use Rattle.row_ledger.proofs.RowLemmas.{step_brings}
+use Rattle.host_rows.specs.Ledger.{most_counted}
+use Rattle.host_rows.proofs.RowLemmas.{step_brings}
 use Rattle.host_draft.specs.Draft.{book_now}
 use Rattle.host_draft.proofs.KindLemmas.{end_result}
 use Rattle.host_draft.proofs.MakeLemmas.{after, brought_within, can, copy_within, grown_kept, shown_made, touched_kept}

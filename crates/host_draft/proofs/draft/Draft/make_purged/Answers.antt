@@ -1,7 +1,7 @@
 use Rattle.std.proofs.Common.{◌≡◌, ◌-◌, ◌++◌, ◌∷◌, ◌∙◌, [], refl, ap, ap₂}
 use Rattle.host_model.specs.declared.change.Change.TheVariants.{Purged}
 use Rattle.std.proofs.Common.{min}
-use Rattle.row_ledger.specs.Ledger.{bytes_at, most_counted}
+use Rattle.host_rows.specs.Ledger.{bytes_at, most_counted}
 use Rattle.host_draft.specs.Draft.{book_now}
 use Rattle.draft_parts.specs.Overlay.{over}
 use Rattle.host_draft.proofs.KindLemmas.{purge_rows}

@@ -10,8 +10,8 @@ use Rattle.run_states.specs.declared.fact.Fact.TheVariants.{Merged as MergedFact
 use Rattle.host_model.specs.Effect.{archives_of, states_due}
 use Rattle.host_book.proofs.MergingLemmas.{few_archives}
 use Rattle.host_book.specs.Ready.{is_merged}
-use Rattle.row_ledger.specs.Ledger.{most_counted}
-use Rattle.row_ledger.proofs.RowLemmas.{fact_brings}
+use Rattle.host_rows.specs.Ledger.{most_counted}
+use Rattle.host_rows.proofs.RowLemmas.{fact_brings}
 use Rattle.host_draft.specs.Draft.{Seen, book_now}
 use Rattle.host_draft.proofs.KindLemmas.{merge_text}
 use Rattle.host_draft.proofs.MakeLemmas.{after, brought_within, can, copy_within, grown_kept, shown_made, touched_kept}

@@ -1,5 +1,5 @@
 use Rattle.std.proofs.Common.{◌≡◌, ◌≤◌, ◌+◌, ◌∙◌, length, ap, arith}
-use Rattle.row_ledger.specs.Ledger.{most_counted}
+use Rattle.host_rows.specs.Ledger.{most_counted}
 use Rattle.host_draft.proofs.DraftLemmas.{opened_sound}
 use Rattle.host_draft.proofs.draft.Draft.new.Goals as goal
 

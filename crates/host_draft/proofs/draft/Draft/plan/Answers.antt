@@ -5,7 +5,7 @@ use Rattle.run_states.specs.Rows.{change_row}
 use Rattle.run_states.specs.Effect.{noted_row}
 use Rattle.run_states.specs.declared.fact.Fact.TheVariants.{Planned as PlannedFact}
 use Rattle.host_timeline.specs.Booking.{conflicting, keys_of}
-use Rattle.row_ledger.specs.Closing.{closed_keys}
+use Rattle.host_rows.specs.Closing.{closed_keys}
 use Rattle.draft_parts.specs.Way.{touched_each}
 use Rattle.host_draft.proofs.MakeLemmas.{shown_made}
 use Rattle.host_draft.proofs.PlanLemmas.{plan_kept}

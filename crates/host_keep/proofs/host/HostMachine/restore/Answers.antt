@@ -1,5 +1,5 @@
 use Rattle.std.proofs.Common.{◌≡◌, ◌∙◌, Err, ap}
-use Rattle.kept_host.specs.Stands.{StandsFor}
+use Rattle.host_replay.specs.Stands.{StandsFor}
 use Rattle.machine_keep.specs.declared.machine.RestoreFault.TheVariants.{NotARecord}
 use Rattle.machine_keep.proofs.RefusalLemmas.{first_as}
 use Rattle.host_keep.proofs.HostLemmas.{OfHost, to_book, to_host}

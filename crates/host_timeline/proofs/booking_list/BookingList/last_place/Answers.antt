@@ -1,6 +1,6 @@
 use Rattle.std.proofs.Common.{◌≡◌, ◌∙◌, ◌<◌, length, get_or, ap, subst, sym}
 use Rattle.std.proofs.lemmas.Cmp.{tied_itself}
-use Rattle.placed_list.specs.PlacedList.{PlacedList}
+use Rattle.ps_lists.specs.PlacedList.{PlacedList}
 use Rattle.host_timeline.specs.declared.booking.Booking.{Booking}
 use Rattle.host_timeline.specs.declared.lane.Place.{Place}
 use Rattle.host_timeline.specs.Lane.{place_cmp, place_of}

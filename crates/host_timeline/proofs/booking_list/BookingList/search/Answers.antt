@@ -1,5 +1,5 @@
 use Rattle.std.proofs.Common.{◌≡◌, ◌∙◌, get_or, ap}
-use Rattle.placed_list.specs.PlacedList.{PlacedList}
+use Rattle.ps_lists.specs.PlacedList.{PlacedList}
 use Rattle.host_timeline.specs.declared.booking.Booking.{Booking}
 use Rattle.host_timeline.specs.declared.lane.Place.{Place}
 use Rattle.host_timeline.specs.Lane.{place_cmp, place_of}

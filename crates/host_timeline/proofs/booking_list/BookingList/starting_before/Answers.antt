@@ -1,7 +1,7 @@
 use Rattle.std.proofs.Common.{◌≡◌, ◌∙◌, ltb, rules, ap, subst, sym}
 use Rattle.std.specs.List.Sorted.{IsNonDecreasing}
 use Rattle.std.proofs.lemmas.List.Sorted.{IsPartitionPoint-from_clause, IsPartitionedBy-ltb}
-use Rattle.placed_list.specs.PlacedList.{PlacedList}
+use Rattle.ps_lists.specs.PlacedList.{PlacedList}
 use Rattle.host_timeline.specs.declared.booking.Booking.{Booking}
 use Rattle.host_timeline.specs.Lane.{starts_of, IsAscendingPlaces}
 use Rattle.host_timeline.proofs.StartLemmas.{parts_bookings, starts_ascend}

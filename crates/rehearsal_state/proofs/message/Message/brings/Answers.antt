@@ -1,9 +1,9 @@
 use Rattle.std.proofs.Common.{◌≡◌, IfOk, List, None, Option, subst, sym, ℕ}
 use Rattle.ps_http.specs.declared.message.PeerMark.{PeerMark}
 use Rattle.host_model.specs.declared.reply.Reply.{Reply}
-use Rattle.psched_world.specs.Events.{brings}
-use Rattle.psched_world.specs.World.{Letter}
-use Rattle.letter_bytes.specs.Carried.{CarriesOrder}
+use Rattle.world_law.specs.Events.{brings}
+use Rattle.world_law.specs.World.{Letter}
+use Rattle.api_peer.specs.Carried.{CarriesOrder}
 use Rattle.rehearsal_model.specs.Hosts.{peer_key}
 use Rattle.rehearsal_model.specs.Reaching.{IsKnown}
 use Rattle.rehearsal_state.specs.Carried.{IsCarried}

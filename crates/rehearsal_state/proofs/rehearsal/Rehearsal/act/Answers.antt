@@ -1,7 +1,7 @@
 use Rattle.std.proofs.Common.{◌≡◌, IfOk, subst}
 use Rattle.std.proofs.lemmas.Result.{on_ok_weaker}
-use Rattle.machine_seat.specs.Held.{Held}
-use Rattle.psched_world.specs.World.{Stage}
+use Rattle.simulated_machine.specs.Held.{Held}
+use Rattle.world_law.specs.World.{Stage}
 use Rattle.rehearsal_model.specs.Seats.{answered}
 use Rattle.rehearsal_state.proofs.RehearsalLemmas.{act_so, seat_so}
 use Rattle.rehearsal_state.proofs.rehearsal.Rehearsal.act.Goals as goal

@@ -1,6 +1,6 @@
 use Rattle.std.proofs.Common.{◌≡◌, ◌∙◌, ◌∷◌, List, [], ap, arith, length, refl, sym}
 use Rattle.std.specs.Vec.Iter.{into_iter_items}
-use Rattle.psched_world.specs.World.{Letter}
+use Rattle.world_law.specs.World.{Letter}
 use Rattle.rehearsal_state.specs.Moved.{with_letters}
 use Rattle.rehearsal_state.proofs.MoveLemmas.{letters_more, letters_none}
 use Rattle.rehearsal_state.proofs.rehearsal.Rehearsal.send_all.Goals as goal

@@ -1,4 +1,0 @@
-mod DenialLemmas
-mod FlatLemmas
-mod HeardLemmas
-mod ToldLemmas

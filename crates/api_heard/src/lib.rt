@@ -1,5 +1,0 @@
-//! What is replied to an order is heard as it was meant.
-#![tactic(auto)]
-
-pub mod hear;
-pub mod law;

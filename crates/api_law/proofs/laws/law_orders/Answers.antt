@@ -1,5 +1,0 @@
-use Rattle.api_law.proofs.OrderLemmas.{orders_listed, orders_sent}
-use Rattle.api_law.proofs.laws.law_orders.Goals as goal
-
-pub returns : goal.returns
-returns c = record { sent = orders_sent; bounds = orders_listed }

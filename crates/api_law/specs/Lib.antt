@@ -1,5 +1,0 @@
-pub mod Listed
-pub mod Orderly
-pub mod Sent
-pub mod Told
-pub mod Widths

@@ -1,0 +1,10 @@
+pub mod Carried
+pub mod Listed
+pub mod Meant
+pub mod Ordered
+pub mod Orderly
+pub mod Replied
+pub mod Sent
+pub mod Texts
+pub mod Told
+pub mod Widths

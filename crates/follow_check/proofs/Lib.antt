@@ -1,8 +1,0 @@
-mod AfterLemmas
-mod FitLemmas
-mod NeedLemmas
-mod ReadLemmas
-mod RecordLemmas
-mod SuitLemmas
-mod UnchangedLemmas
-mod WayLemmas

@@ -1,4 +1,0 @@
-pub mod Follows
-pub mod ReadChange
-pub mod Suits
-pub mod Way

@@ -1,8 +1,0 @@
-use Rattle.generated_work.proofs.HostLemmas.{eight_work, lawful_work}
-use Rattle.generated_work.proofs.hosts.law_hosts.Goals as goal
-
-pub returns-clause-lawful : goal.returns-clause-lawful
-returns-clause-lawful c = lawful_work
-
-pub returns-clause-eight : goal.returns-clause-eight
-returns-clause-eight c = eight_work

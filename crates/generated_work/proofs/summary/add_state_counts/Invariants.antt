@@ -1,8 +1,0 @@
-use Rattle.std.proofs.Common.{◌≡◌, ◌++◌, take}
-use Rattle.std.specs.Prelude.{flat_map, string_bytes}
-use Rattle.generated_work.specs.Summary.{state_line}
-use Rattle.generated_work.proofs.summary.add_state_counts.Given as goal
-
--- the lines so far are written
-abbrev pub invariant-loop-state : goal.invariant-loop-state
-invariant-loop-state l = string_bytes l.text ≡ string_bytes l.fn.text ++ flat_map (state_line l.states) (take l.state-index l.state-items)

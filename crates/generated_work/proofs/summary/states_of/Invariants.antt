@@ -1,8 +1,0 @@
-use Rattle.std.proofs.Common.{◌≡◌, take}
-use Rattle.std.specs.Prelude.{flat_map}
-use Rattle.generated_work.specs.Summary.{stage_states}
-use Rattle.generated_work.proofs.summary.states_of.Given as goal
-
--- those of the hosts so far
-abbrev pub invariant-loop-seat : goal.invariant-loop-seat
-invariant-loop-seat l = l.states.items ≡ flat_map (λ h. stage_states l.moment h.state) (take l.seat-index l.seat-items)

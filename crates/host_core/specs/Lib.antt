@@ -1,0 +1,2 @@
+pub mod ReadOff
+pub mod Restarts

@@ -1,0 +1,13 @@
+pub mod CalledLemmas
+pub mod ClosingLemmas
+pub mod DeadlineLemmas
+pub mod FiledLemmas
+pub mod KeyLemmas
+pub mod LapseLemmas
+pub mod LastLemmas
+pub mod LedgerLemmas
+pub mod LiveLemmas
+pub mod ReverseLemmas
+pub mod RowLemmas
+pub mod StayLemmas
+pub mod WaitLemmas

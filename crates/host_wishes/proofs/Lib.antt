@@ -1,2 +1,0 @@
-pub mod PurgeLemmas
-pub mod StartLemmas

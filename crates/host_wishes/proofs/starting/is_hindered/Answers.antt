@@ -1,6 +1,0 @@
-use Rattle.std.proofs.Common.{◌∙◌}
-use Rattle.host_wishes.proofs.StartLemmas.{hindered_among}
-use Rattle.host_wishes.proofs.starting.is_hindered.Goals as goal
-
-pub returns : goal.returns
-returns g c = c.any_hinders.ensures ∙ hindered_among c.args.class (g.R.Reading.seen c.args.rows.now) c.args.keys.now c.requires.ascending c.requires.hindering

@@ -1,5 +1,0 @@
-use Rattle.kept_host.proofs.OneBookLemmas.{one_book}
-use Rattle.kept_host.proofs.law.law_one_book.Goals as goal
-
-pub returns : goal.returns
-returns c = one_book c.law_first.ensures.record c.law_first.ensures.book

@@ -1,2 +1,0 @@
-pub mod NewKey
-pub mod ReadBook

@@ -1,7 +1,0 @@
-use Rattle.std.proofs.Common.{◌∙◌, subst, sym}
-use Rattle.live_rows.specs.LiveKeys.{IsAscendingKeys}
-use Rattle.live_rows.proofs.live_keys.LiveKeys.copy.Goals as goal
-
--- the same keys ascend
-pub invariant_of-result : goal.invariant_of-result
-invariant_of-result c = subst IsAscendingKeys (sym (c.in_ok-add_all.ensures ∙ c.in_order.ensures)) c.self.invariant

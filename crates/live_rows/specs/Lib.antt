@@ -1,2 +1,0 @@
-pub mod LiveKeys
-pub mod Still

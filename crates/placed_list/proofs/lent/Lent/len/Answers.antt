@@ -1,6 +1,0 @@
-use Rattle.std.proofs.Common.{◌∙◌, List, length, sym, ap}
-use Rattle.placed_list.proofs.PickLemmas.{length_picked}
-use Rattle.placed_list.proofs.lent.Lent.len.Goals as goal
-
-pub returns : goal.returns
-returns g c = c.len.ensures ∙ sym (length_picked c.self.inside.cells.now c.self.inside.order c.self.invariant) ∙ ap (λ (l : List g.row.T.Denot). length l) c.self.view_is

@@ -1,0 +1,5 @@
+pub mod Lending
+pub mod Order
+pub mod PlacedList
+pub mod SlidingList
+pub mod TieredList

@@ -1,6 +1,0 @@
-use Rattle.host_model.proofs.StepFollows.{step_follows}
-use Rattle.psched_world.proofs.KeptAnswers.{kept_law}
-use Rattle.psched_world.proofs.laws.law_kept.Goals as goal
-
-pub returns : goal.returns
-returns c = kept_law step_follows

@@ -1,6 +1,0 @@
-use Rattle.host_model.proofs.StepFollows.{step_follows}
-use Rattle.psched_world.proofs.Keeping.{lawful_law}
-use Rattle.psched_world.proofs.laws.law_lawful.Goals as goal
-
-pub returns : goal.returns
-returns c = lawful_law step_follows

@@ -1,6 +1,0 @@
-use Rattle.host_model.proofs.StepFollows.{step_follows}
-use Rattle.psched_world.proofs.Agreeing.{once_law}
-use Rattle.psched_world.proofs.laws.law_once.Goals as goal
-
-pub returns : goal.returns
-returns c = once_law step_follows

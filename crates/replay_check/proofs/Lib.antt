@@ -1,0 +1,9 @@
+mod AfterLemmas
+mod ApartLemmas
+mod FitLemmas
+mod NeedLemmas
+mod ReadLemmas
+mod RecordLemmas
+mod SuitLemmas
+mod UnchangedLemmas
+mod WayLemmas

@@ -1,0 +1,6 @@
+pub mod Follows
+pub mod NewKey
+pub mod ReadBook
+pub mod ReadChange
+pub mod Suits
+pub mod Way

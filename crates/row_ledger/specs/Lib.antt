@@ -1,4 +1,0 @@
-pub mod Called
-pub mod Closing
-pub mod Deadlines
-pub mod Ledger

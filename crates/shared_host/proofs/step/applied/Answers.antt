@@ -1,0 +1,21 @@
+use Rattle.shared_host.proofs.step.applied.Goals as goal
+
+pub returns : goal.returns
+returns g c = record {
+  answered = c.apply-answer.ensures.answered;
+  wanting = c.apply-answer.ensures.wanting;
+  failed = c.apply-answer.ensures.failed;
+  durable = c.apply-answer.ensures.durable;
+  same = λ p e. (c.apply-answer.ensures.memory p e).0;
+  around = c.apply-answer.ensures.any_moment;
+  recovers = c.apply-answer.ensures.recovers;
+  few = c.apply-answer.ensures.few;
+  ready = c.apply-answer.ensures.ready;
+  fixed = c.apply-answer.ensures.fixed;
+  later = c.apply-answer.ensures.later;
+  calm = c.apply-answer.ensures.calm;
+  cause = c.apply-answer.ensures.cause;
+  order = c.known.ensures.order;
+  sure = c.known.ensures.sure;
+  sure_after = c.known-2.ensures.sure;
+}

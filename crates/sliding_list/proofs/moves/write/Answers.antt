@@ -1,5 +1,0 @@
-use Rattle.std.proofs.lemmas.List.{drop-set-add}
-use Rattle.sliding_list.proofs.moves.write.Goals as goal
-
-pub returns-clause-items : goal.returns-clause-items
-returns-clause-items g c = drop-set-add c.args.first c.args.cells.now.items c.args.at c.args.item

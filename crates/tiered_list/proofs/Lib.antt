@@ -1,3 +1,0 @@
-mod JoinLemmas
-mod LentLemmas
-pub mod SearchLemmas
