@@ -5,8 +5,8 @@ ghost use Rattle.std.specs.List.Sorted.{IsPartitionPoint, IsPartitionedBy};
 ghost use Rattle.std.specs.Option.{option_copied};
 ghost use Rattle.ps_lists.specs.Order.{passes_in, picked};
 
-use std::marker::Model;
 use crate::tiered_lent::Lent as Numbers;
+use std::marker::Model;
 
 /// Items of a list in its order, that are lent. As an iterator they are those that are left.
 #[derive(Drop)]

@@ -4,11 +4,11 @@ ghost use Rattle.std.specs.Borrow.{sem};
 ghost use Rattle.std.specs.List.{insert, range_with_len, remove};
 
 use crate::placed_lent::Lent;
+use crate::tiered_list::TieredList;
 use ps_time::memory::Memory;
 use std::alloc::Global;
 use std::marker::Model;
 use std::ops::{Index, IndexMut};
-use crate::tiered_list::TieredList;
 
 /// Items in cells of their own, at most 2^32 of them. The list's order is kept apart, as numbers of the cells in blocks of 2,048:
 /// where an item comes or goes, four bytes move for each item of its block, and one number of each block behind it.

@@ -2,7 +2,9 @@
 ghost use Rattle.std.specs.Prelude.{◌≡◌, ◌+◌, ◌-◌, ◌++◌, ◌^◌, ◌<◌, ◌≤◌, [], ◌∷◌, OnOk, length, slice_index_or, slice_set};
 ghost use Rattle.std.specs.List.{insert, remove, remove_range};
 
-use crate::sliding_moves::{close_behind, close_front, free_front, open_behind, open_front, slide, write};
+use crate::sliding_moves::{
+    close_behind, close_front, free_front, open_behind, open_front, slide, write,
+};
 use ps_time::memory::Memory;
 use std::alloc::Global;
 use std::marker::Model;

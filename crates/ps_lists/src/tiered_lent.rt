@@ -5,8 +5,8 @@ ghost use Rattle.std.specs.List.Sorted.{IsBinarySearchResult, IsPartitionPoint, 
 ghost use Rattle.ps_lists.specs.TieredList.{joined, AreFilled};
 
 use crate::halves::{FROM_THE_END, next_part};
-use crate::tiered_list::BLOCK;
 use crate::sliding_list::SlidingList;
+use crate::tiered_list::BLOCK;
 use std::cmp::Ordering;
 use std::marker::Model;
 

@@ -3,10 +3,10 @@ ghost use Rattle.std.specs.Prelude.{◌≡◌, ◌+◌, ◌++◌, ◌<◌, ◌�
 ghost use Rattle.std.specs.List.{insert, remove};
 ghost use Rattle.ps_lists.specs.TieredList.{joined, AreFilled};
 
+use crate::sliding_list::SlidingList;
 use crate::tiered_lent::Lent;
 use crate::tiered_moves::{empty, put_in, replace, take_out};
 use ps_time::memory::Memory;
-use crate::sliding_list::SlidingList;
 use std::alloc::Global;
 use std::marker::Model;
 use std::ops::Index;

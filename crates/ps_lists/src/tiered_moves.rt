@@ -3,8 +3,8 @@ ghost use Rattle.std.specs.Prelude.{◌≡◌, ◌+◌, ◌*◌, ◌<◌, ◌≤
 ghost use Rattle.std.specs.List.{insert, remove};
 ghost use Rattle.ps_lists.specs.TieredList.{joined, most, AreFilled, IsOpenAt};
 
-use crate::tiered_list::BLOCK;
 use crate::sliding_list::SlidingList;
+use crate::tiered_list::BLOCK;
 
 /// Puts an item in. Of each block from there on one item moves to the next, up to the first one with room.
 pub(crate) fn put_in<T: Copy>(blocks: &mut Vec<SlidingList<T>>, len: usize, at: usize, item: T)
