@@ -20,7 +20,7 @@ pub enum Refusal {
     Query,
     /// The body isn't one that the path has. It is never `TaskFault::Memory`.
     Body(TaskFault),
-    /// Want of memory, which may come in place of any answer.
+    /// Out of memory, which may come in place of any answer.
     Memory,
 }
 

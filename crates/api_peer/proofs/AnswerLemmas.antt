@@ -42,7 +42,7 @@ use Rattle.host_model.specs.declared.reply.Reply.TheVariants as reply
 use Rattle.host_model.proofs.RowLemmas.{found_of_all}
 use Rattle.world_law.specs.Laws.{SaysDiffers}
 use Rattle.world_law.specs.World.{heard_as, input_of}
-use Rattle.world_law.proofs.Letters.{answer_in}
+use Rattle.world_law.proofs.Messages.{answer_in}
 use Rattle.api_peer.specs.Replied.{IsCancelReply, IsConfirmReply, IsDenialTold, IsFreeReply, IsFreeTold, IsMaterialReply, IsProposeReply, IsReplyTo, IsResultReply, IsResultTold, IsVerdictTold}
 use Rattle.api_peer.specs.Told.{AreTold, IsTold}
 use Rattle.api_peer.specs.Widths.{HasDenialWidths, HasVerdictWidth, HasWidths}

@@ -23,7 +23,7 @@ use Rattle.host_model.specs.declared.config.Config.{Config}
 use Rattle.host_model.specs.declared.order.OrderBody.{OrderBody}
 use Rattle.host_model.specs.declared.order.OrderBody.TheVariants.{Free, Propose, Confirm, Cancel, Material, Result}
 use Rattle.host_model.proofs.SettledRows.{settled_hosts}
-use Rattle.world_law.proofs.Letters.{kept_start}
+use Rattle.world_law.proofs.Messages.{kept_start}
 use Rattle.api_peer.specs.Meant.{KeepsBounds}
 use Rattle.api_peer.specs.Ordered.{IsOrder}
 use Rattle.api_peer.specs.Listed.{IsListed}

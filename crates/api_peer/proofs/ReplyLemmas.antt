@@ -61,7 +61,7 @@ use Rattle.host_model.specs.declared.view.View.TheVariants as view
 use Rattle.host_model.proofs.RowFacts.{lawful_at}
 use Rattle.host_model.proofs.SettledBook.{book_settled}
 use Rattle.host_model.proofs.StepGrown.{task_of_all}
-use Rattle.world_law.proofs.Letters.{denied_in, objected_in}
+use Rattle.world_law.proofs.Messages.{denied_in, objected_in}
 use Rattle.api_reply.specs.Bounds.{IsReplyShown}
 
 abbrev IsShown : Outcome → Type 0

@@ -30,10 +30,10 @@ use Rattle.api_reply.specs.Replies.{answered, reply_data, reply_status, response
 use Rattle.world_law.specs.World.{heard_as}
 use Rattle.api_answer.specs.Heard.{heard_of}
 use Rattle.api_peer.specs.Ordered.{peer_named}
-use Rattle.api_peer.specs.Carried.{CarriesReply, letter_limits}
+use Rattle.api_peer.specs.Carried.{CarriesReply, message_limits}
 use Rattle.api_peer.proofs.ValueLemmas.{name_near, name_value}
 
-pub has_room : (r : Request) (authority : List ℕ) → is_name authority ≡ true → length r.body ≤ 1_048_576 → HasRoom letter_limits authority r
+pub has_room : (r : Request) (authority : List ℕ) → is_name authority ≡ true → length r.body ≤ 1_048_576 → HasRoom message_limits authority r
 has_room r authority named short = record {
   value = name_value authority named;
   near = name_near authority named;
@@ -116,7 +116,7 @@ fields_long s d small =
       length-append (length_text body) line_end,
     )
 
-pub replying : (c : Config) (r : Reply) → length (response_of c r).body ≤ 1_048_576 → IsReplying letter_limits (response_of c r)
+pub replying : (c : Config) (r : Reply) → length (response_of c r).body ≤ 1_048_576 → IsReplying message_limits (response_of c r)
 replying c r small =
     let s : ℕ = reply_status r in
     let is = status_of r in
@@ -131,7 +131,7 @@ replying c r small =
     }
 
 -- ---- what is carried
-pub reply_carried : {E : Type 0} (o : Order) (said : Reply) (response : Response) (result : Result (List ℕ) E) → IfOk result (λ bytes. IsMessage responses letter_limits bytes response) → IfOk result (λ bytes. length response.body ≤ most_request_bytes)
+pub reply_carried : {E : Type 0} (o : Order) (said : Reply) (response : Response) (result : Result (List ℕ) E) → IfOk result (λ bytes. IsMessage responses message_limits bytes response) → IfOk result (λ bytes. length response.body ≤ most_request_bytes)
     → (length response.body ≤ most_request_bytes → heard_of o response ≡ Some (Heard o (heard_as said))) → IfOk result (λ bytes. CarriesReply o said bytes)
 reply_carried o said response (Ok bytes) is short hears = record { response = response; is = is; heard = hears short }
 reply_carried o said response (Err fault) is short hears = tt

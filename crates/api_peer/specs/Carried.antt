@@ -16,19 +16,19 @@ use Rattle.api_peer.specs.Meant.{IsMeant}
 use Rattle.api_peer.specs.Ordered.{mark_for, peer_named}
 
 -- a head of at most 16,384 bytes, and a body of at most 1,048,576
-abbrev pub letter_limits : HttpLimits
-letter_limits = record { head = 16_384; body = 1_048_576 }
+abbrev pub message_limits : HttpLimits
+message_limits = record { head = 16_384; body = 1_048_576 }
 
 -- the bytes are one request, which each host that knows the sender by this mark takes for exactly what the order asks
 pub record CarriesOrder (mark : PeerMark) (o : Order) (bytes : List ℕ) : Type 0 where
   pub request : Request
-  pub is : IsMessage requests letter_limits bytes request
+  pub is : IsMessage requests message_limits bytes request
   pub meant : IsMeant mark o.key o.body request
 
 -- the bytes are one response, which the host that ordered hears as exactly what was replied
 pub record CarriesReply (o : Order) (said : Reply) (bytes : List ℕ) : Type 0 where
   pub response : Response
-  pub is : IsMessage responses letter_limits bytes response
+  pub is : IsMessage responses message_limits bytes response
   pub heard : heard_of o response ≡ Some (Heard o (heard_as said))
 
 -- they carry the order of a host with this configuration to the peer whom it names

@@ -13,14 +13,14 @@ ghost use Rattle.api_input.specs.Understood.{understood};
 ghost use Rattle.api_peer.specs.Sent.{HasKeys};
 ghost use Rattle.api_peer.specs.Meant.{KeepsBounds, Knows};
 ghost use Rattle.api_peer.specs.Ordered.{IsOrder, order_request_of, peer_named};
-ghost use Rattle.api_peer.specs.Carried.{CarriesFrom, CarriesOrder, letter_limits};
+ghost use Rattle.api_peer.specs.Carried.{CarriesFrom, CarriesOrder, message_limits};
 ghost use Rattle.api_peer.specs.Texts.{HasWidth, orders_texts};
 
+use crate::bounds_law::law_request;
 use crate::read::{MOST_BODY, read_request};
+use crate::request::{find_named, order_request};
 use api_input::refusal::Refusal;
 use api_input::understand::read_input;
-use crate::bounds_law::law_request;
-use crate::request::{find_named, order_request};
 use host_model::config::{Config, Peer};
 use host_model::input::Input;
 use host_model::order::{Order, OrderBody};
@@ -105,7 +105,7 @@ fn write_request(
     requires order { IsOrder order.now.body }
     requires keys { HasKeys config.now }
     requires authority { is_name authority.now ≡ true }
-    ensures { IfOk result (λ bytes. IsMessage requests letter_limits bytes request.now) }
+    ensures { IfOk result (λ bytes. IsMessage requests message_limits bytes request.now) }
 {
     law_request();
     law_requests_read_again();
@@ -141,7 +141,7 @@ fn write_order(
 }
 
 /// The order of a host with this configuration as the bytes of its request; none where it has no such peer. A proposal or material
-/// whose body would be longer than 1,048,576 bytes is told as want of memory. No other body is so long.
+/// whose body would be longer than 1,048,576 bytes is told as out of memory. No other body is so long.
 pub fn send_order(
     alloc: Global,
     config: &Config,
@@ -159,7 +159,7 @@ pub fn send_order(
     }
 }
 
-// Where the request is an order of a host that is known here, only memory may be wanting.
+// Where the request is an order of a host that is known here, only memory may be out_of_memory.
 fn understand(
     alloc: Global,
     config: &Config,

@@ -3,7 +3,7 @@ ghost use Rattle.std.specs.Prelude.{◌≡◌, [], IfErr, IfOk, false};
 ghost use Rattle.ps_http.specs.Answer.{IsMessage, requests, responses};
 ghost use Rattle.ps_http.specs.declared.message.Request.{Request as IsRequest};
 ghost use Rattle.ps_http.specs.declared.message.Response.{Response as IsResponse};
-ghost use Rattle.api_peer.specs.Carried.{letter_limits};
+ghost use Rattle.api_peer.specs.Carried.{message_limits};
 
 use crate::source::WholeSource;
 use ps_http::fault::HttpFault;
@@ -16,7 +16,7 @@ use std::alloc::Global;
 pub const MOST_BODY: u32 = 1_048_576;
 
 fn limits() -> HttpLimits
-    ensures { result ≡ letter_limits }
+    ensures { result ≡ message_limits }
 {
     HttpLimits {
         head: MAX_HEAD,
@@ -34,14 +34,14 @@ fn reader(alloc: Global, bytes: &[u8]) -> Result<Reader<WholeSource<'_>>, HttpFa
     }
 }
 
-/// The request that the bytes are. Where they are one, only memory may be wanting.
+/// The request that the bytes are. Where they are one, only memory may be out_of_memory.
 pub fn read_request(
     alloc: Global,
     fields: &mut FieldSpans,
     bytes: &[u8],
 ) -> Result<Request, HttpFault>
-    ensures request { (r : IsRequest) → IsMessage requests letter_limits bytes.now r → IfOk result (λ made. made ≡ r) }
-    ensures fault { (r : IsRequest) → IsMessage requests letter_limits bytes.now r → IfErr result (λ fault. fault ≡ HttpFault.Memory) }
+    ensures request { (r : IsRequest) → IsMessage requests message_limits bytes.now r → IfOk result (λ made. made ≡ r) }
+    ensures fault { (r : IsRequest) → IsMessage requests message_limits bytes.now r → IfErr result (λ fault. fault ≡ HttpFault.Memory) }
 {
     law_one_answer();
     let mut reader = reader(alloc, bytes)?;
@@ -52,14 +52,14 @@ pub fn read_request(
     }
 }
 
-/// The response that the bytes are. Where they are one, only memory may be wanting.
+/// The response that the bytes are. Where they are one, only memory may be out_of_memory.
 pub fn read_response(
     alloc: Global,
     fields: &mut FieldSpans,
     bytes: &[u8],
 ) -> Result<Response, HttpFault>
-    ensures response { (r : IsResponse) → IsMessage responses letter_limits bytes.now r → IfOk result (λ made. made ≡ r) }
-    ensures fault { (r : IsResponse) → IsMessage responses letter_limits bytes.now r → IfErr result (λ fault. fault ≡ HttpFault.Memory) }
+    ensures response { (r : IsResponse) → IsMessage responses message_limits bytes.now r → IfOk result (λ made. made ≡ r) }
+    ensures fault { (r : IsResponse) → IsMessage responses message_limits bytes.now r → IfErr result (λ fault. fault ≡ HttpFault.Memory) }
 {
     law_one_answer();
     let mut reader = reader(alloc, bytes)?;

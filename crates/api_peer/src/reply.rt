@@ -8,12 +8,12 @@ ghost use Rattle.world_law.specs.World.{heard_as};
 ghost use Rattle.api_reply.specs.Bounds.{IsReplyShown};
 ghost use Rattle.api_reply.specs.Replies.{response_of};
 ghost use Rattle.api_peer.specs.Replied.{IsReplyTo};
-ghost use Rattle.api_peer.specs.Carried.{CarriesReply, letter_limits};
+ghost use Rattle.api_peer.specs.Carried.{CarriesReply, message_limits};
 ghost use Rattle.api_peer.specs.Texts.{tells_texts};
 
+use crate::heard_law::law_heard;
 use crate::read::{MOST_BODY, read_response};
 use api_answer::heard::heard;
-use crate::heard_law::law_heard;
 use api_reply::respond::respond;
 use host_model::config::Config;
 use host_model::input::Input;
@@ -67,7 +67,7 @@ fn write_response(
 ) -> Result<Items<u8>, Memory>
     requires response { response.now ≡ response_of config.now reply.now }
     requires told { IsReplyTo order.now.body reply.now }
-    ensures whole { IfOk result (λ bytes. IsMessage responses letter_limits bytes response.now) }
+    ensures whole { IfOk result (λ bytes. IsMessage responses message_limits bytes response.now) }
     ensures short { IfOk result (λ bytes. length response.now.body ≤ most_request_bytes) }
 {
     law_responses_read_again();
@@ -78,7 +78,7 @@ fn write_response(
 }
 
 /// The reply of the host with this configuration to an order, as the bytes of its response. A denial that tells the host's name, a tool
-/// or two proposals, and whose body would be longer than 1,048,576 bytes, is told as want of memory. No other body is so long.
+/// or two proposals, and whose body would be longer than 1,048,576 bytes, is told as out of memory. No other body is so long.
 pub fn send_reply(
     alloc: Global,
     config: &Config,

@@ -15,7 +15,7 @@ pub enum PolicyFault {
     Json(JsonFault),
     /// The text of this member is no length.
     BadTime(Text, TimeFault),
-    /// Want of memory, which may come in place of any answer.
+    /// Out of memory, which may come in place of any answer.
     Memory,
 }
 

@@ -2,6 +2,7 @@
 use crate::held::{Held, Line, booked, booking_of, key, put};
 use host_timeline::booking::{Booking, firm_from};
 use host_timeline::timeline::Timeline;
+use ps_lists::tiered_lent::Lent;
 use ps_time::class::Class::{self, Background, BackgroundMulti, Exclusive, Normal};
 use ps_time::interval::{Interval, Window};
 use ps_time::items::Items;
@@ -9,7 +10,6 @@ use ps_time::key::RunKey;
 use ps_time::memory::Memory;
 use std::alloc::Global;
 use std::test::Fail;
-use ps_lists::tiered_lent::Lent;
 
 // One exclusive run from 1010 on, before 1020.
 static ONE_RUN: [Line; 1] = [(1, Exclusive, 0, 1010, 1020)];

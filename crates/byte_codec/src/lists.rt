@@ -22,7 +22,7 @@ fn write_each<T: Coded>(alloc: Global, items: &[T], out: &mut Vec<u8>) -> Result
     Ok(())
 }
 
-/// Adds the bytes of a list: its count, and its items. One of 2^32 items or more has none, and is want of memory.
+/// Adds the bytes of a list: its count, and its items. One of 2^32 items or more has none, and is out of memory.
 pub fn write_list<T: Coded>(alloc: Global, items: &[T], out: &mut Vec<u8>) -> Result<(), Memory>
     requires { (list T.codec).Writable items.now }
     ensures code { OnOk result (out.new.items ≡ out.old.items ++ (list T.codec).code items.now) }

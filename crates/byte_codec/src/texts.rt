@@ -9,7 +9,7 @@ use std::alloc::Global;
 use value_bytes::fault::CodeFault;
 use value_bytes::texts::text_of;
 
-/// Adds the bytes of a text. One of 4 GiB or more has none, and is want of memory.
+/// Adds the bytes of a text. One of 4 GiB or more has none, and is out of memory.
 pub fn write_str(alloc: Global, text: &str, out: &mut Vec<u8>) -> Result<(), Memory>
     ensures code { OnOk result (out.new.items ≡ out.old.items ++ text_codec.code text.now) }
     ensures fits { OnOk result (IsText text.now) }

@@ -1,10 +1,10 @@
 //! Tests as bytes.
 use crate::coded::Coded;
 use plugin_core::test_spec::TestSpec;
+use plugin_text::written::test_text;
 use ps_time::memory::Memory;
 use ps_time::text::Text;
 use std::alloc::Global;
-use plugin_text::written::test_text;
 use value_bytes::fault::CodeFault;
 use value_bytes::trees::test_in;
 

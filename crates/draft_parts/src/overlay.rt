@@ -13,6 +13,7 @@ ghost use Rattle.host_timeline.specs.Booking.{conflicting_after, is_after, keys_
 ghost use Rattle.host_rows.specs.Deadlines.{due_keys};
 ghost use Rattle.draft_parts.specs.Overlay.{hard_below, below, hides, is_hard, lapsed_copy, lapsed_over, later, meets, meets_below, named, over};
 
+use host_rows::deadlines::Deadlines;
 use host_timeline::timeline::Timeline;
 use ps_time::class::Class;
 use ps_time::interval::Interval;
@@ -20,7 +21,6 @@ use ps_time::items::Items;
 use ps_time::key::RunKey;
 use ps_time::memory::Memory;
 use ps_time::moment::{Moment, ON_DECK};
-use host_rows::deadlines::Deadlines;
 use run_states::lent::LentRows;
 use run_states::row::RunRow;
 use run_states::rows::Rows;

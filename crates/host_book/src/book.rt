@@ -20,17 +20,17 @@ use crate::parts::Parts;
 use crate::ready::Ready;
 use crate::waking::{all_wakes, extend, renew, touched};
 use host_model::task_row::TaskRow;
+use host_rows::deadlines::Deadlines;
 use host_timeline::timeline::Timeline;
 use limit_apply::limits::Limits;
+use ps_lists::tiered_lent::Lent;
 use ps_time::items::Items;
 use ps_time::key::RunKey;
 use ps_time::memory::Memory;
 use ps_time::moment::Moment;
-use host_rows::deadlines::Deadlines;
 use run_states::rows::Rows;
 use std::alloc::Global;
 use std::marker::Model;
-use ps_lists::tiered_lent::Lent;
 
 /// A host's book, with what is looked up in it, when its tasks wake, and places for changes.
 pub struct HostBook {
@@ -138,7 +138,7 @@ impl HostBook {
     pub fn is_awake(&self, serial: u32, moment: Moment) -> bool
         ensures { (t : TaskSeen) → find_task self.now.book.tasks serial ≡ Some t → result ≡ is_awake self.now.number self.now.book.rows moment t }
     {
-        let _ = self.indexed.rows();
+        let _known = self.indexed.rows();
         let Some(place) = serial.checked_sub(1) else {
             return false;
         };
@@ -263,7 +263,7 @@ impl HostBook {
         if list.len() == 0 {
             return;
         }
-        let _ = self.rows();
+        let _known = self.rows();
         self.settle(moment);
         self.absorb_each(moment, list);
         self.review_purges();

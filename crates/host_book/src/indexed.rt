@@ -29,16 +29,17 @@ use crate::restore::restored_timeline;
 use archive_retry::state::ArchiveState;
 use host_model::change::Change;
 use host_model::task_row::TaskRow;
+use host_rows::deadlines::Deadlines;
+use host_rows::ledger::Ledger;
 use host_timeline::timeline::Timeline;
 use limit_apply::limits::Limits;
+use ps_lists::tiered_lent::Lent;
 use ps_time::asker::Asker;
 use ps_time::items::Items;
 use ps_time::key::RunKey;
 use ps_time::memory::Memory;
 use ps_time::moment::Moment;
 use ps_time::text::Text;
-use host_rows::deadlines::Deadlines;
-use host_rows::ledger::Ledger;
 use run_states::answer::{Answer, FreeAnswer, Other, Told};
 use run_states::fact::Fact;
 use run_states::life::LifeStep;
@@ -48,7 +49,6 @@ use run_states::rows::Rows;
 use run_states::why::Why;
 use std::alloc::Global;
 use std::marker::Model;
-use ps_lists::tiered_lent::Lent;
 
 /// A host's book, with what is looked up in it but for when its tasks wake, and places for changes.
 pub(crate) struct IndexedBook {
@@ -165,7 +165,7 @@ impl IndexedBook {
     pub(crate) fn live(&self) -> Lent<'_, RunKey>
         ensures { result ≡ live_keys self.now.number self.now.book.rows }
     {
-        let _ = self.number;
+        let _known = self.number;
         self.ledger.live()
     }
 
@@ -173,7 +173,7 @@ impl IndexedBook {
     pub(crate) fn live_by(&self, alloc: Global, moment: Moment) -> Result<Items<RunKey>, Memory>
         ensures { IfOk result (λ keys. keys ≡ keys_live_by self.now.number moment self.now.book.rows) }
     {
-        let _ = self.number;
+        let _known = self.number;
         self.ledger.live_by(alloc, moment)
     }
 
@@ -228,7 +228,7 @@ impl IndexedBook {
         ensures ascending { IsAscendingDeadlines result.now.list }
         ensures waits { All (Waits result.now.list) self.now.book.rows }
     {
-        let _ = self.number;
+        let _known = self.number;
         self.ledger.deadlines()
     }
 
@@ -236,7 +236,7 @@ impl IndexedBook {
     pub(crate) fn may_lapse(&self, moment: Moment) -> bool
         ensures { IsFalse result → settled_rows moment self.now.book.rows ≡ self.now.book.rows }
     {
-        let _ = self.number;
+        let _known = self.number;
         self.ledger.may_lapse(moment)
     }
 
@@ -245,7 +245,7 @@ impl IndexedBook {
     pub(crate) fn may_purge(&self, moment: Moment) -> bool
         ensures { IsFalse result → StillStay self.now.number self.now.book.rows moment }
     {
-        let _ = self.number;
+        let _known = self.number;
         self.ledger.may_purge(moment)
     }
 

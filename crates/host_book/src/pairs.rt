@@ -3,13 +3,13 @@ ghost use Rattle.std.specs.Prelude.{◌≡◌, ◌+◌, ◌<◌, ◌≤◌, [], 
 ghost use Rattle.host_model.specs.Book.{find_pair};
 ghost use Rattle.host_book.specs.Pairs.{drop_pair, with_pair, IsAscendingPairs, IsGapFor, IsPlaceOf};
 
+use ps_lists::tiered_lent::Lent;
+use ps_lists::tiered_list::TieredList;
 use ps_time::items::Items;
 use ps_time::key::RunKey;
 use ps_time::memory::Memory;
 use std::alloc::Global;
 use std::marker::Model;
-use ps_lists::tiered_lent::Lent;
-use ps_lists::tiered_list::TieredList;
 
 /// Pairs of a run and the number of its epoch, with different keys, and places that are reserved for more.
 #[derive(Drop)]

@@ -13,7 +13,7 @@ use std::alloc::Global;
 
 impl HostBook {
     /// The changes with what they need, and places for them in the book, which stays as it is. More results than can be
-    /// counted in bytes are want of memory too.
+    /// counted in bytes are out of memory too.
     pub fn prepare(&mut self, alloc: Global, list: Items<Change>) -> Result<Items<Ready>, Memory>
         ensures number { self.new.number ≡ self.old.number }
         ensures book { self.new.book ≡ self.old.book }

@@ -28,7 +28,7 @@ pub(crate) fn all_wakes(alloc: Global, book: &IndexedBook) -> Result<Vec<Option<
 pub(crate) fn renew(wakes: &mut [Option<Moment>], book: &IndexedBook, serial: Option<u32>)
     ensures { wakes.new ≡ renewed (wake_in book.now.number book.now.book.rows) serial book.now.book.tasks wakes.old }
 {
-    let _ = book.rows();
+    let _known = book.rows();
     let Some(serial) = serial else {
         return;
     };
@@ -42,7 +42,7 @@ pub(crate) fn renew(wakes: &mut [Option<Moment>], book: &IndexedBook, serial: Op
 fn renew_at(wakes: &mut [Option<Moment>], book: &IndexedBook, place: usize)
     ensures { wakes.new ≡ renewed (wake_in book.now.number book.now.book.rows) (Some (place + 1)) book.now.book.tasks wakes.old }
 {
-    let _ = book.rows();
+    let _known = book.rows();
     let Some(task) = book.tasks().get(place) else {
         return;
     };

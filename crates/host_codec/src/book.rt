@@ -19,6 +19,7 @@ use byte_codec::lists::write_list;
 use byte_codec::whole::read_whole;
 use host_model::task_row::TaskRow;
 use limit_apply::limits::Limits;
+use ps_lists::tiered_lent::Lent;
 use ps_time::items::Items;
 use ps_time::key::RunKey;
 use ps_time::memory::Memory;
@@ -27,7 +28,6 @@ use run_states::lent::LentRows;
 use run_states::row::RunRow;
 use std::alloc::Global;
 use std::marker::Model;
-use ps_lists::tiered_lent::Lent;
 use value_bytes::fault::CodeFault;
 
 /// What a host keeps, seen by contracts as its book.
@@ -105,7 +105,7 @@ fn write_each_pair(
     Ok(())
 }
 
-// The bytes of a list. 2^32 pairs or more have none, and are want of memory.
+// The bytes of a list. 2^32 pairs or more have none, and are out of memory.
 fn write_pairs(
     alloc: Global,
     pairs: Lent<'_, (RunKey, u32)>,
@@ -162,7 +162,7 @@ fn write_each_row(alloc: Global, rows: LentRows<'_>, out: &mut Vec<u8>) -> Resul
     Ok(())
 }
 
-// The bytes of a list. 2^32 rows or more have none, and are want of memory.
+// The bytes of a list. 2^32 rows or more have none, and are out of memory.
 fn write_rows(alloc: Global, rows: LentRows<'_>, out: &mut Vec<u8>) -> Result<(), Memory>
     requires { (list row).Writable rows }
     ensures code { OnOk result (out.new.items ≡ out.old.items ++ (list row).code rows.entry) }

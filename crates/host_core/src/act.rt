@@ -32,7 +32,7 @@ pub fn act(
     ensures unchanged { OnErr result (book.new.book ≡ book.old.book) }
 {
     law_step();
-    let _ = book.rows();
+    let _known = book.rows();
     let moment = book.moment().max(clock);
     let Outcome { reply, list } = decide(alloc, config, book, clock, input)?;
     match book.prepare(alloc, list) {

@@ -8,11 +8,11 @@ ghost use Rattle.host_model.specs.Lawful.{Lawful};
 ghost use Rattle.host_model.specs.Step.{outcome_of, step};
 ghost use Rattle.host_core.specs.ReadOff.{IsReadOff};
 
+use crate::opening::open_host;
+use host_inputs::input::answer_input;
 use host_model::config::Config;
 use host_model::input::Input;
 use host_model::reply::Outcome;
-use host_inputs::input::answer_input;
-use crate::opening::open_host;
 use host_pages::page::show;
 use host_turns::book::HostBook;
 use host_turns::draft::Draft;
@@ -59,7 +59,7 @@ fn read_off(
     requires read { IsReadOff input }
     ensures { IfOk result (λ o. o ≡ outcome_of config.now moment (settled moment book.now.book) input) }
 {
-    let _ = book.rows();
+    let _known = book.rows();
     match Draft::new(alloc, book, &config.limits, moment) {
         Ok(draft) => answer(alloc, config, &draft, input),
         Err(fault) => {

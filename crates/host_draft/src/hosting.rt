@@ -32,12 +32,12 @@ impl<'a> Hosting for Draft<'a> {
     }
 
     fn greatest_number(&self, lead: u16, serial: u32) -> u32 {
-        let _ = self.touched.in_order();
+        let _known = self.touched.in_order();
         number_of(self.newest(lead, serial))
     }
 
     fn next_of_task(&self, lead: u16, serial: u32, after: Option<RunKey>) -> Option<RunKey> {
-        let _ = self.touched.in_order();
+        let _known = self.touched.in_order();
         let over = first_after(self.touched.task_rows(lead, serial), after);
         let rows = self.book.rows().task_rows(lead, serial);
         let gone = self.gone.as_slice();

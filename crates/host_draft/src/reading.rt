@@ -98,7 +98,7 @@ impl<'a> Reading for Draft<'a> {
         priority: i16,
         window: Window,
     ) -> Result<Tiers, Memory> {
-        let _ = self.book.rows();
+        let _known = self.book.rows();
         let reach = reach(length, &window);
         let bookings = bookings_over(
             alloc,
@@ -131,7 +131,7 @@ impl<'a> Reading for Draft<'a> {
 
 impl<'a> Leading for Draft<'a> {
     fn newest(&self, lead: u16, serial: u32) -> Option<&RunRow> {
-        let _ = self.touched.in_order();
+        let _known = self.touched.in_order();
         let over = self.touched.newest_of_task(lead, serial);
         let below = newest_bare(
             self.book.rows(),

@@ -181,12 +181,12 @@ impl<'a> Hosting for SettledBook<'a> {
     }
 
     fn greatest_number(&self, lead: u16, serial: u32) -> u32 {
-        let _ = self.rows.in_order();
+        let _known = self.rows.in_order();
         self.rows.greatest_number(lead, serial)
     }
 
     fn next_of_task(&self, lead: u16, serial: u32, after: Option<RunKey>) -> Option<RunKey> {
-        let _ = self.rows.in_order();
+        let _known = self.rows.in_order();
         next_key(self.rows.task_rows(lead, serial), after)
     }
 }

@@ -1,4 +1,4 @@
--- An append or a snapshot that a crash stops: what an image keeps of the write of a gate, and what the disks stand for then.
+-- An append or a snapshot that a crash stops: what an image keeps of the write of a gate byte, and what the disks stand for then.
 use Rattle.std.proofs.Common.{◌≡◌, ◌⊎◌, inl, inr, ℕ, ◌+◌, ◌<◌, ◌≤◌, ◌^◌, Bool, true, false, not, if◌then◌else◌, List, [], ◌∷◌, ◌++◌, length, take, Result, Ok, Err, refl, sym, ◌∙◌, ap, subst, arith}
 use Rattle.std.specs.Prelude.{◌&&◌, ◌||◌, nat_lt, OnOk}
 use Rattle.std.specs.Int.{w32, to_be_bytes}
@@ -29,19 +29,19 @@ stands-push : (s : Standing) (log : List LoggedCall) (l : LoggedCall) → after_
 stands-push s [] l = refl
 stands-push s (k ∷ log) l = stands-push (after_call s k) log l
 
-abbrev gate : ℕ → LoggedCall
-gate at = record { call = Write at (1 ∷ []); done = true }
+abbrev gate_byte : ℕ → LoggedCall
+gate_byte at = record { call = Write at (1 ∷ []); done = true }
 
--- a sync that was done, and then the write of a gate
-pub gate_stands : (h : History) (bytes : List ℕ) (at : ℕ) → bytes_now h ≡ bytes → standing (with_call (with_call h Sync true) (Write at (1 ∷ [])) true) ≡ record { fixed = bytes; since = gate at ∷ [] }
+-- a sync that was done, and then the write of a gate byte
+pub gate_stands : (h : History) (bytes : List ℕ) (at : ℕ) → bytes_now h ≡ bytes → standing (with_call (with_call h Sync true) (Write at (1 ∷ [])) true) ≡ record { fixed = bytes; since = gate_byte at ∷ [] }
 gate_stands h bytes at is =
     let made : LoggedCall = record { call = Sync; done = true } in
     let start : Standing = record { fixed = h.start; since = [] } in
-    stands-push start (h.log ++ made ∷ []) (gate at) ∙ ap (λ (s : Standing). after_call s (gate at)) (stands-push start h.log made)
-    ∙ ap (λ (b : List ℕ). record { fixed = b; since = gate at ∷ [] }) (sym (bytes_stand h) ∙ is)
+    stands-push start (h.log ++ made ∷ []) (gate_byte at) ∙ ap (λ (s : Standing). after_call s (gate_byte at)) (stands-push start h.log made)
+    ∙ ap (λ (b : List ℕ). record { fixed = b; since = gate_byte at ∷ [] }) (sym (bytes_stand h) ∙ is)
 
--- the image that keeps all has the gate, and the others have not: half of a gate is none
-module _ (h : History) (bytes : List ℕ) (at : ℕ) (stands : standing h ≡ record { fixed = bytes; since = gate at ∷ [] }) where
+-- the image that keeps all has the gate byte, and the others have not: half of a gate byte is none
+module _ (h : History) (bytes : List ℕ) (at : ℕ) (stands : standing h ≡ record { fixed = bytes; since = gate_byte at ∷ [] }) where
   pub gate_closed : (image : Image) → is_new image ≡ false → image_bytes image h ≡ bytes
   gate_closed Old closed = ap (λ (s : Standing). s.fixed) stands
   gate_closed New closed = absurd (cc closed)
@@ -54,7 +54,7 @@ module _ (h : History) (bytes : List ℕ) (at : ℕ) (stands : standing h ≡ re
 
 -- so after the first three calls of an append
 pub gate_written : {E : Type 0} (at : ℕ) (bytes : List ℕ) (behind synced now : DiskState) (result : Result (Unit {0}) E) → bytes_now behind.history ≡ bytes → synced ≡ after_made behind Sync true → Makes (Write at (1 ∷ [])) synced now result
-    → OnOk result (standing now.history ≡ record { fixed = bytes; since = gate at ∷ [] })
+    → OnOk result (standing now.history ≡ record { fixed = bytes; since = gate_byte at ∷ [] })
 gate_written at bytes behind synced now (Ok u) is made makes =
     ap (λ (d : DiskState). standing d.history) (makes.1 ∙ ap (λ (d : DiskState). after_made d (Write at (1 ∷ [])) true) made) ∙ gate_stands behind.history bytes at is
 gate_written at bytes behind synced now (Err e) is made makes = tt
@@ -65,7 +65,7 @@ shut_late stop image late shut =
     let yes : nat_lt 2 stop ≡ true = grind (arith, nat_tests) in
     sym (ap (λ (b : Bool). b && is_new image) yes) ∙ shut
 
--- What the disks stand for, where the one that counts was torn behind its gate, or has the record and the open gate before it.
+-- What the disks stand for, where the one that counts was torn behind its gate byte, or has the record and the open gate byte before it.
 module _ {D : Type 0} (seen : D → List ℕ) (may_leave : D → List ℕ → Type 0) (moment : D → ℕ) (left_since : D → ℕ → List ℕ → Type 0)
     (reads_now : (disk : D) → may_leave disk (seen disk)) (only_now : (disk : D) (c : List ℕ) → left_since disk (moment disk) c → may_leave disk c)
     (s old : State D) (view : s ≡ old) (ready_now : is_ready old.pending ≡ true) (sound : IsSound seen may_leave s)
@@ -114,7 +114,7 @@ head_shut stop image late shut =
 pub head_written : (closed cut piece left : List ℕ) → KeepsHead closed cut → left ≡ written 9 piece cut → KeepsHead closed left
 head_written closed cut piece left keeps is = keeps_then closed cut left keeps (keeps_torn (length piece) cut left (subst (Torn 9 (length piece) cut) (sym is) (written_is_torn 9 piece cut)))
 
--- What the disks stand for, where the other one was closed or not, or has an image and its open head gate.
+-- What the disks stand for, where the other one was closed or not, or has an image and its open head gate byte.
 module _ (second shut : Bool) (generation start end : ℕ) (list : List (List ℕ)) (image c d left : List ℕ) (fits : generation + 1 < 2 ^ 64) (small : length image < 2 ^ 32)
     (whole : IsWhole generation start end list c) (aside : IsAside second generation shut d) where
   abbrev closed : List ℕ

@@ -12,13 +12,13 @@ agreeing_front [] front rest le = refl
 agreeing_front (w ∷ wanted) [] rest le = absurd (omega arith)
 agreeing_front (w ∷ wanted) (b ∷ front) rest le = ap (λ (n : ℕ). if b == w then suc n else 0) (agreeing_front wanted front rest (omega arith))
 
--- A length, so many bytes, and a gate.
-pub record Sized (bytes payload gates : List ℕ) : Type 0 where
+-- A length, so many bytes, and a gate byte.
+pub record Sized (bytes payload gate_bytes : List ℕ) : Type 0 where
   pub size : List ℕ
-  pub split : bytes ≡ size ++ (payload ++ gates)
+  pub split : bytes ≡ size ++ (payload ++ gate_bytes)
   pub four : length size ≡ 4
   pub is : from_be_bytes w32 size ≡ length payload
-  pub gate : 0 < length gates
+  pub gate_byte : 0 < length gate_bytes
 
 pub eq_from : (n m : ℕ) → (n == m) ≡ true → n ≡ m
 eq_from n m is = grind (arith, nat_tests)
@@ -41,47 +41,47 @@ some_is x y is = cc is
 abbrev cut_at : ℕ → List ℕ → List ℕ × List ℕ
 cut_at n bytes = (take n bytes, drop n bytes)
 
-cut_front : (n : ℕ) (payload gates : List ℕ) → n ≡ length payload → 0 < length gates → (if nat_le (n + 1) (length (payload ++ gates)) then Some (cut_at n (payload ++ gates)) else None) ≡ Some (payload, gates)
-cut_front n payload gates is gate =
-    let fits : n + 1 ≤ length (payload ++ gates) = omega (arith, is, gate, length-append payload gates) in
-    ap (λ (t : Bool). if t then Some (cut_at n (payload ++ gates)) else None) (le_true (n + 1) (length (payload ++ gates)) fits)
-    ∙ ap (λ (l : List ℕ). Some (l, drop n (payload ++ gates))) (take_at payload gates n (sym is)) ∙ ap (λ (l : List ℕ). Some (payload, l)) (drop_at payload gates n (sym is))
+cut_front : (n : ℕ) (payload gate_bytes : List ℕ) → n ≡ length payload → 0 < length gate_bytes → (if nat_le (n + 1) (length (payload ++ gate_bytes)) then Some (cut_at n (payload ++ gate_bytes)) else None) ≡ Some (payload, gate_bytes)
+cut_front n payload gate_bytes is gate_byte =
+    let fits : n + 1 ≤ length (payload ++ gate_bytes) = omega (arith, is, gate_byte, length-append payload gate_bytes) in
+    ap (λ (t : Bool). if t then Some (cut_at n (payload ++ gate_bytes)) else None) (le_true (n + 1) (length (payload ++ gate_bytes)) fits)
+    ∙ ap (λ (l : List ℕ). Some (l, drop n (payload ++ gate_bytes))) (take_at payload gate_bytes n (sym is)) ∙ ap (λ (l : List ℕ). Some (payload, l)) (drop_at payload gate_bytes n (sym is))
 
-pub sized_made : (size payload gates : List ℕ) → length size ≡ 4 → from_be_bytes w32 size ≡ length payload → 0 < length gates → sized (size ++ (payload ++ gates)) ≡ Some (payload, gates)
-sized_made (a ∷ b ∷ c ∷ d ∷ []) payload gates four is gate = cut_front (from_be_bytes w32 (a ∷ b ∷ c ∷ d ∷ [])) payload gates is gate
-sized_made [] payload gates four is gate = absurd (omega arith)
-sized_made (a ∷ []) payload gates four is gate = absurd (omega arith)
-sized_made (a ∷ b ∷ []) payload gates four is gate = absurd (omega arith)
-sized_made (a ∷ b ∷ c ∷ []) payload gates four is gate = absurd (omega arith)
-sized_made (a ∷ b ∷ c ∷ d ∷ e ∷ size) payload gates four is gate = absurd (omega arith)
+pub sized_made : (size payload gate_bytes : List ℕ) → length size ≡ 4 → from_be_bytes w32 size ≡ length payload → 0 < length gate_bytes → sized (size ++ (payload ++ gate_bytes)) ≡ Some (payload, gate_bytes)
+sized_made (a ∷ b ∷ c ∷ d ∷ []) payload gate_bytes four is gate_byte = cut_front (from_be_bytes w32 (a ∷ b ∷ c ∷ d ∷ [])) payload gate_bytes is gate_byte
+sized_made [] payload gate_bytes four is gate_byte = absurd (omega arith)
+sized_made (a ∷ []) payload gate_bytes four is gate_byte = absurd (omega arith)
+sized_made (a ∷ b ∷ []) payload gate_bytes four is gate_byte = absurd (omega arith)
+sized_made (a ∷ b ∷ c ∷ []) payload gate_bytes four is gate_byte = absurd (omega arith)
+sized_made (a ∷ b ∷ c ∷ d ∷ e ∷ size) payload gate_bytes four is gate_byte = absurd (omega arith)
 
-record Front (n : ℕ) (rest payload gates : List ℕ) : Type 0 where
-  whole : rest ≡ payload ++ gates
+record Front (n : ℕ) (rest payload gate_bytes : List ℕ) : Type 0 where
+  whole : rest ≡ payload ++ gate_bytes
   count : n ≡ length payload
-  gate : 0 < length gates
+  gate_byte : 0 < length gate_bytes
 
-is_front : (n : ℕ) (rest payload gates : List ℕ) (t : Bool) → nat_le (n + 1) (length rest) ≡ t → (if t then Some (cut_at n rest) else None) ≡ Some (payload, gates) → Front n rest payload gates
-is_front n rest payload gates true fits is =
-    let both = some_is (cut_at n rest) (payload, gates) is in
+is_front : (n : ℕ) (rest payload gate_bytes : List ℕ) (t : Bool) → nat_le (n + 1) (length rest) ≡ t → (if t then Some (cut_at n rest) else None) ≡ Some (payload, gate_bytes) → Front n rest payload gate_bytes
+is_front n rest payload gate_bytes true fits is =
+    let both = some_is (cut_at n rest) (payload, gate_bytes) is in
     let one : take n rest ≡ payload = ap (λ (q : List ℕ × List ℕ). q.0) both in
-    let two : drop n rest ≡ gates = ap (λ (q : List ℕ × List ℕ). q.1) both in
+    let two : drop n rest ≡ gate_bytes = ap (λ (q : List ℕ × List ℕ). q.1) both in
     let le : n + 1 ≤ length rest = le_from (n + 1) (length rest) fits in
     record {
       whole = sym (take-append-drop n rest) ∙ ap (λ (l : List ℕ). l ++ drop n rest) one ∙ ap (λ (l : List ℕ). payload ++ l) two;
       count = omega (arith, ap length one, length-take n rest, le);
-      gate = omega (arith, ap length two, length-drop n rest, le);
+      gate_byte = omega (arith, ap length two, length-drop n rest, le);
     }
-is_front n rest payload gates false fits is = absurd (cc is)
+is_front n rest payload gate_bytes false fits is = absurd (cc is)
 
-pub sized_is : (bytes payload gates : List ℕ) → sized bytes ≡ Some (payload, gates) → Sized bytes payload gates
-sized_is (a ∷ b ∷ c ∷ d ∷ rest) payload gates is =
+pub sized_is : (bytes payload gate_bytes : List ℕ) → sized bytes ≡ Some (payload, gate_bytes) → Sized bytes payload gate_bytes
+sized_is (a ∷ b ∷ c ∷ d ∷ rest) payload gate_bytes is =
     let n = from_be_bytes w32 (a ∷ b ∷ c ∷ d ∷ []) in
-    let made = is_front n rest payload gates (nat_le (n + 1) (length rest)) refl is in
-    record { size = a ∷ b ∷ c ∷ d ∷ []; split = ap (λ (l : List ℕ). a ∷ b ∷ c ∷ d ∷ l) made.whole; four = refl; is = made.count; gate = made.gate }
-sized_is [] payload gates is = absurd (cc is)
-sized_is (a ∷ []) payload gates is = absurd (cc is)
-sized_is (a ∷ b ∷ []) payload gates is = absurd (cc is)
-sized_is (a ∷ b ∷ c ∷ []) payload gates is = absurd (cc is)
+    let made = is_front n rest payload gate_bytes (nat_le (n + 1) (length rest)) refl is in
+    record { size = a ∷ b ∷ c ∷ d ∷ []; split = ap (λ (l : List ℕ). a ∷ b ∷ c ∷ d ∷ l) made.whole; four = refl; is = made.count; gate_byte = made.gate_byte }
+sized_is [] payload gate_bytes is = absurd (cc is)
+sized_is (a ∷ []) payload gate_bytes is = absurd (cc is)
+sized_is (a ∷ b ∷ []) payload gate_bytes is = absurd (cc is)
+sized_is (a ∷ b ∷ c ∷ []) payload gate_bytes is = absurd (cc is)
 
 -- A generation, and then a snapshot.
 pub body_made : (bytes rest : List ℕ) → length bytes ≡ 8 → body_of (bytes ++ rest) ≡ with_snapshot (from_be_bytes w64 bytes) (sized rest)
@@ -102,10 +102,10 @@ pub record Bodied (bytes : List ℕ) (body : Body) : Type 0 where
   pub split : bytes ≡ number ++ rest
   pub eight : length number ≡ 8
   pub is : from_be_bytes w64 number ≡ body.generation
-  pub sized : Sized rest body.snapshot body.gates
+  pub sized : Sized rest body.snapshot body.gate_bytes
 
 abbrev body_at : ℕ → List ℕ × List ℕ → Body
-body_at generation piece = record { generation = generation; snapshot = piece.0; gates = piece.1 }
+body_at generation piece = record { generation = generation; snapshot = piece.0; gate_bytes = piece.1 }
 
 bodied : (number rest : List ℕ) (body : Body) (o : Option (List ℕ × List ℕ)) → length number ≡ 8 → sized rest ≡ o → with_snapshot (from_be_bytes w64 number) o ≡ Some body → Bodied (number ++ rest) body
 bodied number rest body None eight is has = absurd (cc has)
@@ -117,7 +117,7 @@ bodied number rest body (Some piece) eight is has =
       split = refl;
       eight = eight;
       is = ap (λ (b : Body). b.generation) made;
-      sized = subst (λ (b : Body). Sized rest b.snapshot b.gates) made (sized_is rest piece.0 piece.1 is);
+      sized = subst (λ (b : Body). Sized rest b.snapshot b.gate_bytes) made (sized_is rest piece.0 piece.1 is);
     }
 
 pub body_is : (bytes : List ℕ) (body : Body) → body_of bytes ≡ Some body → Bodied bytes body
@@ -148,15 +148,15 @@ joined-none (Err at) = let same : 0 + at ≡ at = omega arith in ap (λ (n : ℕ
 
 -- so many steps are enough
 behind_same : (n m : ℕ) (rest : List ℕ) (o : Option (List ℕ × List ℕ)) → sized rest ≡ o
-    → ((gates : List ℕ) → length gates < length rest → records_within n gates ≡ records_within m gates) → behind o (λ gates. records_within n gates) ≡ behind o (λ gates. records_within m gates)
+    → ((gate_bytes : List ℕ) → length gate_bytes < length rest → records_within n gate_bytes ≡ records_within m gate_bytes) → behind o (λ gate_bytes. records_within n gate_bytes) ≡ behind o (λ gate_bytes. records_within m gate_bytes)
 behind_same n m rest None is same = refl
 behind_same n m rest (Some piece) is same =
     let made = sized_is rest piece.0 piece.1 is in
     let less : length piece.1 < length rest = omega (arith, ap length made.split, length-append made.size (piece.0 ++ piece.1), length-append piece.0 piece.1, made.four) in
     ap (λ (r : Result (List (List ℕ)) ℕ). joined (piece.0 ∷ []) r) (same piece.1 less)
 
-pub enough : (n m : ℕ) (gates : List ℕ) → length gates ≤ n → length gates ≤ m → records_within n gates ≡ records_within m gates
-enough zero zero gates one two = refl
+pub enough : (n m : ℕ) (gate_bytes : List ℕ) → length gate_bytes ≤ n → length gate_bytes ≤ m → records_within n gate_bytes ≡ records_within m gate_bytes
+enough zero zero gate_bytes one two = refl
 enough zero (suc m) [] one two = refl
 enough zero (suc m) (g ∷ rest) one two = absurd (omega arith)
 enough (suc n) zero [] one two = refl
@@ -164,39 +164,39 @@ enough (suc n) zero (g ∷ rest) one two = absurd (omega arith)
 enough (suc n) (suc m) [] one two = refl
 enough (suc n) (suc m) (g ∷ rest) one two =
     ap (λ (r : Result (List (List ℕ)) ℕ). if g == 1 then r else Ok [])
-    (behind_same n m rest (sized rest) refl (λ gates less. enough n m gates (omega (arith, less, one)) (omega (arith, less, two))))
+    (behind_same n m rest (sized rest) refl (λ gate_bytes less. enough n m gate_bytes (omega (arith, less, one)) (omega (arith, less, two))))
 
-pub records_of-shut : (gate : ℕ) (rest : List ℕ) → gate ≢ 1 → records_of (gate ∷ rest) ≡ Ok []
-records_of-shut gate rest shut = ap (λ (t : Bool). if t then behind (sized rest) (λ gates. records_within (length rest) gates) else Ok []) (ne_false gate 1 shut)
+pub records_of-shut : (gate_byte : ℕ) (rest : List ℕ) → gate_byte ≢ 1 → records_of (gate_byte ∷ rest) ≡ Ok []
+records_of-shut gate_byte rest shut = ap (λ (t : Bool). if t then behind (sized rest) (λ gate_bytes. records_within (length rest) gate_bytes) else Ok []) (ne_false gate_byte 1 shut)
 
-pub records_of-open : (rest payload gates : List ℕ) → sized rest ≡ Some (payload, gates) → records_of (1 ∷ rest) ≡ joined (payload ∷ []) (records_of gates)
-records_of-open rest payload gates is =
-    let made = sized_is rest payload gates is in
-    let less : length gates ≤ length rest = omega (arith, ap length made.split, length-append made.size (payload ++ gates), length-append payload gates) in
-    ap (λ (o : Option (List ℕ × List ℕ)). behind o (λ gates. records_within (length rest) gates)) is
-    ∙ ap (λ (r : Result (List (List ℕ)) ℕ). joined (payload ∷ []) r) (enough (length rest) (length gates) gates less (omega arith))
+pub records_of-open : (rest payload gate_bytes : List ℕ) → sized rest ≡ Some (payload, gate_bytes) → records_of (1 ∷ rest) ≡ joined (payload ∷ []) (records_of gate_bytes)
+records_of-open rest payload gate_bytes is =
+    let made = sized_is rest payload gate_bytes is in
+    let less : length gate_bytes ≤ length rest = omega (arith, ap length made.split, length-append made.size (payload ++ gate_bytes), length-append payload gate_bytes) in
+    ap (λ (o : Option (List ℕ × List ℕ)). behind o (λ gate_bytes. records_within (length rest) gate_bytes)) is
+    ∙ ap (λ (r : Result (List (List ℕ)) ℕ). joined (payload ∷ []) r) (enough (length rest) (length gate_bytes) gate_bytes less (omega arith))
 
 pub records_of-bad : (rest : List ℕ) → sized rest ≡ None → records_of (1 ∷ rest) ≡ Err 0
-records_of-bad rest is = ap (λ (o : Option (List ℕ × List ℕ)). behind o (λ gates. records_within (length rest) gates)) is
+records_of-bad rest is = ap (λ (o : Option (List ℕ × List ℕ)). behind o (λ gate_bytes. records_within (length rest) gate_bytes)) is
 
 -- In the middle of a walk: the records so far were added to the list, and those that are left decide.
-pub record Walking (old now : List (List ℕ)) (gates rest : List ℕ) : Type 0 where
+pub record Walking (old now : List (List ℕ)) (gate_bytes rest : List ℕ) : Type 0 where
   pub records : List (List ℕ)
   pub list : now ≡ old ++ records
-  pub bytes : record_bytes records + length rest ≡ length gates
-  pub decides : joined records (records_of rest) ≡ records_of gates
+  pub bytes : record_bytes records + length rest ≡ length gate_bytes
+  pub decides : joined records (records_of rest) ≡ records_of gate_bytes
   pub some : 0 < length rest
 
-pub walking_on : (old now : List (List ℕ)) (gates rest payload next : List ℕ) → Walking old now gates (1 ∷ rest) → sized rest ≡ Some (payload, next) → Walking old (now ++ payload ∷ []) gates next
-walking_on old now gates rest payload next so_far is =
+pub walking_on : (old now : List (List ℕ)) (gate_bytes rest payload next : List ℕ) → Walking old now gate_bytes (1 ∷ rest) → sized rest ≡ Some (payload, next) → Walking old (now ++ payload ∷ []) gate_bytes next
+walking_on old now gate_bytes rest payload next so_far is =
     let made = sized_is rest payload next is in
     record {
       records = so_far.records ++ payload ∷ [];
       list = ap (λ (l : List (List ℕ)). l ++ payload ∷ []) so_far.list ∙ append_assoc old so_far.records (payload ∷ []);
       bytes = omega (arith, so_far.bytes, record_bytes-append so_far.records (payload ∷ []), ap length made.split, length-append made.size (payload ++ next), length-append payload next, made.four);
       decides = sym (joined-joined so_far.records (payload ∷ []) (records_of next)) ∙ ap (λ (r : Result (List (List ℕ)) ℕ). joined so_far.records r) (sym (records_of-open rest payload next is)) ∙ so_far.decides;
-      some = made.gate;
+      some = made.gate_byte;
     }
 
-pub walking_step : (old now : List (List ℕ)) (gates rest behind payload next : List ℕ) → Walking old now gates rest → rest ≡ 1 ∷ behind → sized behind ≡ Some (payload, next) → Walking old (now ++ payload ∷ []) gates next
-walking_step old now gates rest behind payload next so_far is_open is = walking_on old now gates behind payload next (subst (Walking old now gates) is_open so_far) is
+pub walking_step : (old now : List (List ℕ)) (gate_bytes rest behind payload next : List ℕ) → Walking old now gate_bytes rest → rest ≡ 1 ∷ behind → sized behind ≡ Some (payload, next) → Walking old (now ++ payload ∷ []) gate_bytes next
+walking_step old now gate_bytes rest behind payload next so_far is_open is = walking_on old now gate_bytes behind payload next (subst (Walking old now gate_bytes) is_open so_far) is

@@ -1,4 +1,4 @@
--- Fronts of disks, behind which gates stand: where they begin, how a record makes one longer, and what bytes stand for that have one.
+-- Fronts of disks, behind which gate bytes stand: where they begin, how a record makes one longer, and what bytes stand for that have one.
 use Rattle.std.proofs.Common.{◌≡◌, ◌≢◌, inl, inr, ℕ, zero, suc, ◌+◌, ◌≤◌, ◌<◌, Bool, true, false, if◌then◌else◌, List, [], ◌∷◌, ◌++◌, length, take, drop, Result, Ok, Err, Option, Some, None, refl, sym, ◌∙◌, ap, subst, arith, append_assoc, length-append, length-take, take-append-drop}
 use Rattle.std.specs.Prelude.{◌==◌}
 use Rattle.std.specs.Int.{w32, w64, from_be_bytes}
@@ -13,34 +13,34 @@ use Rattle.host_journal.proofs.FormatLemmas.{eq_from, agreeing_front, sized_made
 abbrev pub first_front : List ℕ → List ℕ → List ℕ → List ℕ → List ℕ
 first_front head number size snapshot = head ++ (number ++ (size ++ snapshot))
 
-pub first_split : (head number size snapshot gates : List ℕ) → first_front head number size snapshot ++ gates ≡ head ++ (number ++ (size ++ (snapshot ++ gates)))
-first_split head number size snapshot gates =
-    append_assoc head (number ++ (size ++ snapshot)) gates
-    ∙ ap (λ (l : List ℕ). head ++ l) (append_assoc number (size ++ snapshot) gates ∙ ap (λ (l : List ℕ). number ++ l) (append_assoc size snapshot gates))
+pub first_split : (head number size snapshot gate_bytes : List ℕ) → first_front head number size snapshot ++ gate_bytes ≡ head ++ (number ++ (size ++ (snapshot ++ gate_bytes)))
+first_split head number size snapshot gate_bytes =
+    append_assoc head (number ++ (size ++ snapshot)) gate_bytes
+    ∙ ap (λ (l : List ℕ). head ++ l) (append_assoc number (size ++ snapshot) gate_bytes ∙ ap (λ (l : List ℕ). number ++ l) (append_assoc size snapshot gate_bytes))
 
 module _ (head number size snapshot : List ℕ) (generation : ℕ)
     (nine : length head ≡ 9) (opens : stands head ≡ true) (eight : length number ≡ 8) (number_is : from_be_bytes w64 number ≡ generation) (four : length size ≡ 4) (size_is : from_be_bytes w32 size ≡ length snapshot) where
-  first_stands : (gates : List ℕ) → stands (first_front head number size snapshot ++ gates) ≡ true
-  first_stands gates =
-      ap stands (first_split head number size snapshot gates)
-      ∙ ap (λ (n : ℕ). n == 9) (agreeing_front open_head head (number ++ (size ++ (snapshot ++ gates))) (omega (arith, nine)))
+  first_stands : (gate_bytes : List ℕ) → stands (first_front head number size snapshot ++ gate_bytes) ≡ true
+  first_stands gate_bytes =
+      ap stands (first_split head number size snapshot gate_bytes)
+      ∙ ap (λ (n : ℕ). n == 9) (agreeing_front open_head head (number ++ (size ++ (snapshot ++ gate_bytes))) (omega (arith, nine)))
       ∙ opens
 
-  first_body : (gate : ℕ) (rest : List ℕ) → body_of (drop 9 (first_front head number size snapshot ++ gate ∷ rest)) ≡ Some (record { generation = generation; snapshot = snapshot; gates = gate ∷ rest })
-  first_body gate rest =
-      let gates = gate ∷ rest in
-      ap (λ (l : List ℕ). body_of (drop 9 l)) (first_split head number size snapshot gates)
-      ∙ ap body_of (drop_at head (number ++ (size ++ (snapshot ++ gates))) 9 nine)
-      ∙ body_made number (size ++ (snapshot ++ gates)) eight
-      ∙ ap (λ (o : Option (List ℕ × List ℕ)). with_snapshot (from_be_bytes w64 number) o) (sized_made size snapshot gates four size_is (omega arith))
-      ∙ ap (λ (n : ℕ). Some (record { generation = n; snapshot = snapshot; gates = gates })) number_is
+  first_body : (gate_byte : ℕ) (rest : List ℕ) → body_of (drop 9 (first_front head number size snapshot ++ gate_byte ∷ rest)) ≡ Some (record { generation = generation; snapshot = snapshot; gate_bytes = gate_byte ∷ rest })
+  first_body gate_byte rest =
+      let gate_bytes = gate_byte ∷ rest in
+      ap (λ (l : List ℕ). body_of (drop 9 l)) (first_split head number size snapshot gate_bytes)
+      ∙ ap body_of (drop_at head (number ++ (size ++ (snapshot ++ gate_bytes))) 9 nine)
+      ∙ body_made number (size ++ (snapshot ++ gate_bytes)) eight
+      ∙ ap (λ (o : Option (List ℕ × List ℕ)). with_snapshot (from_be_bytes w64 number) o) (sized_made size snapshot gate_bytes four size_is (omega arith))
+      ∙ ap (λ (n : ℕ). Some (record { generation = n; snapshot = snapshot; gate_bytes = gate_bytes })) number_is
 
   pub is_first_front : IsFront generation snapshot [] (first_front head number size snapshot)
   is_first_front = record {
     is_standing = first_stands;
     frames = [];
     is_body = first_body;
-    goes_on = λ gate rest. sym (joined-none (records_of (gate ∷ rest)));
+    goes_on = λ gate_byte rest. sym (joined-none (records_of (gate_byte ∷ rest)));
     size = omega (arith, length-append head (number ++ (size ++ snapshot)), length-append number (size ++ snapshot), length-append size snapshot, nine, eight, four);
   }
 
@@ -49,16 +49,16 @@ pub is_longer_front : (generation : ℕ) (snapshot : List ℕ) (records : List (
     → length size ≡ 4 → from_be_bytes w32 size ≡ length payload → IsFront generation snapshot (records ++ payload ∷ []) (front ++ 1 ∷ (size ++ payload))
 is_longer_front generation snapshot records front size payload is_front four size_is =
     let frame = size ++ payload in
-    let split : (l gates : List ℕ) → (l ++ 1 ∷ frame) ++ gates ≡ l ++ 1 ∷ (frame ++ gates) = λ l gates. append_assoc l (1 ∷ frame) gates in
-    let step : (gate : ℕ) (rest : List ℕ) → records_of (1 ∷ (frame ++ gate ∷ rest)) ≡ joined (payload ∷ []) (records_of (gate ∷ rest)) = λ gate rest.
-    ap (λ (l : List ℕ). records_of (1 ∷ l)) (append_assoc size payload (gate ∷ rest)) ∙ records_of-open (size ++ (payload ++ gate ∷ rest)) payload (gate ∷ rest) (sized_made size payload (gate ∷ rest) four size_is (omega arith)) in
+    let split : (l gate_bytes : List ℕ) → (l ++ 1 ∷ frame) ++ gate_bytes ≡ l ++ 1 ∷ (frame ++ gate_bytes) = λ l gate_bytes. append_assoc l (1 ∷ frame) gate_bytes in
+    let step : (gate_byte : ℕ) (rest : List ℕ) → records_of (1 ∷ (frame ++ gate_byte ∷ rest)) ≡ joined (payload ∷ []) (records_of (gate_byte ∷ rest)) = λ gate_byte rest.
+    ap (λ (l : List ℕ). records_of (1 ∷ l)) (append_assoc size payload (gate_byte ∷ rest)) ∙ records_of-open (size ++ (payload ++ gate_byte ∷ rest)) payload (gate_byte ∷ rest) (sized_made size payload (gate_byte ∷ rest) four size_is (omega arith)) in
     record {
-      is_standing = λ gates. ap stands (split front gates) ∙ is_front.is_standing (1 ∷ (frame ++ gates));
+      is_standing = λ gate_bytes. ap stands (split front gate_bytes) ∙ is_front.is_standing (1 ∷ (frame ++ gate_bytes));
       frames = is_front.frames ++ 1 ∷ frame;
-      is_body = λ gate rest. ap (λ (l : List ℕ). body_of (drop 9 l)) (split front (gate ∷ rest)) ∙ is_front.is_body 1 (frame ++ gate ∷ rest)
-          ∙ ap (λ (l : List ℕ). Some (record { generation = generation; snapshot = snapshot; gates = l })) (sym (split is_front.frames (gate ∷ rest)));
-      goes_on = λ gate rest. ap records_of (split is_front.frames (gate ∷ rest)) ∙ is_front.goes_on 1 (frame ++ gate ∷ rest)
-          ∙ ap (λ (r : Result (List (List ℕ)) ℕ). joined records r) (step gate rest) ∙ joined-joined records (payload ∷ []) (records_of (gate ∷ rest));
+      is_body = λ gate_byte rest. ap (λ (l : List ℕ). body_of (drop 9 l)) (split front (gate_byte ∷ rest)) ∙ is_front.is_body 1 (frame ++ gate_byte ∷ rest)
+          ∙ ap (λ (l : List ℕ). Some (record { generation = generation; snapshot = snapshot; gate_bytes = l })) (sym (split is_front.frames (gate_byte ∷ rest)));
+      goes_on = λ gate_byte rest. ap records_of (split is_front.frames (gate_byte ∷ rest)) ∙ is_front.goes_on 1 (frame ++ gate_byte ∷ rest)
+          ∙ ap (λ (r : Result (List (List ℕ)) ℕ). joined records r) (step gate_byte rest) ∙ joined-joined records (payload ∷ []) (records_of (gate_byte ∷ rest));
       size = omega (arith, is_front.size, length-append front (1 ∷ frame), length-append size payload, four, record_bytes-append records (payload ∷ []));
     }
 
@@ -66,12 +66,12 @@ is_longer_front generation snapshot records front size payload is_front four siz
 pub stands_whole : (generation start end : ℕ) (list : List (List ℕ)) (bytes : List ℕ) → IsWhole generation start end list bytes → Stands generation list bytes
 stands_whole generation start end list bytes whole =
     let front = whole.is_front in record {
-      is_standing = ap stands whole.split ∙ front.is_standing (whole.gate ∷ whole.tail);
-      body = record { generation = generation; snapshot = whole.snapshot; gates = front.frames ++ whole.gate ∷ whole.tail };
-      is_body = ap (λ (l : List ℕ). body_of (drop 9 l)) whole.split ∙ front.is_body whole.gate whole.tail;
+      is_standing = ap stands whole.split ∙ front.is_standing (whole.gate_byte ∷ whole.tail);
+      body = record { generation = generation; snapshot = whole.snapshot; gate_bytes = front.frames ++ whole.gate_byte ∷ whole.tail };
+      is_body = ap (λ (l : List ℕ). body_of (drop 9 l)) whole.split ∙ front.is_body whole.gate_byte whole.tail;
       is_generation = refl;
       records = whole.records;
-      are_records = front.goes_on whole.gate whole.tail ∙ ap (λ (r : Result (List (List ℕ)) ℕ). joined whole.records r) (records_of-shut whole.gate whole.tail whole.is_shut)
+      are_records = front.goes_on whole.gate_byte whole.tail ∙ ap (λ (r : Result (List (List ℕ)) ℕ). joined whole.records r) (records_of-shut whole.gate_byte whole.tail whole.is_shut)
           ∙ ap (λ (l : List (List ℕ)). Ok l) (append-nil whole.records);
       is_list = whole.is_list;
     }
@@ -92,10 +92,10 @@ ok_more : (payload : List ℕ) (r : Result (List (List ℕ)) ℕ) (more : List (
 ok_more payload (Ok rest) more is = (rest, refl, sym (cc is))
 ok_more payload (Err at) more is = absurd (cc is)
 
--- From what bytes stand for to their parts: over the gates that are left.
+-- From what bytes stand for to their parts: over the gate bytes that are left.
 module _ (generation : ℕ) (snapshot bytes : List ℕ) where
   abbrev Walks : ℕ → Type 0
-  Walks most = (records : List (List ℕ)) (front gates : List ℕ) (more : List (List ℕ)) → length gates ≤ most → IsFront generation snapshot records front → bytes ≡ front ++ gates → 0 < length gates → records_of gates ≡ Ok more
+  Walks most = (records : List (List ℕ)) (front gate_bytes : List ℕ) (more : List (List ℕ)) → length gate_bytes ≤ most → IsFront generation snapshot records front → bytes ≡ front ++ gate_bytes → 0 < length gate_bytes → records_of gate_bytes ≡ Ok more
       → IsWhole generation (gates_at snapshot) (gates_at snapshot + record_bytes (records ++ more)) (snapshot ∷ (records ++ more)) bytes
 
   walk_open : (most : ℕ) → Walks most → (records : List (List ℕ)) (front rest : List ℕ) (more : List (List ℕ)) (o : Option (List ℕ × List ℕ)) → sized rest ≡ o → length rest ≤ most → IsFront generation snapshot records front
@@ -111,17 +111,17 @@ module _ (generation : ℕ) (snapshot bytes : List ℕ) where
       let same : (records ++ piece.0 ∷ []) ++ left.0 ≡ records ++ more = append_assoc records (piece.0 ∷ []) left.0 ∙ ap (λ (l : List (List ℕ)). records ++ l) (sym left.2) in
       subst (λ (l : List (List ℕ)). IsWhole generation (gates_at snapshot) (gates_at snapshot + record_bytes l) (snapshot ∷ l) bytes) same
       (walks (records ++ piece.0 ∷ []) (front ++ 1 ∷ frame) piece.1 left.0
-      (omega (arith, le, ap length made.split, length-append made.size (piece.0 ++ piece.1), length-append piece.0 piece.1)) longer parts made.gate left.1)
+      (omega (arith, le, ap length made.split, length-append made.size (piece.0 ++ piece.1), length-append piece.0 piece.1)) longer parts made.gate_byte left.1)
 
-  walk_shut : (records : List (List ℕ)) (front rest : List ℕ) (more : List (List ℕ)) (gate : ℕ) → gate ≢ 1 → IsFront generation snapshot records front → bytes ≡ front ++ gate ∷ rest → records_of (gate ∷ rest) ≡ Ok more
+  walk_shut : (records : List (List ℕ)) (front rest : List ℕ) (more : List (List ℕ)) (gate_byte : ℕ) → gate_byte ≢ 1 → IsFront generation snapshot records front → bytes ≡ front ++ gate_byte ∷ rest → records_of (gate_byte ∷ rest) ≡ Ok more
       → IsWhole generation (gates_at snapshot) (gates_at snapshot + record_bytes (records ++ more)) (snapshot ∷ (records ++ more)) bytes
-  walk_shut records front rest more gate shut is_front split are =
-      let none : more ≡ [] = cc (records_of-shut gate rest shut, are) in
+  walk_shut records front rest more gate_byte shut is_front split are =
+      let none : more ≡ [] = cc (records_of-shut gate_byte rest shut, are) in
       let same : records ≡ records ++ more = sym (append-nil records) ∙ ap (λ (l : List (List ℕ)). records ++ l) (sym none) in
       subst (λ (l : List (List ℕ)). IsWhole generation (gates_at snapshot) (gates_at snapshot + record_bytes l) (snapshot ∷ l) bytes) same
       (record {
         front = front;
-        gate = gate;
+        gate_byte = gate_byte;
         tail = rest;
         split = split;
         is_shut = shut;
@@ -133,18 +133,18 @@ module _ (generation : ℕ) (snapshot bytes : List ℕ) where
         is_end = sym is_front.size;
       })
 
-  pub walk_whole : (most : ℕ) (records : List (List ℕ)) (front gates : List ℕ) (more : List (List ℕ)) → length gates ≤ most → IsFront generation snapshot records front → bytes ≡ front ++ gates → 0 < length gates → records_of gates ≡ Ok more
+  pub walk_whole : (most : ℕ) (records : List (List ℕ)) (front gate_bytes : List ℕ) (more : List (List ℕ)) → length gate_bytes ≤ most → IsFront generation snapshot records front → bytes ≡ front ++ gate_bytes → 0 < length gate_bytes → records_of gate_bytes ≡ Ok more
       → IsWhole generation (gates_at snapshot) (gates_at snapshot + record_bytes (records ++ more)) (snapshot ∷ (records ++ more)) bytes
-  walk_whole zero records front gates more le is_front split some are = absurd (omega arith)
+  walk_whole zero records front gate_bytes more le is_front split some are = absurd (omega arith)
   walk_whole (suc most) records front [] more le is_front split some are = absurd (omega arith)
-  walk_whole (suc most) records front (gate ∷ rest) more le is_front split some are = elim (cases_eq gate 1) [
+  walk_whole (suc most) records front (gate_byte ∷ rest) more le is_front split some are = elim (cases_eq gate_byte 1) [
     | inl is_open ↦ walk_open most (walk_whole most) records front rest more (sized rest) refl (omega arith) is_front
         (split ∙ ap (λ (g : ℕ). front ++ g ∷ rest) is_open) (ap (λ (g : ℕ). records_of (g ∷ rest)) (sym is_open) ∙ are)
-    | inr shut ↦ walk_shut records front rest more gate shut is_front split are
+    | inr shut ↦ walk_shut records front rest more gate_byte shut is_front split are
   ]
 
 -- bytes that stand, with a body and records, are whole
-pub whole_from : (bytes : List ℕ) (body : Body) (records : List (List ℕ)) → stands bytes ≡ true → body_of (drop 9 bytes) ≡ Some body → records_of body.gates ≡ Ok records
+pub whole_from : (bytes : List ℕ) (body : Body) (records : List (List ℕ)) → stands bytes ≡ true → body_of (drop 9 bytes) ≡ Some body → records_of body.gate_bytes ≡ Ok records
     → IsWhole body.generation (gates_at body.snapshot) (gates_at body.snapshot + record_bytes records) (body.snapshot ∷ records) bytes
 whole_from bytes body records opens is_body are =
     let parts = body_is (drop 9 bytes) body is_body in
@@ -156,8 +156,8 @@ whole_from bytes body records opens is_body are =
     let head_opens : stands head ≡ true =
     ap (λ (n : ℕ). n == 9) (sym (agreeing_front open_head head (drop 9 bytes) (omega (arith, nine)))) ∙ ap stands whole ∙ opens in
     let front = first_front head parts.number sized_parts.size body.snapshot in
-    let split : bytes ≡ front ++ body.gates =
+    let split : bytes ≡ front ++ body.gate_bytes =
     sym whole ∙ ap (λ (l : List ℕ). head ++ l) (parts.split ∙ ap (λ (l : List ℕ). parts.number ++ l) sized_parts.split)
-    ∙ sym (first_split head parts.number sized_parts.size body.snapshot body.gates) in
-    walk_whole body.generation body.snapshot bytes (length body.gates) [] front body.gates records (omega arith)
-    (is_first_front head parts.number sized_parts.size body.snapshot body.generation nine head_opens parts.eight parts.is sized_parts.four sized_parts.is) split sized_parts.gate are
+    ∙ sym (first_split head parts.number sized_parts.size body.snapshot body.gate_bytes) in
+    walk_whole body.generation body.snapshot bytes (length body.gate_bytes) [] front body.gate_bytes records (omega arith)
+    (is_first_front head parts.number sized_parts.size body.snapshot body.generation nine head_opens parts.eight parts.is sized_parts.four sized_parts.is) split sized_parts.gate_byte are

@@ -17,14 +17,14 @@ agreeing_all (w ∷ wanted) (b ∷ bytes) all = by_test (b == w) refl all (agree
     by_test true same all rest = let is : b ≡ w = eq_from b w same in let tail = rest (omega arith) in ap (λ (c : ℕ). c ∷ bytes) is ∙ ap (λ (l : List ℕ). w ∷ l) tail
     by_test false same all rest = absurd (omega arith)
 
--- a disk that stands is the magic, an open gate, and the rest
+-- a disk that stands is the magic, an open gate byte, and the rest
 pub stands_split : (bytes : List ℕ) → stands bytes ≡ true → bytes ≡ magic ++ 1 ∷ drop 9 bytes
 stands_split bytes opens = agreeing_all open_head bytes (eq_from (agreeing open_head bytes) 9 opens)
 
--- the magic, and a gate that isn't open
-pub closed_made : (gate : ℕ) (rest : List ℕ) → gate ≢ 1 → IsClosed (magic ++ gate ∷ rest)
-closed_made gate rest shut = record {
-  not_standing = ap (λ (t : Bool). suc (suc (suc (suc (suc (suc (suc (suc (if t then suc (agreeing [] rest) else 0)))))))) == 9) (ne_false gate 1 shut);
+-- the magic, and a gate byte that isn't open
+pub closed_made : (gate_byte : ℕ) (rest : List ℕ) → gate_byte ≢ 1 → IsClosed (magic ++ gate_byte ∷ rest)
+closed_made gate_byte rest shut = record {
+  not_standing = ap (λ (t : Bool). suc (suc (suc (suc (suc (suc (suc (suc (if t then suc (agreeing [] rest) else 0)))))))) == 9) (ne_false gate_byte 1 shut);
   has_magic = refl;
   has_gate = omega arith;
 }
@@ -50,15 +50,15 @@ closed_same old new closed same long =
     front_same : (wanted : List ℕ) → length wanted ≤ 9 → agreeing wanted new ≡ agreeing wanted old
     front_same wanted le = by_nine wanted new le long ∙ ap (agreeing wanted) same ∙ sym (by_nine wanted old le closed.has_gate)
 
--- a disk that stands with a smaller generation is one behind any gate
+-- a disk that stands with a smaller generation is one behind any gate byte
 pub older_has : (second : Bool) (generation : ℕ) (bytes : List ℕ) → IsOlder second generation bytes → HasOlder second generation bytes
 older_has second generation bytes older =
     let split = stands_split bytes older.is_standing in
-    record { gate = 1; rest = drop 9 bytes; split = split; older = subst (IsOlder second generation) split older }
+    record { gate_byte = 1; rest = drop 9 bytes; split = split; older = subst (IsOlder second generation) split older }
 
 pub aside_below : (second : Bool) (generation : ℕ) (shut : Bool) (bytes : List ℕ) → IsAside second generation shut bytes → IsBelow second generation bytes
 aside_below second generation true bytes closed = inl closed
-aside_below second generation false bytes has = elim (cases_eq has.gate 1) [
+aside_below second generation false bytes has = elim (cases_eq has.gate_byte 1) [
   | inl is_open ↦ inr (subst (IsOlder second generation) (sym (has.split ∙ ap (λ (g : ℕ). magic ++ g ∷ has.rest) is_open)) has.older)
-  | inr shut ↦ inl (subst IsClosed (sym has.split) (closed_made has.gate has.rest shut))
+  | inr shut ↦ inl (subst IsClosed (sym has.split) (closed_made has.gate_byte has.rest shut))
 ]

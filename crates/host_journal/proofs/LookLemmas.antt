@@ -1,4 +1,4 @@
--- From the head of a disk, and from whether it has its first gate, to its front.
+-- From the head of a disk, and from whether it has its first gate byte, to its front.
 use Rattle.std.proofs.Common.{◌≡◌, ℕ, zero, suc, ◌+◌, ◌≤◌, Bool, true, false, if◌then◌else◌, List, [], ◌∷◌, length, take, drop, Option, Some, None, refl, sym, ◌∙◌, ap, arith, length-take, length-drop}
 use Rattle.std.specs.Prelude.{◌==◌, nat_le}
 use Rattle.std.specs.Int.{w32, w64, from_be_bytes}
@@ -38,7 +38,7 @@ behind_take (a ∷ b ∷ c ∷ d ∷ e ∷ f ∷ []) = refl
 behind_take (a ∷ b ∷ c ∷ d ∷ e ∷ f ∷ g ∷ []) = refl
 behind_take (a ∷ b ∷ c ∷ d ∷ e ∷ f ∷ g ∷ h ∷ bytes) = by_take (from_be_bytes w64 (a ∷ b ∷ c ∷ d ∷ e ∷ f ∷ g ∷ h ∷ [])) bytes
 
--- the generation, where a disk of so many bytes has its first gate
+-- the generation, where a disk of so many bytes has its first gate byte
 abbrev reached : Option Numbers → ℕ → Option ℕ
 reached None count = None
 reached (Some numbers) count = if nat_le (numbers.start + 1) count then Some numbers.generation else None
@@ -112,7 +112,7 @@ module _ (second : Bool) (file head : List ℕ) (is_head : head ≡ take 21 file
       generation_by (9 + length (drop 9 file)) (drop 9 file) refl ∙ ap (λ (o : Option Numbers). reached o (9 + length (drop 9 file))) (sym behind_same ∙ without) in
       (sym stands_same ∙ is.0, is.1 ∙ here ∙ sym there)
 
-  -- and where it has some, by the first gate
+  -- and where it has some, by the first gate byte
   pub front_seen : (numbers : Numbers) (has : Bool) → numbers_in head ≡ Some numbers → has ≡ nat_le (numbers.start + 1) (length file) → IsFrontOf second file (Open (if has then Some numbers.generation else None))
   front_seen numbers has some is =
       let found = numbers_stand (stands head) (numbers_behind (drop 9 head)) numbers some in

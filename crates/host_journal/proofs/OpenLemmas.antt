@@ -35,7 +35,7 @@ found second body records = record {
 ok_is : (r : Result Counted DiskPlace) (a b : Counted) → r ≡ Ok a → r ≡ Ok b → a ≡ b
 ok_is r a b one two = cc (one, two)
 
-with_is : (second : Bool) (body : Body) (k : Counted) (bytes : List ℕ) (r : Result (List (List ℕ)) ℕ) → stands bytes ≡ true → body_of (drop 9 bytes) ≡ Some body → records_of body.gates ≡ r → with_records second body r ≡ Ok k
+with_is : (second : Bool) (body : Body) (k : Counted) (bytes : List ℕ) (r : Result (List (List ℕ)) ℕ) → stands bytes ≡ true → body_of (drop 9 bytes) ≡ Some body → records_of body.gate_bytes ≡ r → with_records second body r ≡ Ok k
     → (k.second ≡ second) × (k.generation ≡ body.generation) × IsWhole k.generation k.start k.end k.list bytes
 with_is second body k bytes (Err at) opens is_body are is = absurd (cc is)
 with_is second body k bytes (Ok records) opens is_body are is =
@@ -53,13 +53,13 @@ counted_is : (second : Bool) (k : Counted) (bytes : List ℕ) → stands bytes �
     → (k.second ≡ second) × IsWhole k.generation k.start k.end k.list bytes
 counted_is second k bytes opens is =
     let has = need_is second k (body_of (drop 9 bytes)) (λ body. counted second body) is in
-    let found = with_is second has.0 k bytes (records_of has.0.gates) opens has.1 refl has.2 in (found.0, found.2)
+    let found = with_is second has.0 k bytes (records_of has.0.gate_bytes) opens has.1 refl has.2 in (found.0, found.2)
 
 -- a disk that shows something stands for it
 pub shows_standing : (k : Counted) (second : Bool) (bytes : List ℕ) → Shows (Ok k) second bytes → Standing k.second k.generation k.start k.end k.list bytes
 shows_standing k second bytes shows =
     let has = need_is k.second k (body_of (drop 9 bytes)) (λ body. counted k.second body) shows.2 in
-    let found = with_is k.second has.0 k bytes (records_of has.0.gates) shows.1 has.1 refl has.2 in
+    let found = with_is k.second has.0 k bytes (records_of has.0.gate_bytes) shows.1 has.1 refl has.2 in
     record { is_standing = shows.1; body = has.0; is_body = has.1; is_generation = sym found.1; is_counted = has.2 }
 
 -- The other has a head.
@@ -96,10 +96,10 @@ side_second k first second side whole below = record {
 both_by : (k : Counted) (first second : List ℕ) (one two : Body) (t : Bool) → stands first ≡ true → stands second ≡ true → body_of (drop 9 first) ≡ Some one → body_of (drop 9 second) ≡ Some two
     → nat_le two.generation one.generation ≡ t → (if t then counted false one else counted true two) ≡ Ok k → Opened k (either k.second second first) (either k.second first second)
 both_by k first second one two true opens opens_too is_one is_two less is =
-    let found = with_is false one k first (records_of one.gates) opens is_one refl is in
+    let found = with_is false one k first (records_of one.gate_bytes) opens is_one refl is in
     side_first k first second found.0 found.2 (inr (record { is_standing = opens_too; body = two; is_body = is_two; is_less = ap (nat_le two.generation) found.1 ∙ less }))
 both_by k first second one two false opens opens_too is_one is_two less is =
-    let found = with_is true two k second (records_of two.gates) opens_too is_two refl is in
+    let found = with_is true two k second (records_of two.gate_bytes) opens_too is_two refl is in
     side_second k first second found.0 found.2 (inr (record { is_standing = opens; body = one; is_body = is_one; is_less = ap (λ (g : ℕ). nat_le g one.generation) found.1 ∙ less }))
 
 opened_by : (k : Counted) (first second : List ℕ) (p q : Bool) → stands first ≡ p → stands second ≡ q → pair_by p q first second ≡ Ok k → Opened k (either k.second second first) (either k.second first second)
@@ -120,17 +120,17 @@ opened_by k first second true true one two is =
 pub opened_pair : (k : Counted) (first second : List ℕ) → pair_of first second ≡ Ok k → Opened k (either k.second second first) (either k.second first second)
 opened_pair k first second is = opened_by k first second (stands first) (stands second) refl refl is
 
--- an item of the list lies before the last gate
+-- an item of the list lies before the last gate byte
 taken : (n : ℕ) (list : List (List ℕ)) → n < length list → record_bytes (take n list) + 5 ≤ record_bytes list
 taken n [] less = absurd (omega (arith, less))
 taken zero (item ∷ list) less = omega arith
 taken (suc n) (item ∷ list) less = omega (arith, taken n list (omega (arith, less)))
 
 pub place_fits : (n : ℕ) (list : List (List ℕ)) (start end : ℕ) → AreGatesOf list start end → end + 1 < 2 ^ 64 → n < length list → 21 + record_bytes (take n list) < 2 ^ 64
-place_fits n [] start end gates fits less = absurd gates
-place_fits n (snapshot ∷ records) start end gates fits less = omega (arith, gates.0, gates.1, fits, taken n (snapshot ∷ records) less)
+place_fits n [] start end gate_bytes fits less = absurd gate_bytes
+place_fits n (snapshot ∷ records) start end gate_bytes fits less = omega (arith, gate_bytes.0, gate_bytes.1, fits, taken n (snapshot ∷ records) less)
 
--- the head gate of the other, as it was read
+-- the head gate byte of the other, as it was read
 pub aside_is : (shut : Bool) (second : Bool) (generation : ℕ) (bytes : List ℕ) → shut ≡ not (stands bytes) → IsBelow second generation bytes → IsAside second generation shut bytes
 aside_is true second generation bytes is (inl closed) = closed
 aside_is true second generation bytes is (inr older) = absurd (cc (is, ap not older.is_standing))

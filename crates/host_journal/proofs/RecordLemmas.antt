@@ -20,7 +20,7 @@ use Rattle.host_journal.proofs.StateLemmas.{Ready, ready, stored_is, is_shows, h
 abbrev pub moved : {D : Type 0} → State D → D → ℕ → Pending → ℕ → State D
 moved s counting end pending room = record { counting = counting; other = s.other; second = s.second; generation = s.generation; start = s.start; end = end; shut = s.shut; pending = pending; room = room }
 
--- A record stands where the last gate does.
+-- A record stands where the last gate byte does.
 which_is : (payload : List ℕ) (second : Bool) (generation start end next : ℕ) (list : List (List ℕ)) (old pair : Result Counted DiskPlace) → old ≡ counts_as second generation start end list
     → next ≡ end + 5 + length payload → (pair ≡ old) ⊎ (pair ≡ with_record payload old) → pair ≡ which payload (has_record (Record next) pair) old
 which_is payload second generation start end next list old pair is_old is_next (inl same) =
@@ -138,7 +138,7 @@ module _ {D : Type 0} (seen : D → List ℕ) (may_leave : D → List ℕ → Ty
       behind_held : LeavesOnly moment left_since s.counting mid Held
       behind_held = leaves_more moment left_since s.counting mid Whole Held behind_moments (λ d whole. inl whole)
 
-      -- it fails before the gate
+      -- it fails before the gate byte
       pub unopened_same : Torn (s.end + 1) (length piece) (seen s.counting) (seen mid) → stored seen (moved s mid s.end Unopened room) ≡ stored seen old
       unopened_same part = now_same seen may_leave moment left_since reads_now only_now s was_ready mid (behind_whole (seen s.counting) (seen mid) (reads_now s.counting) part) ∙ ap (stored seen) is
 
@@ -151,7 +151,7 @@ module _ {D : Type 0} (seen : D → List ℕ) (may_leave : D → List ℕ → Ty
         adds = record_adds mid s.end Unopened behind_held;
       }
 
-      -- it comes to the gate
+      -- it comes to the gate byte
       module _ (small : length payload ≤ 8388608) (made : seen mid ≡ written (s.end + 1) piece (seen s.counting)) (only : Only (seen mid) (may_leave mid))
           (gate_moves : LeavesOnly moment left_since mid new (PartAfter (Torn s.end 1) (may_leave mid))) (count : ℕ) (is_count : count ≡ length piece) where
         abbrev end : ℕ

@@ -16,21 +16,21 @@ use Rattle.host_journal.proofs.SnapshotLemmas.{image_open, image_shut, older_now
 use Rattle.host_journal.proofs.StateLemmas.{stored_of}
 use Rattle.host_journal.proofs.TakenLemmas.{Fixed, fixed_counts, same_order}
 
--- the byte that a read of the gate gives
-gate_staged : (generation start end next : ℕ) (list : List (List ℕ)) (payload c : List ℕ) (staged : IsStaged generation start end next list payload c) → get_or c end 0 ≡ staged.gate
+-- the byte that a read of the gate byte gives
+gate_staged : (generation start end next : ℕ) (list : List (List ℕ)) (payload c : List ℕ) (staged : IsStaged generation start end next list payload c) → get_or c end 0 ≡ staged.gate_byte
 gate_staged generation start end next list payload c staged =
-    ap (λ (l : List ℕ). get_or l end 0) staged.split ∙ ap (λ (n : ℕ). get_or (staged.front ++ staged.gate ∷ (staged.frame ++ staged.last ∷ staged.tail)) n 0) staged.is_end
-    ∙ get_or-append_seam staged.front staged.gate (staged.frame ++ staged.last ∷ staged.tail) 0
+    ap (λ (l : List ℕ). get_or l end 0) staged.split ∙ ap (λ (n : ℕ). get_or (staged.front ++ staged.gate_byte ∷ (staged.frame ++ staged.last ∷ staged.tail)) n 0) staged.is_end
+    ∙ get_or-append_seam staged.front staged.gate_byte (staged.frame ++ staged.last ∷ staged.tail) 0
 
-gate_image : (generation start : ℕ) (image c : List ℕ) (is : IsImage generation start image c) → get_or c 8 0 ≡ is.gate
+gate_image : (generation start : ℕ) (image c : List ℕ) (is : IsImage generation start image c) → get_or c 8 0 ≡ is.gate_byte
 gate_image generation start image c is = ap (λ (l : List ℕ). get_or l 8 0) is.split
 
--- a test on a gate
-no_from : (gate n m : ℕ) → n ≡ m → (n == gate) ≡ false → m ≢ gate
-no_from gate n m same test is = absurd (cc (eq_true n gate (same ∙ is), test))
+-- a test on a gate byte
+no_from : (gate_byte n m : ℕ) → n ≡ m → (n == gate_byte) ≡ false → m ≢ gate_byte
+no_from gate_byte n m same test is = absurd (cc (eq_true n gate_byte (same ∙ is), test))
 
-yes_from : (gate n m : ℕ) → n ≡ m → (n == gate) ≡ true → m ≡ gate
-yes_from gate n m same test = sym same ∙ eq_from n gate test
+yes_from : (gate_byte n m : ℕ) → n ≡ m → (n == gate_byte) ≡ true → m ≡ gate_byte
+yes_from gate_byte n m same test = sym same ∙ eq_from n gate_byte test
 
 record_or : (t : Bool) (next : ℕ) → (if t then the_record next else no_gate) ≡ no_gate → t ≡ false
 record_or true next is = absurd (cc is)
@@ -66,7 +66,7 @@ module _ {D : Type 0} (seen : D → List ℕ) (may_leave : D → List ℕ → Ty
   abbrev found : Pending → Stood
   found p = stood_of p s.end (seen s.counting) (seen s.other)
 
-  -- No gate stands open: the disk that counts is as it was.
+  -- No gate byte stands open: the disk that counts is as it was.
   no_counting : (p : Pending) → s.pending ≡ p → found p ≡ no_gate → IsWhole s.generation s.start s.end sound.list (seen s.counting)
   no_counting Nothing is none = counting_by Nothing is
   no_counting Unopened is none = counting_by Unopened is
@@ -74,7 +74,7 @@ module _ {D : Type 0} (seen : D → List ℕ) (may_leave : D → List ℕ → Ty
       let stood = counting_by (Record next) is in
       let test = record_or (get_or (seen s.counting) s.end 0 == 1) next none in
       staged_shut s.generation s.start s.end sound.list next stood.0 (seen s.counting) stood.1
-      (no_from 1 (get_or (seen s.counting) s.end 0) stood.1.gate (gate_staged s.generation s.start s.end next sound.list stood.0 (seen s.counting) stood.1) test)
+      (no_from 1 (get_or (seen s.counting) s.end 0) stood.1.gate_byte (gate_staged s.generation s.start s.end next sound.list stood.0 (seen s.counting) stood.1) test)
   no_counting (Snapshot start) is none = counting_by (Snapshot start) is
 
   no_beside : (p : Pending) → s.pending ≡ p → found p ≡ no_gate → IsAside s.second s.generation s.shut (seen s.other)
@@ -86,7 +86,7 @@ module _ {D : Type 0} (seen : D → List ℕ) (may_leave : D → List ℕ → Ty
       let image = beside.1 in
       let test = snapshot_or (get_or (seen s.other) 8 0 == 1) start none in
       let closed : IsClosed (seen s.other) = image_shut (s.generation + 1) start image.0 (seen s.other) image.1
-      (no_from 1 (get_or (seen s.other) 8 0) image.1.gate (gate_image (s.generation + 1) start image.0 (seen s.other) image.1) test) in
+      (no_from 1 (get_or (seen s.other) 8 0) image.1.gate_byte (gate_image (s.generation + 1) start image.0 (seen s.other) image.1) test) in
       subst (λ (t : Bool). IsAside s.second s.generation t (seen s.other)) (sym beside.0) closed
 
   no_answer : (p : Pending) → s.pending ≡ p → found p ≡ no_gate → stored seen s ≡ counts_as s.second s.generation s.start s.end sound.list → has_record p (stored seen s) ≡ false
@@ -111,7 +111,7 @@ module _ {D : Type 0} (seen : D → List ℕ) (may_leave : D → List ℕ → Ty
   the_recorded (Record n) next is has =
       let stood = counting_by (Record n) is in
       let test = record_is (get_or (seen s.counting) s.end 0 == 1) n next has in
-      let opens : stood.1.gate ≡ 1 = yes_from 1 (get_or (seen s.counting) s.end 0) stood.1.gate (gate_staged s.generation s.start s.end n sound.list stood.0 (seen s.counting) stood.1) test.0 in
+      let opens : stood.1.gate_byte ≡ 1 = yes_from 1 (get_or (seen s.counting) s.end 0) stood.1.gate_byte (gate_staged s.generation s.start s.end n sound.list stood.0 (seen s.counting) stood.1) test.0 in
       record {
         payload = stood.0;
         whole = subst (λ (m : ℕ). IsWhole s.generation s.start m (sound.list ++ stood.0 ∷ []) (seen s.counting)) test.1 (staged_open s.generation s.start s.end sound.list n stood.0 (seen s.counting) stood.1 opens);
@@ -137,7 +137,7 @@ module _ {D : Type 0} (seen : D → List ℕ) (may_leave : D → List ℕ → Ty
   the_snapped (Snapshot at) start is has =
       let image = (beside_by (Snapshot at) is).1 in
       let test = snapshot_is (get_or (seen s.other) 8 0 == 1) at start has in
-      let opens : image.1.gate ≡ 1 = yes_from 1 (get_or (seen s.other) 8 0) image.1.gate (gate_image (s.generation + 1) at image.0 (seen s.other) image.1) test.0 in
+      let opens : image.1.gate_byte ≡ 1 = yes_from 1 (get_or (seen s.other) 8 0) image.1.gate_byte (gate_image (s.generation + 1) at image.0 (seen s.other) image.1) test.0 in
       record {
         image = image.0;
         whole = subst (λ (m : ℕ). IsWhole (s.generation + 1) m m (image.0 ∷ []) (seen s.other)) test.1 (image_open (s.generation + 1) at image.0 (seen s.other) image.1 opens);

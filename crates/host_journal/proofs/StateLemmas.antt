@@ -123,7 +123,7 @@ module _ {D : Type 0} (seen : D → List ℕ) (may_leave : D → List ℕ → Ty
         abbrev pub Staged : List ℕ → Type 0
         Staged c = IsStaged s.generation s.start s.end next at.list payload c
 
-        -- the record stands behind its gate
+        -- the record stands behind its gate byte
         pub staged : length payload < 2 ^ 32 → seen mid ≡ written (s.end + 1) (to_be_bytes w32 (length payload) ++ (payload ++ 0 ∷ [])) (seen s.counting) → Staged (seen mid)
         staged small is = staged_written s.generation s.start s.end at.list payload (seen s.counting) (seen mid) (at.counting (seen s.counting) (reads_now s.counting)) small is
 
@@ -133,7 +133,7 @@ module _ {D : Type 0} (seen : D → List ℕ) (may_leave : D → List ℕ → Ty
               let stood : Staged from.0 = subst Staged (sym (only from.0 from.1)) is_staged in
               staged_torn s.generation s.start s.end at.list next payload from.0 c stood from.2
 
-          -- the write of the gate, any part of it
+          -- the write of the gate byte, any part of it
           pub gate_images : Follows (Torn s.end 1) (may_leave mid) (may_leave new) → (c : List ℕ) → may_leave new c → Staged c
           gate_images follows c now = gate_part c (follows c now)
 

@@ -20,7 +20,7 @@ use Rattle.host_journal.proofs.TakenLemmas.{Fixed, fixed_sound}
 use Rattle.host_journal.proofs.ToldLemmas.{told_part, told_rest}
 use Rattle.host_journal.proofs.TurnLemmas.{Below, Holds, Either, close_images, close_moments, closed, rest_images, rest_moments, image_put, gate_images, holds_either, gate_moments, gate_opened, kept_since, kept_since_below, kept_adds, kept_adds_below, turned_adds, kept_stored, turned_each, turned_fixed, turned_counts, turned_durable, sound_closing, sound_closed, sound_held}
 
--- the place of the gate behind an image
+-- the place of the gate byte behind an image
 image_end : (generation : ℕ) (image piece : List ℕ) (start : ℕ) → piece ≡ image_bytes generation image → start ≡ 8 + length piece → start ≡ gates_at image
 image_end generation image piece start is starts =
     let number = to_be_bytes w64 generation in
@@ -46,7 +46,7 @@ module _ {D : Type 0} (seen : D → List ℕ) (may_leave : D → List ℕ → Ty
     shut_moments : LeavesOnly moment left_since s.other shut (Below seen may_leave moment left_since reads_now only_now s was_ready image)
     shut_moments = close_moments seen may_leave moment left_since reads_now only_now s was_ready image shut moments
 
-    -- The head gate wasn't closed for sure.
+    -- The head gate byte wasn't closed for sure.
     pub closing_exit : Leaves (kept_with shut s.shut Unopened)
     closing_exit =
         let now = close_images seen may_leave moment left_since reads_now only_now s was_ready image shut images in
@@ -90,7 +90,7 @@ module _ {D : Type 0} (seen : D → List ℕ) (may_leave : D → List ℕ → Ty
         new_moments : LeavesOnly moment left_since s.other new (Either seen may_leave moment left_since reads_now only_now s was_ready image)
         new_moments = gate_moments seen may_leave moment left_since reads_now only_now s was_ready image put is_put put_only put_moments new new_part
 
-        -- The head gate wasn't opened for sure.
+        -- The head gate byte wasn't opened for sure.
         pub opening_exit : Leaves (kept_with new true (Snapshot start))
         opening_exit =
             let now = gate_images seen may_leave moment left_since reads_now only_now s was_ready image put is_put put_only put_moments new new_follows in
@@ -126,7 +126,7 @@ module _ {D : Type 0} (seen : D → List ℕ) (may_leave : D → List ℕ → Ty
           }
 
 -- The calls of a snapshot.
-module _ {D : Type 0} (told : D → Option (List DiskCall)) (faults : D → ℕ) (went : D → D → Type 0) (went_refl : (disk : D) → went disk disk) (went_trans : (a b c : D) → went a b → went b c → went a c)
+module _ {D : Type 0} (told : D → Option (List DiskCall)) (faults : D → ℕ) (calls_advance : D → D → Type 0) (calls_advance_refl : (disk : D) → calls_advance disk disk) (calls_advance_trans : (a b c : D) → calls_advance a b → calls_advance b c → calls_advance a c)
     (s old : State D) (is : s ≡ old) (image piece : List ℕ) (is_piece : piece ≡ image_bytes (s.generation + 1) image) where
   abbrev close_calls : List DiskCall
   close_calls = Write 8 (closing s.shut) ∷ Sync ∷ []
@@ -146,45 +146,45 @@ module _ {D : Type 0} (told : D → Option (List DiskCall)) (faults : D → ℕ)
   abbrev rest_calls : State D → List DiskCall
   rest_calls o = fill_calls (o.generation + 1) image
 
-  first_of : (new : D) → TellsFirst told faults went s.other new (close_calls ++ (put_calls piece ++ open_calls)) → TellsFirst told faults went old.other new (all_calls old)
+  first_of : (new : D) → TellsFirst told faults calls_advance s.other new (close_calls ++ (put_calls piece ++ open_calls)) → TellsFirst told faults calls_advance old.other new (all_calls old)
   first_of new first =
-      subst (λ (o : State D). TellsFirst told faults went o.other new (all_calls o)) is
-      (subst (λ (l : List ℕ). TellsFirst told faults went s.other new (close_calls ++ (put_calls l ++ open_calls))) is_piece first)
+      subst (λ (o : State D). TellsFirst told faults calls_advance o.other new (all_calls o)) is
+      (subst (λ (l : List ℕ). TellsFirst told faults calls_advance s.other new (close_calls ++ (put_calls l ++ open_calls))) is_piece first)
 
-  -- where the image was being written, and where the gate was being opened
-  rest_putting : (shut new : D) → TellsFirst told faults went shut new (put_calls piece) → TellsFirst told faults went shut new (put_calls piece ++ open_calls)
-  rest_putting shut new first = told_part told faults went went_refl went_trans shut new (put_calls piece) open_calls first
+  -- where the image was being written, and where the gate byte was being opened
+  rest_putting : (shut new : D) → TellsFirst told faults calls_advance shut new (put_calls piece) → TellsFirst told faults calls_advance shut new (put_calls piece ++ open_calls)
+  rest_putting shut new first = told_part told faults calls_advance calls_advance_refl calls_advance_trans shut new (put_calls piece) open_calls first
 
-  rest_opening : (shut put new : D) → MakesAll told faults went shut put (put_calls piece) → TellsFirst told faults went put new open_calls → TellsFirst told faults went shut new (put_calls piece ++ open_calls)
-  rest_opening shut put new more first = told_rest told faults went went_refl went_trans shut put new (put_calls piece) open_calls more first
+  rest_opening : (shut put new : D) → MakesAll told faults calls_advance shut put (put_calls piece) → TellsFirst told faults calls_advance put new open_calls → TellsFirst told faults calls_advance shut new (put_calls piece ++ open_calls)
+  rest_opening shut put new more first = told_rest told faults calls_advance calls_advance_refl calls_advance_trans shut put new (put_calls piece) open_calls more first
 
-  behind_close : (shut new : D) → MakesAll told faults went s.other shut close_calls → TellsFirst told faults went shut new (put_calls piece ++ open_calls) → TellsFirst told faults went old.other new (all_calls old)
-  behind_close shut new all rest = first_of new (told_rest told faults went went_refl went_trans s.other shut new close_calls (put_calls piece ++ open_calls) all rest)
+  behind_close : (shut new : D) → MakesAll told faults calls_advance s.other shut close_calls → TellsFirst told faults calls_advance shut new (put_calls piece ++ open_calls) → TellsFirst told faults calls_advance old.other new (all_calls old)
+  behind_close shut new all rest = first_of new (told_rest told faults calls_advance calls_advance_refl calls_advance_trans s.other shut new close_calls (put_calls piece ++ open_calls) all rest)
 
-  pub told_closing : (new : D) → TellsFirst told faults went s.other new close_calls → TellsFirst told faults went old.other new (all_calls old)
-  told_closing new first = first_of new (told_part told faults went went_refl went_trans s.other new close_calls (put_calls piece ++ open_calls) first)
+  pub told_closing : (new : D) → TellsFirst told faults calls_advance s.other new close_calls → TellsFirst told faults calls_advance old.other new (all_calls old)
+  told_closing new first = first_of new (told_part told faults calls_advance calls_advance_refl calls_advance_trans s.other new close_calls (put_calls piece ++ open_calls) first)
 
-  pub told_putting : (shut new : D) → MakesAll told faults went s.other shut close_calls → TellsFirst told faults went shut new (put_calls piece) → TellsFirst told faults went old.other new (all_calls old)
+  pub told_putting : (shut new : D) → MakesAll told faults calls_advance s.other shut close_calls → TellsFirst told faults calls_advance shut new (put_calls piece) → TellsFirst told faults calls_advance old.other new (all_calls old)
   told_putting shut new all first = behind_close shut new all (rest_putting shut new first)
 
-  pub told_opening : (shut put new : D) → MakesAll told faults went s.other shut close_calls → MakesAll told faults went shut put (put_calls piece) → TellsFirst told faults went put new open_calls
-      → TellsFirst told faults went old.other new (all_calls old)
+  pub told_opening : (shut put new : D) → MakesAll told faults calls_advance s.other shut close_calls → MakesAll told faults calls_advance shut put (put_calls piece) → TellsFirst told faults calls_advance put new open_calls
+      → TellsFirst told faults calls_advance old.other new (all_calls old)
   told_opening shut put new all more first = behind_close shut new all (rest_opening shut put new more first)
 
   -- after the first two calls
-  rest_of : (shut new : D) → MakesAll told faults went s.other shut close_calls → TellsFirst told faults went shut new (put_calls piece ++ open_calls) → TellsBoth told faults went old.other new (first_calls old) (rest_calls old)
+  rest_of : (shut new : D) → MakesAll told faults calls_advance s.other shut close_calls → TellsFirst told faults calls_advance shut new (put_calls piece ++ open_calls) → TellsBoth told faults calls_advance old.other new (first_calls old) (rest_calls old)
   rest_of shut new all first =
-      subst (λ (o : State D). TellsBoth told faults went o.other new (first_calls o) (rest_calls o)) is
-      (record { mid = shut; before = all; first = subst (λ (l : List ℕ). TellsFirst told faults went shut new (put_calls l ++ open_calls)) is_piece first })
+      subst (λ (o : State D). TellsBoth told faults calls_advance o.other new (first_calls o) (rest_calls o)) is
+      (record { mid = shut; before = all; first = subst (λ (l : List ℕ). TellsFirst told faults calls_advance shut new (put_calls l ++ open_calls)) is_piece first })
 
-  pub shut_closing : (new : D) → TellsFirst told faults went s.other new close_calls → TellsFirst told faults went old.other new (first_calls old)
-  shut_closing new first = subst (λ (o : State D). TellsFirst told faults went o.other new (first_calls o)) is first
+  pub shut_closing : (new : D) → TellsFirst told faults calls_advance s.other new close_calls → TellsFirst told faults calls_advance old.other new (first_calls old)
+  shut_closing new first = subst (λ (o : State D). TellsFirst told faults calls_advance o.other new (first_calls o)) is first
 
-  pub shut_putting : (shut new : D) → MakesAll told faults went s.other shut close_calls → TellsFirst told faults went shut new (put_calls piece) → TellsBoth told faults went old.other new (first_calls old) (rest_calls old)
+  pub shut_putting : (shut new : D) → MakesAll told faults calls_advance s.other shut close_calls → TellsFirst told faults calls_advance shut new (put_calls piece) → TellsBoth told faults calls_advance old.other new (first_calls old) (rest_calls old)
   shut_putting shut new all first = rest_of shut new all (rest_putting shut new first)
 
-  pub shut_opening : (shut put new : D) → MakesAll told faults went s.other shut close_calls → MakesAll told faults went shut put (put_calls piece) → TellsFirst told faults went put new open_calls
-      → TellsBoth told faults went old.other new (first_calls old) (rest_calls old)
+  pub shut_opening : (shut put new : D) → MakesAll told faults calls_advance s.other shut close_calls → MakesAll told faults calls_advance shut put (put_calls piece) → TellsFirst told faults calls_advance put new open_calls
+      → TellsBoth told faults calls_advance old.other new (first_calls old) (rest_calls old)
   shut_opening shut put new all more first = rest_of shut new all (rest_opening shut put new more first)
 
   pub told_done : (shut put new x : D) → TellsAll (told s.other) (told shut) close_calls → TellsAll (told shut) (told put) (put_calls piece) → TellsAll (told put) (told new) open_calls → x ≡ new

@@ -57,7 +57,7 @@ module _ {D : Type 0} (seen : D → List ℕ) (may_leave : D → List ℕ → Ty
   abbrev size : ℕ
   size = length {A = ℕ} (closing s.shut)
 
-  -- The head gate is closed.
+  -- The head gate byte is closed.
   module _ (shut : D) where
     close_part : (c : List ℕ) → PartAfter (Torn 8 size) (may_leave s.other) c → Aside c
     close_part c from = close_torn s.second s.generation s.shut from.0 c (at.other from.0 from.1) from.2
@@ -87,7 +87,7 @@ module _ {D : Type 0} (seen : D → List ℕ) (may_leave : D → List ℕ → Ty
       pub image_put : s.generation + 1 < 2 ^ 64 → length image < 2 ^ 32 → seen put ≡ written 9 (image_bytes (s.generation + 1) image) (take 9 (seen shut)) → Holds (seen put)
       image_put fits small is = image_written (s.generation + 1) image fits small (seen shut) (seen put) is_closed is
 
-  -- The head gate is opened.
+  -- The head gate byte is opened.
   module _ (put : D) (is_image : Holds (seen put)) (only : Only (seen put) (may_leave put)) (so_far : LeavesOnly moment left_since s.other put Below) (new : D) where
     gate_part : (c : List ℕ) → PartAfter (Torn 8 1) (may_leave put) c → Holds c
     gate_part c from = image_torn (s.generation + 1) (gates_at image) image from.0 c (subst Holds (sym (only from.0 from.1)) is_image) from.2

@@ -1,4 +1,4 @@
--- What the bytes of one disk say: a head, a generation, a snapshot, and records behind gates.
+-- What the bytes of one disk say: a head, a generation, a snapshot, and records behind gate bytes.
 use Rattle.std.specs.Prelude.{◌==◌, ℕ, suc, zero, ◌+◌, Bool, if◌then◌else◌, nat_le, List, [], ◌∷◌, ◌++◌, length, take, drop, Option, Some, None, Result, Ok, Err}
 use Rattle.std.specs.Int.{w32, w64, from_be_bytes}
 
@@ -6,7 +6,7 @@ use Rattle.std.specs.Int.{w32, w64, from_be_bytes}
 abbrev pub magic : List ℕ
 magic = 80 ∷ 83 ∷ 67 ∷ 72 ∷ 74 ∷ 82 ∷ 78 ∷ 49 ∷ []
 
--- the magic and an open gate
+-- the magic and an open gate byte
 abbrev pub open_head : List ℕ
 open_head = 80 ∷ 83 ∷ 67 ∷ 72 ∷ 74 ∷ 82 ∷ 78 ∷ 49 ∷ 1 ∷ []
 
@@ -16,11 +16,11 @@ agreeing [] bytes = 0
 agreeing (w ∷ wanted) [] = 0
 agreeing (w ∷ wanted) (b ∷ bytes) = if b == w then suc (agreeing wanted bytes) else 0
 
--- the disk stands: the magic, and an open head gate
+-- the disk stands: the magic, and an open head gate byte
 abbrev pub stands : List ℕ → Bool
 stands bytes = agreeing open_head bytes == 9
 
--- a length of four bytes, so many bytes, and at least a gate behind them: the bytes, and what begins at the gate
+-- a length of four bytes, so many bytes, and at least a gate byte behind them: the bytes, and what begins at the gate byte
 abbrev pub sized : List ℕ → Option (List ℕ × List ℕ)
 sized (a ∷ b ∷ c ∷ d ∷ rest) =
     let size = from_be_bytes w32 (a ∷ b ∷ c ∷ d ∷ []) in
@@ -31,19 +31,19 @@ sized bytes = None
 pub record Body : Type 0 where
   pub generation : ℕ
   pub snapshot : List ℕ
-  -- from the first gate on
-  pub gates : List ℕ
+  -- from the first gate byte on
+  pub gate_bytes : List ℕ
 
 abbrev pub with_snapshot : ℕ → Option (List ℕ × List ℕ) → Option Body
 with_snapshot generation None = None
-with_snapshot generation (Some piece) = Some (record { generation = generation; snapshot = piece.0; gates = piece.1 })
+with_snapshot generation (Some piece) = Some (record { generation = generation; snapshot = piece.0; gate_bytes = piece.1 })
 
--- a generation of eight bytes, a snapshot and a gate
+-- a generation of eight bytes, a snapshot and a gate byte
 abbrev pub body_of : List ℕ → Option Body
 body_of (a ∷ b ∷ c ∷ d ∷ e ∷ f ∷ g ∷ h ∷ rest) = with_snapshot (from_be_bytes w64 (a ∷ b ∷ c ∷ d ∷ e ∷ f ∷ g ∷ h ∷ [])) (sized rest)
 body_of bytes = None
 
--- the bytes that records take: each has a length of four, a payload and a gate
+-- the bytes that records take: each has a length of four, a payload and a gate byte
 abbrev pub record_bytes : List (List ℕ) → ℕ
 record_bytes [] = 0
 record_bytes (payload ∷ records) = 5 + length payload + record_bytes records
@@ -59,10 +59,10 @@ behind (Some piece) next = joined (piece.0 ∷ []) (next piece.1)
 
 -- at most so many records
 abbrev pub records_within : ℕ → List ℕ → Result (List (List ℕ)) ℕ
-records_within zero gates = Ok []
+records_within zero gate_bytes = Ok []
 records_within (suc most) [] = Ok []
-records_within (suc most) (gate ∷ rest) = if gate == 1 then behind (sized rest) (λ gates. records_within most gates) else Ok []
+records_within (suc most) (gate_byte ∷ rest) = if gate_byte == 1 then behind (sized rest) (λ gate_bytes. records_within most gate_bytes) else Ok []
 
--- the records behind open gates, up to the first gate that isn't open, or the place, from here on, of an open gate without a whole record
+-- the records behind open gate bytes, up to the first gate byte that isn't open, or the place, from here on, of an open gate byte without a whole record
 abbrev pub records_of : List ℕ → Result (List (List ℕ)) ℕ
-records_of gates = records_within (length gates) gates
+records_of gate_bytes = records_within (length gate_bytes) gate_bytes

@@ -21,7 +21,7 @@ abbrev pub IsFrontOf : Bool → List ℕ → Front → Type 0
 IsFrontOf second bytes (Open generation) = (stands bytes ≡ true) × (generation ≡ generation_in (body_of (drop 9 bytes)))
 IsFrontOf second bytes (Closed place at) = (stands bytes ≡ false) × (place ≡ agreeing open_head bytes) × (at ≡ headless second bytes)
 
--- a generation of eight bytes, and the place of the first gate behind a snapshot whose length follows in four
+-- a generation of eight bytes, and the place of the first gate byte behind a snapshot whose length follows in four
 abbrev pub numbers_by : ℕ → List ℕ → Option Numbers
 numbers_by generation (a ∷ b ∷ c ∷ d ∷ rest) = Some (record { generation = generation; start = 21 + from_be_bytes w32 (a ∷ b ∷ c ∷ d ∷ []) })
 numbers_by generation bytes = None

@@ -12,11 +12,11 @@ number_of true = 2
 abbrev pub bad : Bool → ℕ → Result Counted DiskPlace
 bad second place = Err (record { disk = number_of second; place = place })
 
--- the place of the first gate: behind the head, the generation, a length and the snapshot
+-- the place of the first gate byte: behind the head, the generation, a length and the snapshot
 abbrev pub gates_at : List ℕ → ℕ
 gates_at snapshot = 21 + length snapshot
 
--- the places of the first gate and of the last of a snapshot with records
+-- the places of the first gate byte and of the last of a snapshot with records
 abbrev pub AreGatesOf : List (List ℕ) → ℕ → ℕ → Type 0
 AreGatesOf [] start end = ⊥
 AreGatesOf (snapshot ∷ records) start end = (start ≡ gates_at snapshot) × (end ≡ start + record_bytes records)
@@ -33,7 +33,7 @@ with_records second body (Err at) = bad second (gates_at body.snapshot + at)
 
 -- the disk with this body counts
 abbrev pub counted : Bool → Body → Result Counted DiskPlace
-counted second body = with_records second body (records_of body.gates)
+counted second body = with_records second body (records_of body.gate_bytes)
 
 -- a disk that stands has a body
 abbrev pub need_body : Bool → Option Body → (Body → Result Counted DiskPlace) → Result Counted DiskPlace
@@ -44,7 +44,7 @@ need_body second (Some body) next = next body
 abbrev pub alone : Bool → List ℕ → Result Counted DiskPlace
 alone second bytes = need_body second (body_of (drop 9 bytes)) (λ body. counted second body)
 
--- where a disk that doesn't stand isn't the magic and a gate
+-- where a disk that doesn't stand isn't the magic and a gate byte
 abbrev pub headless : Bool → List ℕ → Option DiskPlace
 headless second bytes =
     if agreeing magic bytes == 8
@@ -89,7 +89,7 @@ pub one_record_behind_its_gate :
     ≡ Ok (record { second = false; generation = 1; start = 21; end = 28; list = [] ∷ (1 ∷ 2 ∷ []) ∷ [] })
 one_record_behind_its_gate = refl
 
--- the same, its gate not opened
+-- the same, its gate byte not opened
 pub a_record_behind_a_closed_gate :
     pair_of (80 ∷ 83 ∷ 67 ∷ 72 ∷ 74 ∷ 82 ∷ 78 ∷ 49 ∷ 1 ∷ 0 ∷ 0 ∷ 0 ∷ 0 ∷ 0 ∷ 0 ∷ 0 ∷ 1 ∷ 0 ∷ 0 ∷ 0 ∷ 0 ∷ 0 ∷ 0 ∷ 0 ∷ 0 ∷ 2 ∷ 1 ∷ 2 ∷ 0 ∷ []) fresh_second
     ≡ Ok (record { second = false; generation = 1; start = 21; end = 21; list = [] ∷ [] })

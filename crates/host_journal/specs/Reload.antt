@@ -5,7 +5,7 @@ use Rattle.host_journal.specs.declared.pending.Pending.TheVariants.{Nothing, Uno
 use Rattle.host_journal.specs.declared.reload.Stood.{Stood}
 use Rattle.host_journal.specs.declared.reload.Stood.TheVariants.{Nothing as no_gate, Record as the_record, Snapshot as the_snapshot}
 
--- the gate that a failed call was to open, where it is open: the last one of the disk that counts, or the other's head gate
+-- the gate byte that a failed call was to open, where it is open: the last one of the disk that counts, or the other's head gate byte
 abbrev pub stood_of : Pending → ℕ → List ℕ → List ℕ → Stood
 stood_of Nothing end counting other = no_gate
 stood_of Unopened end counting other = no_gate

@@ -11,8 +11,8 @@ use Rattle.host_journal.specs.declared.reading.DiskPlace.{DiskPlace}
 use Rattle.host_journal.specs.declared.pending.Pending.{Pending}
 use Rattle.host_journal.specs.declared.pending.Pending.TheVariants.{Nothing, Unopened, Record, Snapshot}
 
--- The disk that counts and the other one; whether the one that counts is the second of the pair; its generation, the place of its first gate
--- and of its last; whether the other's head gate is known to be closed; what a failed call has left to look at; the room.
+-- The disk that counts and the other one; whether the one that counts is the second of the pair; its generation, the place of its first gate byte
+-- and of its last; whether the other's head gate byte is known to be closed; what a failed call has left to look at; the room.
 pub record State (D : Type 0) : Type 0 where
   pub counting : D
   pub other : D
@@ -76,7 +76,7 @@ pub record Stands (generation : ℕ) (list : List (List ℕ)) (bytes : List ℕ)
   pub is_body : body_of (drop 9 bytes) ≡ Some body
   pub is_generation : body.generation ≡ generation
   pub records : List (List ℕ)
-  pub are_records : records_of body.gates ≡ Ok records
+  pub are_records : records_of body.gate_bytes ≡ Ok records
   pub is_list : list ≡ body.snapshot ∷ records
 
 -- of two generations the other one is the smaller; the first of a pair counts also over its equal
@@ -84,7 +84,7 @@ abbrev pub IsLess : Bool → ℕ → ℕ → Type 0
 IsLess false counting other = nat_le other counting ≡ true
 IsLess true counting other = nat_le counting other ≡ false
 
--- a disk that doesn't stand: the magic, and a gate that isn't open
+-- a disk that doesn't stand: the magic, and a gate byte that isn't open
 pub record IsClosed (bytes : List ℕ) : Type 0 where
   pub not_standing : stands bytes ≡ false
   pub has_magic : agreeing magic bytes ≡ 8
@@ -97,14 +97,14 @@ pub record IsOlder (second : Bool) (generation : ℕ) (bytes : List ℕ) : Type 
   pub is_body : body_of (drop 9 bytes) ≡ Some body
   pub is_less : IsLess second generation body.generation
 
--- the magic, any gate, and behind it what would be such a disk
+-- the magic, any gate byte, and behind it what would be such a disk
 pub record HasOlder (second : Bool) (generation : ℕ) (bytes : List ℕ) : Type 0 where
-  pub gate : ℕ
+  pub gate_byte : ℕ
   pub rest : List ℕ
-  pub split : bytes ≡ magic ++ gate ∷ rest
+  pub split : bytes ≡ magic ++ gate_byte ∷ rest
   pub older : IsOlder second generation (magic ++ 1 ∷ rest)
 
--- a disk whose head gate is known to be closed, or one that is whole behind its head gate
+-- a disk whose head gate byte is known to be closed, or one that is whole behind its head gate byte
 abbrev pub IsAside : Bool → ℕ → Bool → List ℕ → Type 0
 IsAside second generation true bytes = IsClosed bytes
 IsAside second generation false bytes = HasOlder second generation bytes
@@ -113,21 +113,21 @@ IsAside second generation false bytes = HasOlder second generation bytes
 abbrev pub IsBelow : Bool → ℕ → List ℕ → Type 0
 IsBelow second generation bytes = IsClosed bytes ⊎ IsOlder second generation bytes
 
--- Bytes behind which a gate stands: whatever that gate is, and whatever follows, the disk has these records and then those from there on.
+-- Bytes behind which a gate byte stands: whatever that gate byte is, and whatever follows, the disk has these records and then those from there on.
 pub record IsFront (generation : ℕ) (snapshot : List ℕ) (records : List (List ℕ)) (front : List ℕ) : Type 0 where
-  pub is_standing : (gates : List ℕ) → stands (front ++ gates) ≡ true
+  pub is_standing : (gate_bytes : List ℕ) → stands (front ++ gate_bytes) ≡ true
   pub frames : List ℕ
-  pub is_body : (gate : ℕ) (rest : List ℕ) → body_of (drop 9 (front ++ gate ∷ rest)) ≡ Some (record { generation = generation; snapshot = snapshot; gates = frames ++ gate ∷ rest })
-  pub goes_on : (gate : ℕ) (rest : List ℕ) → records_of (frames ++ gate ∷ rest) ≡ joined records (records_of (gate ∷ rest))
+  pub is_body : (gate_byte : ℕ) (rest : List ℕ) → body_of (drop 9 (front ++ gate_byte ∷ rest)) ≡ Some (record { generation = generation; snapshot = snapshot; gate_bytes = frames ++ gate_byte ∷ rest })
+  pub goes_on : (gate_byte : ℕ) (rest : List ℕ) → records_of (frames ++ gate_byte ∷ rest) ≡ joined records (records_of (gate_byte ∷ rest))
   pub size : length front ≡ gates_at snapshot + record_bytes records
 
--- such bytes, a gate that isn't open, and whatever follows
+-- such bytes, a gate byte that isn't open, and whatever follows
 pub record IsWhole (generation start end : ℕ) (list : List (List ℕ)) (bytes : List ℕ) : Type 0 where
   pub front : List ℕ
-  pub gate : ℕ
+  pub gate_byte : ℕ
   pub tail : List ℕ
-  pub split : bytes ≡ front ++ gate ∷ tail
-  pub is_shut : gate ≢ 1
+  pub split : bytes ≡ front ++ gate_byte ∷ tail
+  pub is_shut : gate_byte ≢ 1
   pub snapshot : List ℕ
   pub records : List (List ℕ)
   pub is_list : list ≡ snapshot ∷ records
@@ -135,14 +135,14 @@ pub record IsWhole (generation start end : ℕ) (list : List (List ℕ)) (bytes 
   pub is_start : start ≡ gates_at snapshot
   pub is_end : end ≡ length front
 
--- such bytes, any gate, and behind it a record with a gate that isn't open
+-- such bytes, any gate byte, and behind it a record with a gate byte that isn't open
 pub record IsStaged (generation start end next : ℕ) (list : List (List ℕ)) (payload bytes : List ℕ) : Type 0 where
   pub front : List ℕ
-  pub gate : ℕ
+  pub gate_byte : ℕ
   pub frame : List ℕ
   pub last : ℕ
   pub tail : List ℕ
-  pub split : bytes ≡ front ++ gate ∷ (frame ++ last ∷ tail)
+  pub split : bytes ≡ front ++ gate_byte ∷ (frame ++ last ∷ tail)
   pub is_shut : last ≢ 1
   pub snapshot : List ℕ
   pub records : List (List ℕ)
@@ -153,11 +153,11 @@ pub record IsStaged (generation start end next : ℕ) (list : List (List ℕ)) (
   pub is_end : end ≡ length front
   pub is_next : next ≡ length front + 1 + length frame
 
--- the magic, any head gate, and behind it what stands for a snapshot alone
+-- the magic, any head gate byte, and behind it what stands for a snapshot alone
 pub record IsImage (generation start : ℕ) (image bytes : List ℕ) : Type 0 where
-  pub gate : ℕ
+  pub gate_byte : ℕ
   pub rest : List ℕ
-  pub split : bytes ≡ magic ++ gate ∷ rest
+  pub split : bytes ≡ magic ++ gate_byte ∷ rest
   pub is_whole : IsWhole generation start start (image ∷ []) (magic ++ 1 ∷ rest)
 
 -- what a crash may leave of the disk that counts
@@ -187,7 +187,7 @@ pub record IsSound {D : Type 0} (seen : D → List ℕ) (may_leave : D → List 
   pub other : (c : List ℕ) → may_leave s.other c → Beside s s.pending c
   pub fixed : is_ready s.pending ≡ true → Only (seen s.counting) (may_leave s.counting) × Only (seen s.other) (may_leave s.other)
 
--- a call that leaves which disk counts, its generation and first gate, and what is known of the other's head gate
+-- a call that leaves which disk counts, its generation and first gate byte, and what is known of the other's head gate byte
 pub record KeepsPlace {D : Type 0} (old new : State D) : Type 0 where
   pub second : new.second ≡ old.second
   pub generation : new.generation ≡ old.generation
@@ -197,7 +197,7 @@ pub record KeepsPlace {D : Type 0} (old new : State D) : Type 0 where
 
 -- each of the two disks went through some calls in a row
 abbrev pub WentOn : {D : Type 0} → (D → D → Type 0) → State D → State D → Type 0
-WentOn went old new = went (first_disk old) (first_disk new) × went (second_disk old) (second_disk new)
+WentOn calls_advance old new = calls_advance (first_disk old) (first_disk new) × calls_advance (second_disk old) (second_disk new)
 
 -- one that leaves all but the room
 abbrev pub with_room : {D : Type 0} → State D → ℕ → State D
@@ -216,7 +216,7 @@ with_room s room = record {
 abbrev pub SameButRoom : {D : Type 0} → State D → State D → Type 0
 SameButRoom old new = new ≡ with_room old new.room
 
--- the four calls of an append: the record with a closed gate behind the gate at this place, and then that gate
+-- the four calls of an append: the record with a closed gate byte behind the gate byte at this place, and then that gate byte
 abbrev pub append_calls : ℕ → List ℕ → List DiskCall
 append_calls end payload = Write (end + 1) (to_be_bytes w32 (length payload) ++ (payload ++ 0 ∷ [])) ∷ Sync ∷ Write end (1 ∷ []) ∷ Sync ∷ []
 
@@ -240,11 +240,11 @@ which payload stood before = if stood then with_record payload before else befor
 abbrev pub snapshot_of : {D : Type 0} → List ℕ → State D → Result Counted DiskPlace
 snapshot_of image s = Ok (record { second = not s.second; generation = s.generation + 1; start = gates_at image; end = gates_at image; list = image ∷ [] })
 
--- the bytes behind a head gate
+-- the bytes behind a head gate byte
 abbrev pub image_bytes : ℕ → List ℕ → List ℕ
 image_bytes generation image = to_be_bytes w64 generation ++ (to_be_bytes w32 (length image) ++ (image ++ 0 ∷ []))
 
--- the bytes that close a head gate: none where it is known to be closed
+-- the bytes that close a head gate byte: none where it is known to be closed
 abbrev pub closing : Bool → List ℕ
 closing shut = if shut then [] else 0 ∷ []
 

@@ -12,8 +12,8 @@ module _ {D : Type 0} (tells : D → Option (List DiskCall)) (faults : D → ℕ
   -- the disk made these, and none of its calls failed
   pub record MakesAll (old new : D) (made : List DiskCall) : Type 0 where
     pub told : TellsAll (tells old) (tells new) made
-    pub calm : faults new ≡ faults old
-    pub went : goes old new
+    pub no_fault : faults new ≡ faults old
+    pub calls_advance : goes old new
 
   -- The first of these, up to the one that failed: those before it were made without a fault.
   pub record TellsFirst (old new : D) (calls : List DiskCall) : Type 0 where
@@ -26,7 +26,7 @@ module _ {D : Type 0} (tells : D → Option (List DiskCall)) (faults : D → ℕ
     pub before : MakesAll old mid made
     pub told : TellsAll (tells mid) (tells new) (failed ∷ [])
     pub rose : Rose (faults mid) (faults new)
-    pub went : goes mid new
+    pub calls_advance : goes mid new
 
   -- all of the first run, and of the second some, up to the one that failed
   pub record TellsBoth (old new : D) (all some : List DiskCall) : Type 0 where
@@ -41,8 +41,8 @@ module _ {D : Type 0} (tells : D → Option (List DiskCall)) (faults : D → ℕ
     pub still : tells one_new ≡ tells mid
     pub told : TellsAll (tells other) (tells other_new) (Sync ∷ [])
     pub rose : Rose (faults mid) (faults one_new) ⊎ Rose (faults other) (faults other_new)
-    pub went_one : goes mid one_new
-    pub went_other : goes other other_new
+    pub calls_advance_one : goes mid one_new
+    pub calls_advance_other : goes other other_new
 
   -- Of two disks one is synced, and then the other. A fault was met at the first, of which nothing is told but its sync, or behind it.
   abbrev pub TellsSyncs : D → D → D → D → Type 0

@@ -34,11 +34,11 @@ impl<D: Disk> Journal<D> {
         ensures end_err { OnErr result (self.new.end ≡ self.old.end) }
         ensures failed { OnErr result (is_ready self.new.pending ≡ false) }
         ensures told { OnOk result (TellsAll (D.told self.old.counting) (D.told self.new.counting) (append_calls self.old.end payload.now)) }
-        ensures told_first { OnErr result (TellsFirst D.told D.disk_faults D.went self.old.counting self.new.counting (append_calls self.old.end payload.now)) }
+        ensures told_first { OnErr result (TellsFirst D.told D.disk_faults D.calls_advance self.old.counting self.new.counting (append_calls self.old.end payload.now)) }
         ensures later { D.disk_faults self.old.counting ≤ D.disk_faults self.new.counting }
-        ensures calm { OnOk result (D.disk_faults self.new.counting ≡ D.disk_faults self.old.counting) }
+        ensures no_fault { OnOk result (D.disk_faults self.new.counting ≡ D.disk_faults self.old.counting) }
         ensures cause { OnErr result (Rose (D.disk_faults self.old.counting) (D.disk_faults self.new.counting)) }
-        ensures went { WentOn D.went self.old self.new }
+        ensures calls_advance { WentOn D.calls_advance self.old self.new }
     {
         put_record(&mut self.buffer, payload);
         self.pending = Pending::Unopened;
@@ -51,7 +51,7 @@ impl<D: Disk> Journal<D> {
         Ok(())
     }
 
-    /// Cuts off what lies behind the first gate that isn't open. Takes no memory.
+    /// Cuts off what lies behind the first gate byte that isn't open. Takes no memory.
     pub fn cut_tail(&mut self) -> Result<(), DiskFault>
         requires ready { IsTrue (is_ready self.old.pending) }
         ensures same { D.premise → stored D.seen self.new ≡ stored D.seen self.old }
@@ -68,11 +68,11 @@ impl<D: Disk> Journal<D> {
         // So `reload` never answers that a record stands.
         ensures no_record { OnErr result ((pair : _) → has_record self.new.pending pair ≡ false) }
         ensures told { OnOk result (TellsAll (D.told self.old.counting) (D.told self.new.counting) (Cut (self.old.end + 1) ∷ Sync ∷ [])) }
-        ensures told_first { OnErr result (TellsFirst D.told D.disk_faults D.went self.old.counting self.new.counting (Cut (self.old.end + 1) ∷ Sync ∷ [])) }
+        ensures told_first { OnErr result (TellsFirst D.told D.disk_faults D.calls_advance self.old.counting self.new.counting (Cut (self.old.end + 1) ∷ Sync ∷ [])) }
         ensures later { D.disk_faults self.old.counting ≤ D.disk_faults self.new.counting }
-        ensures calm { OnOk result (D.disk_faults self.new.counting ≡ D.disk_faults self.old.counting) }
+        ensures no_fault { OnOk result (D.disk_faults self.new.counting ≡ D.disk_faults self.old.counting) }
         ensures cause { OnErr result (Rose (D.disk_faults self.old.counting) (D.disk_faults self.new.counting)) }
-        ensures went { WentOn D.went self.old self.new }
+        ensures calls_advance { WentOn D.calls_advance self.old self.new }
     {
         self.pending = Pending::Unopened;
         cut_and_sync(&mut self.counting, self.end + 1)?;

@@ -34,7 +34,7 @@ impl Journal<MemoryDisk> {
         requires room { length payload.now + 13 ≤ self.room }
         requires bound { length payload.now ≤ 8388608 }
         requires stop { stop ≤ 4 }
-        // With the record exactly where its gate was written and the image keeps what is not synced.
+        // With the record exactly where its gate byte was written and the image keeps what is not synced.
         ensures kept { IfOk result (λ disks. pair_of (⟦<MemoryDisk as Disk>⟧.seen disks.0) (⟦<MemoryDisk as Disk>⟧.seen disks.1) ≡ which payload.now (opens_gate stop image) (stored ⟦<MemoryDisk as Disk>⟧.seen self)) }
         ensures first { IfOk result (λ disks. IsCrashed disks.0) }
         ensures second { IfOk result (λ disks. IsCrashed disks.1) }
@@ -60,7 +60,7 @@ impl Journal<MemoryDisk> {
         requires room { length snapshot.bytes + 13 ≤ snapshot.room }
         requires bound { length snapshot.bytes ≤ 4294967295 }
         requires generation { self.generation < 2 ^ 64 - 1 }
-        // The snapshot counts exactly where its head gate was made sure of, or was written and the image keeps what is not synced.
+        // The snapshot counts exactly where its head gate byte was made sure of, or was written and the image keeps what is not synced.
         ensures left { IfOk result (λ disks. pair_of (⟦<MemoryDisk as Disk>⟧.seen disks.0) (⟦<MemoryDisk as Disk>⟧.seen disks.1)
             ≡ (if opens_head stop image then snapshot_of snapshot.bytes self else stored ⟦<MemoryDisk as Disk>⟧.seen self)) }
         ensures first { IfOk result (λ disks. IsCrashed disks.0) }
@@ -123,7 +123,7 @@ fn crash_in_write(
     crash_now(disk, image)
 }
 
-// A piece that is made sure of, the write of the gate before it, and a crash. Half of a gate is none.
+// A piece that is made sure of, the write of the gate byte before it, and a crash. Half of a gate byte is none.
 fn crash_at_gate(
     disk: MemoryDisk,
     end: u64,
@@ -174,7 +174,7 @@ fn crash_in_turn(
     crash_now(disk, image)
 }
 
-// The write that closes a head gate, and a crash.
+// The write that closes a head gate byte, and a crash.
 fn crash_in_close(disk: MemoryDisk, shut: bool, image: Image) -> Result<MemoryDisk, Memory>
     ensures part { IfOk result (λ left. PartAfter (Torn 8 (length (closing shut))) (IsImage disk.history) (bytes_now left.history)) }
     ensures crashed { IfOk result (λ left. IsCrashed left) }
@@ -186,7 +186,7 @@ fn crash_in_close(disk: MemoryDisk, shut: bool, image: Image) -> Result<MemoryDi
     }
 }
 
-// The same behind the sync of a closed head gate.
+// The same behind the sync of a closed head gate byte.
 fn crash_in_fill(
     disk: MemoryDisk,
     shut: bool,

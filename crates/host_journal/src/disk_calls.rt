@@ -19,11 +19,11 @@ pub fn write_and_sync<D: Disk>(disk: &mut D, at: u64, piece: &[u8]) -> Result<()
     ensures moments { D.premise → LeavesOnly D.moment D.left_since disk.old disk.new (PartAfter (Torn at (length piece.now)) (D.may_leave disk.old)) }
     ensures reach { OnOk result (at + length piece.now < 2 ^ 64) }
     ensures told { OnOk result (TellsAll (D.told disk.old) (D.told disk.new) (Write at piece.now ∷ Sync ∷ [])) }
-    ensures told_first { OnErr result (TellsFirst D.told D.disk_faults D.went disk.old disk.new (Write at piece.now ∷ Sync ∷ [])) }
+    ensures told_first { OnErr result (TellsFirst D.told D.disk_faults D.calls_advance disk.old disk.new (Write at piece.now ∷ Sync ∷ [])) }
     ensures later { D.disk_faults disk.old ≤ D.disk_faults disk.new }
-    ensures calm { OnOk result (D.disk_faults disk.new ≡ D.disk_faults disk.old) }
+    ensures no_fault { OnOk result (D.disk_faults disk.new ≡ D.disk_faults disk.old) }
     ensures cause { OnErr result (Rose (D.disk_faults disk.old) (D.disk_faults disk.new)) }
-    ensures went { D.went disk.old disk.new }
+    ensures calls_advance { D.calls_advance disk.old disk.new }
 {
     disk.write_at(at, piece)?;
     disk.sync()?;
@@ -38,11 +38,11 @@ pub fn cut_and_sync<D: Disk>(disk: &mut D, len: u64) -> Result<(), DiskFault>
     ensures images { D.premise → Follows (Shortened len) (D.may_leave disk.old) (D.may_leave disk.new) }
     ensures moments { D.premise → LeavesOnly D.moment D.left_since disk.old disk.new (PartAfter (Shortened len) (D.may_leave disk.old)) }
     ensures told { OnOk result (TellsAll (D.told disk.old) (D.told disk.new) (Cut len ∷ Sync ∷ [])) }
-    ensures told_first { OnErr result (TellsFirst D.told D.disk_faults D.went disk.old disk.new (Cut len ∷ Sync ∷ [])) }
+    ensures told_first { OnErr result (TellsFirst D.told D.disk_faults D.calls_advance disk.old disk.new (Cut len ∷ Sync ∷ [])) }
     ensures later { D.disk_faults disk.old ≤ D.disk_faults disk.new }
-    ensures calm { OnOk result (D.disk_faults disk.new ≡ D.disk_faults disk.old) }
+    ensures no_fault { OnOk result (D.disk_faults disk.new ≡ D.disk_faults disk.old) }
     ensures cause { OnErr result (Rose (D.disk_faults disk.old) (D.disk_faults disk.new)) }
-    ensures went { D.went disk.old disk.new }
+    ensures calls_advance { D.calls_advance disk.old disk.new }
 {
     disk.cut(len)?;
     disk.sync()?;
@@ -57,11 +57,11 @@ pub fn replace_rest<D: Disk>(disk: &mut D, piece: &[u8]) -> Result<(), DiskFault
     ensures moments { D.premise → LeavesOnly D.moment D.left_since disk.old disk.new (PartAfter KeepsHead (D.may_leave disk.old)) }
     ensures reach { OnOk result (9 + length piece.now < 2 ^ 64) }
     ensures told { OnOk result (TellsAll (D.told disk.old) (D.told disk.new) (Cut 9 ∷ Write 9 piece.now ∷ Sync ∷ [])) }
-    ensures told_first { OnErr result (TellsFirst D.told D.disk_faults D.went disk.old disk.new (Cut 9 ∷ Write 9 piece.now ∷ Sync ∷ [])) }
+    ensures told_first { OnErr result (TellsFirst D.told D.disk_faults D.calls_advance disk.old disk.new (Cut 9 ∷ Write 9 piece.now ∷ Sync ∷ [])) }
     ensures later { D.disk_faults disk.old ≤ D.disk_faults disk.new }
-    ensures calm { OnOk result (D.disk_faults disk.new ≡ D.disk_faults disk.old) }
+    ensures no_fault { OnOk result (D.disk_faults disk.new ≡ D.disk_faults disk.old) }
     ensures cause { OnErr result (Rose (D.disk_faults disk.old) (D.disk_faults disk.new)) }
-    ensures went { D.went disk.old disk.new }
+    ensures calls_advance { D.calls_advance disk.old disk.new }
 {
     disk.cut(9)?;
     disk.write_at(9, piece)?;
@@ -77,9 +77,9 @@ pub fn read_head<D: Disk>(disk: &mut D, head: &mut [u8]) -> Result<usize, DiskFa
     ensures read { D.premise → IsRead D.seen D.may_leave D.moment D.left_since disk.old disk.new }
     ensures told { D.told disk.new ≡ D.told disk.old }
     ensures later { D.disk_faults disk.old ≤ D.disk_faults disk.new }
-    ensures calm { OnOk result (D.disk_faults disk.new ≡ D.disk_faults disk.old) }
+    ensures no_fault { OnOk result (D.disk_faults disk.new ≡ D.disk_faults disk.old) }
     ensures cause { OnErr result (Rose (D.disk_faults disk.old) (D.disk_faults disk.new)) }
-    ensures went { D.went disk.old disk.new }
+    ensures calls_advance { D.calls_advance disk.old disk.new }
 {
     let mut count = 0;
     while count < head.len() {
@@ -102,9 +102,9 @@ fn read_part<D: Disk>(disk: &mut D, bytes: &mut [u8], at: usize) -> Result<usize
     ensures read { D.premise → IsRead D.seen D.may_leave D.moment D.left_since disk.old disk.new }
     ensures told { D.told disk.new ≡ D.told disk.old }
     ensures later { D.disk_faults disk.old ≤ D.disk_faults disk.new }
-    ensures calm { OnOk result (D.disk_faults disk.new ≡ D.disk_faults disk.old) }
+    ensures no_fault { OnOk result (D.disk_faults disk.new ≡ D.disk_faults disk.old) }
     ensures cause { OnErr result (Rose (D.disk_faults disk.old) (D.disk_faults disk.new)) }
-    ensures went { D.went disk.old disk.new }
+    ensures calls_advance { D.calls_advance disk.old disk.new }
 {
     Ok(disk.read(at as u64, &mut bytes[at..])?)
 }
@@ -115,9 +115,9 @@ pub fn has_byte_at<D: Disk>(disk: &mut D, at: u64) -> Result<bool, DiskFault>
     ensures read { D.premise → IsRead D.seen D.may_leave D.moment D.left_since disk.old disk.new }
     ensures told { D.told disk.new ≡ D.told disk.old }
     ensures later { D.disk_faults disk.old ≤ D.disk_faults disk.new }
-    ensures calm { OnOk result (D.disk_faults disk.new ≡ D.disk_faults disk.old) }
+    ensures no_fault { OnOk result (D.disk_faults disk.new ≡ D.disk_faults disk.old) }
     ensures cause { OnErr result (Rose (D.disk_faults disk.old) (D.disk_faults disk.new)) }
-    ensures went { D.went disk.old disk.new }
+    ensures calls_advance { D.calls_advance disk.old disk.new }
 {
     let mut byte = [0; 1];
     let count = disk.read(at, &mut byte)?;
@@ -129,9 +129,9 @@ fn bound_of<D: Disk>(disk: &mut D) -> Result<u64, DiskFault>
     ensures read { D.premise → IsRead D.seen D.may_leave D.moment D.left_since disk.old disk.new }
     ensures told { D.told disk.new ≡ D.told disk.old }
     ensures later { D.disk_faults disk.old ≤ D.disk_faults disk.new }
-    ensures calm { OnOk result (D.disk_faults disk.new ≡ D.disk_faults disk.old) }
+    ensures no_fault { OnOk result (D.disk_faults disk.new ≡ D.disk_faults disk.old) }
     ensures cause { OnErr result (Rose (D.disk_faults disk.old) (D.disk_faults disk.new)) }
-    ensures went { D.went disk.old disk.new }
+    ensures calls_advance { D.calls_advance disk.old disk.new }
 {
     let mut bound = 65_536u64;
     while has_byte_at(disk, bound)? {
@@ -149,9 +149,9 @@ fn measure<D: Disk>(disk: &mut D) -> Result<usize, DiskFault>
     ensures read { D.premise → IsRead D.seen D.may_leave D.moment D.left_since disk.old disk.new }
     ensures told { D.told disk.new ≡ D.told disk.old }
     ensures later { D.disk_faults disk.old ≤ D.disk_faults disk.new }
-    ensures calm { OnOk result (D.disk_faults disk.new ≡ D.disk_faults disk.old) }
+    ensures no_fault { OnOk result (D.disk_faults disk.new ≡ D.disk_faults disk.old) }
     ensures cause { OnErr result (Rose (D.disk_faults disk.old) (D.disk_faults disk.new)) }
-    ensures went { D.went disk.old disk.new }
+    ensures calls_advance { D.calls_advance disk.old disk.new }
 {
     let mut low = 0;
     let mut high = bound_of(disk)?;
@@ -172,10 +172,10 @@ pub fn read_rest<D: Disk>(alloc: Global, disk: &mut D) -> Result<Vec<u8>, OpenRe
     ensures read { D.premise → IsRead D.seen D.may_leave D.moment D.left_since disk.old disk.new }
     ensures told { D.told disk.new ≡ D.told disk.old }
     ensures later { D.disk_faults disk.old ≤ D.disk_faults disk.new }
-    ensures calm { (IsErrOf result OpenReason.DiskFault → ⊥) → D.disk_faults disk.new ≡ D.disk_faults disk.old }
+    ensures no_fault { (IsErrOf result OpenReason.DiskFault → ⊥) → D.disk_faults disk.new ≡ D.disk_faults disk.old }
     ensures cause { IsErrOf result OpenReason.DiskFault → Rose (D.disk_faults disk.old) (D.disk_faults disk.new) }
     ensures journal { (place : _) → IsErrOf result (OpenReason.NotAJournal place) → ⊥ }
-    ensures went { D.went disk.old disk.new }
+    ensures calls_advance { D.calls_advance disk.old disk.new }
 {
     let len = measure(disk)?;
     let Ok(mut all) = Vec::with_capacity(alloc, len) else {
@@ -202,30 +202,30 @@ pub fn sync_both<D: Disk>(one: &mut D, other: &mut D) -> Result<(), DiskFault>
     ensures read_other { D.premise → IsRead D.seen D.may_leave D.moment D.left_since other.old other.new }
     ensures told_one { OnOk result (TellsAll (D.told one.old) (D.told one.new) (Sync ∷ [])) }
     ensures told_other { OnOk result (TellsAll (D.told other.old) (D.told other.new) (Sync ∷ [])) }
-    ensures told_err { OnErr result (TellsSyncs D.told D.disk_faults D.went one.old other.old one.new other.new) }
+    ensures told_err { OnErr result (TellsSyncs D.told D.disk_faults D.calls_advance one.old other.old one.new other.new) }
     ensures later_one { D.disk_faults one.old ≤ D.disk_faults one.new }
     ensures later_other { D.disk_faults other.old ≤ D.disk_faults other.new }
-    ensures calm { OnOk result ((D.disk_faults one.new ≡ D.disk_faults one.old) × (D.disk_faults other.new ≡ D.disk_faults other.old)) }
+    ensures no_fault { OnOk result ((D.disk_faults one.new ≡ D.disk_faults one.old) × (D.disk_faults other.new ≡ D.disk_faults other.old)) }
     ensures cause { OnErr result (Rose (D.disk_faults one.old) (D.disk_faults one.new) ⊎ Rose (D.disk_faults other.old) (D.disk_faults other.new)) }
-    ensures went_one { D.went one.old one.new }
-    ensures went_other { D.went other.old other.new }
+    ensures calls_advance_one { D.calls_advance one.old one.new }
+    ensures calls_advance_other { D.calls_advance other.old other.new }
 {
     one.sync()?;
     other.sync()?;
     Ok(())
 }
 
-/// Whether the byte at a place is an open gate.
+/// Whether the byte at a place is an open gate byte.
 pub fn is_open_at<D: Disk>(disk: &mut D, at: u64) -> Result<bool, DiskFault>
-    ensures gate { D.premise → IfOk result (λ opens. opens ≡ (slice_index_or (D.seen disk.old) at 0 == 1)) }
+    ensures gate_byte { D.premise → IfOk result (λ opens. opens ≡ (slice_index_or (D.seen disk.old) at 0 == 1)) }
     ensures read { D.premise → IsRead D.seen D.may_leave D.moment D.left_since disk.old disk.new }
     ensures told { D.told disk.new ≡ D.told disk.old }
     ensures later { D.disk_faults disk.old ≤ D.disk_faults disk.new }
-    ensures calm { OnOk result (D.disk_faults disk.new ≡ D.disk_faults disk.old) }
+    ensures no_fault { OnOk result (D.disk_faults disk.new ≡ D.disk_faults disk.old) }
     ensures cause { OnErr result (Rose (D.disk_faults disk.old) (D.disk_faults disk.new)) }
-    ensures went { D.went disk.old disk.new }
+    ensures calls_advance { D.calls_advance disk.old disk.new }
 {
-    let mut gate = [0; 1];
-    let count = disk.read(at, &mut gate)?;
-    Ok(count == 1 && gate[0] == 1)
+    let mut gate_byte = [0; 1];
+    let count = disk.read(at, &mut gate_byte)?;
+    Ok(count == 1 && gate_byte[0] == 1)
 }

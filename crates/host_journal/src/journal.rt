@@ -79,7 +79,7 @@ impl<D: Disk> Journal<D> {
         ensures stored { D.premise → IfOk result (λ r. stored D.seen r.0 ≡ pair_of (D.seen first) (D.seen second)) }
         ensures durable { D.premise → IfOk result (λ r. EachImage D.may_leave r.0 (λ pair. pair ≡ pair_of (D.seen first) (D.seen second))) }
         ensures ready { IfOk result (λ r. IsTrue (is_ready r.0.pending)) }
-        ensures gates { IfOk result (λ r. AreGatesOf r.1 r.0.start r.0.end) }
+        ensures gate_bytes { IfOk result (λ r. AreGatesOf r.1 r.0.start r.0.end) }
         // Where `item_place` may be asked.
         ensures places { IfOk result (λ r. (n : ℕ) → n < length r.1 → 21 + record_bytes (take n r.1) < 2 ^ 64) }
         ensures shut { D.premise → IfOk result (λ r. r.0.shut ≡ not (stands (if r.0.second then D.seen first else D.seen second))) }
@@ -94,17 +94,17 @@ impl<D: Disk> Journal<D> {
         // It makes two calls that are told, the two syncs; where a fault was met, up to that.
         ensures told_first { IfOk result (λ r. TellsAll (D.told first) (D.told (first_disk r.0)) (Sync ∷ [])) }
         ensures told_second { IfOk result (λ r. TellsAll (D.told second) (D.told (second_disk r.0)) (Sync ∷ [])) }
-        ensures told_err { IfErr result (λ f. f.reason ≡ OpenReason.DiskFault → TellsSyncs D.told D.disk_faults D.went first second f.first f.second) }
+        ensures told_err { IfErr result (λ f. f.reason ≡ OpenReason.DiskFault → TellsSyncs D.told D.disk_faults D.calls_advance first second f.first f.second) }
         ensures told_refused { IfErr result (λ f. (f.reason ≡ OpenReason.DiskFault → ⊥) → TellsAll (D.told first) (D.told f.first) (Sync ∷ []) × TellsAll (D.told second) (D.told f.second) (Sync ∷ [])) }
 
         // Exactly where the disks stand for nothing.
         ensures place { D.premise → IfErr result (λ f. (place : _) → f.reason ≡ OpenReason.NotAJournal place → pair_of (D.seen first) (D.seen second) ≡ Err place) }
         ensures fault { IfErr result (λ f. f.reason ≡ OpenReason.DiskFault → Rose (D.disk_faults first) (D.disk_faults f.first) ⊎ Rose (D.disk_faults second) (D.disk_faults f.second)) }
         ensures later { IfErr result (λ f. (D.disk_faults first ≤ D.disk_faults f.first) × (D.disk_faults second ≤ D.disk_faults f.second)) }
-        ensures calm_err { IfErr result (λ f. (f.reason ≡ OpenReason.DiskFault → ⊥) → (D.disk_faults f.first ≡ D.disk_faults first) × (D.disk_faults f.second ≡ D.disk_faults second)) }
-        ensures calm { IfOk result (λ r. (D.disk_faults (first_disk r.0) ≡ D.disk_faults first) × (D.disk_faults (second_disk r.0) ≡ D.disk_faults second)) }
-        ensures went { IfOk result (λ r. D.went first (first_disk r.0) × D.went second (second_disk r.0)) }
-        ensures went_err { IfErr result (λ f. D.went first f.first × D.went second f.second) }
+        ensures no_fault_err { IfErr result (λ f. (f.reason ≡ OpenReason.DiskFault → ⊥) → (D.disk_faults f.first ≡ D.disk_faults first) × (D.disk_faults f.second ≡ D.disk_faults second)) }
+        ensures no_fault { IfOk result (λ r. (D.disk_faults (first_disk r.0) ≡ D.disk_faults first) × (D.disk_faults (second_disk r.0) ≡ D.disk_faults second)) }
+        ensures calls_advance { IfOk result (λ r. D.calls_advance first (first_disk r.0) × D.calls_advance second (second_disk r.0)) }
+        ensures calls_advance_err { IfErr result (λ f. D.calls_advance first f.first × D.calls_advance second f.second) }
     {
         let mut first = first;
         let mut second = second;
@@ -190,7 +190,7 @@ impl<D: Disk> Journal<D> {
         let _end = self.end;
     }
 
-    /// The bytes of records behind the snapshot: for each a length of four, the payload and a gate.
+    /// The bytes of records behind the snapshot: for each a length of four, the payload and a gate byte.
     pub fn record_bytes(&self) -> u64
         ensures { result ≡ self.now.end - self.now.start }
     {
@@ -258,7 +258,7 @@ pub(crate) fn in_order<D>(second: bool, first: D, other: D) -> (D, D)
     }
 }
 
-// What two disks stand for, and whether the head gate of the one that doesn't count is closed.
+// What two disks stand for, and whether the head gate byte of the one that doesn't count is closed.
 fn read_disks<D: Disk>(
     alloc: Global,
     first: &mut D,
@@ -267,20 +267,20 @@ fn read_disks<D: Disk>(
     ensures pair { D.premise → IfOk result (λ r. pair_of (D.seen first.old) (D.seen second.old) ≡ Ok r.0) }
     ensures shut { D.premise → IfOk result (λ r. r.1 ≡ not (stands (if r.0.second then D.seen first.old else D.seen second.old))) }
     ensures bound { IfOk result (λ r. (r.0.end + 1 < 2 ^ 64) × (r.0.start ≤ r.0.end)) }
-    ensures gates { IfOk result (λ r. AreGatesOf r.0.list r.0.start r.0.end) }
+    ensures gate_bytes { IfOk result (λ r. AreGatesOf r.0.list r.0.start r.0.end) }
     ensures fixed { D.premise → OnOk result (Only (D.seen first.new) (D.may_leave first.new) × Only (D.seen second.new) (D.may_leave second.new)) }
     ensures read_first { D.premise → IsRead D.seen D.may_leave D.moment D.left_since first.old first.new }
     ensures read_second { D.premise → IsRead D.seen D.may_leave D.moment D.left_since second.old second.new }
     ensures told_first { (IsErrOf result OpenReason.DiskFault → ⊥) → TellsAll (D.told first.old) (D.told first.new) (Sync ∷ []) }
     ensures told_second { (IsErrOf result OpenReason.DiskFault → ⊥) → TellsAll (D.told second.old) (D.told second.new) (Sync ∷ []) }
-    ensures told_err { IsErrOf result OpenReason.DiskFault → TellsSyncs D.told D.disk_faults D.went first.old second.old first.new second.new }
+    ensures told_err { IsErrOf result OpenReason.DiskFault → TellsSyncs D.told D.disk_faults D.calls_advance first.old second.old first.new second.new }
     ensures place { D.premise → (place : _) → IsErrOf result (OpenReason.NotAJournal place) → pair_of (D.seen first.old) (D.seen second.old) ≡ Err place }
     ensures fault { IsErrOf result OpenReason.DiskFault → Rose (D.disk_faults first.old) (D.disk_faults first.new) ⊎ Rose (D.disk_faults second.old) (D.disk_faults second.new) }
     ensures later_first { D.disk_faults first.old ≤ D.disk_faults first.new }
     ensures later_second { D.disk_faults second.old ≤ D.disk_faults second.new }
-    ensures calm { (IsErrOf result OpenReason.DiskFault → ⊥) → (D.disk_faults first.new ≡ D.disk_faults first.old) × (D.disk_faults second.new ≡ D.disk_faults second.old) }
-    ensures went_first { D.went first.old first.new }
-    ensures went_second { D.went second.old second.new }
+    ensures no_fault { (IsErrOf result OpenReason.DiskFault → ⊥) → (D.disk_faults first.new ≡ D.disk_faults first.old) × (D.disk_faults second.new ≡ D.disk_faults second.old) }
+    ensures calls_advance_first { D.calls_advance first.old first.new }
+    ensures calls_advance_second { D.calls_advance second.old second.new }
 {
     let one = read_front(false, first)?;
     let two = read_front(true, second)?;
@@ -301,30 +301,30 @@ fn read_disks<D: Disk>(
     Ok((counted, !stands))
 }
 
-// Makes sure of a disk, and looks at its head, and at whether it has its first gate.
+// Makes sure of a disk, and looks at its head, and at whether it has its first gate byte.
 fn read_front<D: Disk>(second: bool, disk: &mut D) -> Result<Front, DiskFault>
     ensures front { D.premise → IfOk result (λ front. IsFrontOf second (D.seen disk.old) front) }
     ensures fixed { D.premise → OnOk result (Only (D.seen disk.old) (D.may_leave disk.new)) }
     ensures read { D.premise → IsRead D.seen D.may_leave D.moment D.left_since disk.old disk.new }
     ensures told { TellsAll (D.told disk.old) (D.told disk.new) (Sync ∷ []) }
     ensures later { D.disk_faults disk.old ≤ D.disk_faults disk.new }
-    ensures calm { OnOk result (D.disk_faults disk.new ≡ D.disk_faults disk.old) }
+    ensures no_fault { OnOk result (D.disk_faults disk.new ≡ D.disk_faults disk.old) }
     ensures cause { OnErr result (Rose (D.disk_faults disk.old) (D.disk_faults disk.new)) }
-    ensures went { D.went disk.old disk.new }
+    ensures calls_advance { D.calls_advance disk.old disk.new }
 {
     disk.sync()?;
     look_at(second, disk)
 }
 
-// The front of a disk. Of a disk that stands it looks at the place of its first gate.
+// The front of a disk. Of a disk that stands it looks at the place of its first gate byte.
 fn look_at<D: Disk>(second: bool, disk: &mut D) -> Result<Front, DiskFault>
     ensures front { D.premise → IfOk result (λ front. IsFrontOf second (D.seen disk.old) front) }
     ensures read { D.premise → IsRead D.seen D.may_leave D.moment D.left_since disk.old disk.new }
     ensures told { D.told disk.new ≡ D.told disk.old }
     ensures later { D.disk_faults disk.old ≤ D.disk_faults disk.new }
-    ensures calm { OnOk result (D.disk_faults disk.new ≡ D.disk_faults disk.old) }
+    ensures no_fault { OnOk result (D.disk_faults disk.new ≡ D.disk_faults disk.old) }
     ensures cause { OnErr result (Rose (D.disk_faults disk.old) (D.disk_faults disk.new)) }
-    ensures went { D.went disk.old disk.new }
+    ensures calls_advance { D.calls_advance disk.old disk.new }
 {
     let mut head = [0; 21];
     let count = read_head(disk, &mut head)?;
@@ -353,11 +353,11 @@ fn read_either<D: Disk>(
     ensures told_second { D.told second.new ≡ D.told second.old }
     ensures later_first { D.disk_faults first.old ≤ D.disk_faults first.new }
     ensures later_second { D.disk_faults second.old ≤ D.disk_faults second.new }
-    ensures calm { (IsErrOf result OpenReason.DiskFault → ⊥) → (D.disk_faults first.new ≡ D.disk_faults first.old) × (D.disk_faults second.new ≡ D.disk_faults second.old) }
+    ensures no_fault { (IsErrOf result OpenReason.DiskFault → ⊥) → (D.disk_faults first.new ≡ D.disk_faults first.old) × (D.disk_faults second.new ≡ D.disk_faults second.old) }
     ensures fault { IsErrOf result OpenReason.DiskFault → Rose (D.disk_faults first.old) (D.disk_faults first.new) ⊎ Rose (D.disk_faults second.old) (D.disk_faults second.new) }
     ensures journal { (place : _) → IsErrOf result (OpenReason.NotAJournal place) → ⊥ }
-    ensures went_first { D.went first.old first.new }
-    ensures went_second { D.went second.old second.new }
+    ensures calls_advance_first { D.calls_advance first.old first.new }
+    ensures calls_advance_second { D.calls_advance second.old second.new }
 {
     if is_second {
         read_rest(alloc, second)

@@ -12,7 +12,7 @@ use std::alloc::Global;
 /// The magic with which a disk begins.
 const MAGIC: [u8; 8] = *b"PSCHJRN1";
 
-/// The magic, and an open gate.
+/// The magic, and an open gate byte.
 const OPEN_HEAD: [u8; 9] = *b"PSCHJRN1\x01";
 
 /// The place of the first byte of a snapshot: behind the head, the generation and a length.
@@ -24,9 +24,9 @@ pub struct Counted {
     /// The second disk counts, not the first.
     pub second: bool,
     pub generation: u64,
-    /// The place of the first gate behind the snapshot.
+    /// The place of the first gate byte behind the snapshot.
     pub start: u64,
-    /// The place of the first gate that isn't open.
+    /// The place of the first gate byte that isn't open.
     pub end: u64,
     /// The snapshot, and then the records.
     pub list: Items<Items<u8>>,
@@ -45,7 +45,7 @@ pub struct DiskPlace {
 struct Body<'a> {
     generation: u64,
     snapshot: &'a [u8],
-    gates: &'a [u8],
+    gate_bytes: &'a [u8],
 }
 
 type Read<T> = Result<Result<T, DiskPlace>, Memory>;
@@ -68,7 +68,7 @@ fn agreeing_with(wanted: &[u8], bytes: &[u8]) -> usize
     }
 }
 
-/// The magic and an open gate.
+/// The magic and an open gate byte.
 pub(crate) fn is_standing(bytes: &[u8]) -> bool
     ensures { result ≡ stands bytes.now }
 {
@@ -78,7 +78,7 @@ pub(crate) fn is_standing(bytes: &[u8]) -> bool
 fn read_sized(bytes: &[u8]) -> Option<(&[u8], &[u8])>
     ensures some { IfSome result (λ r. sized bytes.now ≡ Some (r.0.now, r.1.now)) }
     ensures size { IfSome result (λ r. length r.0.now + length r.1.now + 4 ≡ length bytes.now) }
-    ensures gate { IfSome result (λ r. 0 < length r.1.now) }
+    ensures gate_byte { IfSome result (λ r. 0 < length r.1.now) }
     ensures none { IfNone result (sized bytes.now ≡ None) }
 {
     let [a, b, c, d, rest @ ..] = bytes else {
@@ -92,20 +92,20 @@ fn read_sized(bytes: &[u8]) -> Option<(&[u8], &[u8])>
 }
 
 fn read_body(bytes: &[u8]) -> Option<Body<'_>>
-    ensures some { IfSome result (λ body. body_of bytes.now ≡ Some (record { generation = body.generation; snapshot = body.snapshot.now; gates = body.gates.now })) }
-    ensures size { IfSome result (λ body. length body.snapshot.now + length body.gates.now + 12 ≡ length bytes.now) }
-    ensures gate { IfSome result (λ body. 0 < length body.gates.now) }
+    ensures some { IfSome result (λ body. body_of bytes.now ≡ Some (record { generation = body.generation; snapshot = body.snapshot.now; gate_bytes = body.gate_bytes.now })) }
+    ensures size { IfSome result (λ body. length body.snapshot.now + length body.gate_bytes.now + 12 ≡ length bytes.now) }
+    ensures gate_byte { IfSome result (λ body. 0 < length body.gate_bytes.now) }
     ensures none { IfNone result (body_of bytes.now ≡ None) }
 {
     let [a, b, c, d, e, f, g, h, rest @ ..] = bytes else {
         return None;
     };
     let generation = u64::from_be_bytes([*a, *b, *c, *d, *e, *f, *g, *h]);
-    let (snapshot, gates) = read_sized(rest)?;
+    let (snapshot, gate_bytes) = read_sized(rest)?;
     Some(Body {
         generation,
         snapshot,
-        gates,
+        gate_bytes,
     })
 }
 
@@ -115,12 +115,12 @@ fn copy_bytes(alloc: Global, bytes: &[u8]) -> Result<Items<u8>, Memory>
     Ok(Items::from_vec(bytes.to_vec(alloc)?))
 }
 
-// What lies behind an open gate.
-fn behind_open(gates: &[u8]) -> Option<&[u8]>
-    ensures some { IfSome result (λ rest. gates.now ≡ 1 ∷ rest.now) }
-    ensures none { IfNone result (records_of gates.now ≡ Ok []) }
+// What lies behind an open gate byte.
+fn behind_open(gate_bytes: &[u8]) -> Option<&[u8]>
+    ensures some { IfSome result (λ rest. gate_bytes.now ≡ 1 ∷ rest.now) }
+    ensures none { IfNone result (records_of gate_bytes.now ≡ Ok []) }
 {
-    match gates {
+    match gate_bytes {
         [1, rest @ ..] => Some(rest),
         _ => None,
     }
@@ -140,26 +140,26 @@ pub fn item_place(list: &[Items<u8>], index: usize) -> u64
     place
 }
 
-// Adds the records to the list. Answers how many bytes they take, or the place of an open gate that
+// Adds the records to the list. Answers how many bytes they take, or the place of an open gate byte that
 // has no whole record.
 fn read_records(
     alloc: Global,
-    gates: &[u8],
+    gate_bytes: &[u8],
     list: &mut Items<Items<u8>>,
 ) -> Result<Result<usize, usize>, Memory>
-    requires { 0 < length gates.now }
-    ensures walked { IfOk result (λ r. Walked list.old list.new r (records_of gates.now)) }
-    ensures bound { IfOk result (λ r. IsWithin r (length gates.now)) }
+    requires { 0 < length gate_bytes.now }
+    ensures walked { IfOk result (λ r. Walked list.old list.new r (records_of gate_bytes.now)) }
+    ensures bound { IfOk result (λ r. IsWithin r (length gate_bytes.now)) }
 {
-    let mut rest = gates;
+    let mut rest = gate_bytes;
     while let Some(behind) = behind_open(rest) {
         let Some((payload, next)) = read_sized(behind) else {
-            return Ok(Err(gates.len() - rest.len()));
+            return Ok(Err(gate_bytes.len() - rest.len()));
         };
         list.push(copy_bytes(alloc, payload)?)?;
         rest = next;
     }
-    Ok(Ok(gates.len() - rest.len()))
+    Ok(Ok(gate_bytes.len() - rest.len()))
 }
 
 pub(crate) fn disk_number(second: bool) -> u8
@@ -169,15 +169,15 @@ pub(crate) fn disk_number(second: bool) -> u8
 }
 
 fn read_counted(alloc: Global, second: bool, body: Body<'_>) -> Read<Counted>
-    requires size { length body.snapshot.now + length body.gates.now + 21 < 2 ^ 64 }
-    requires gate { 0 < length body.gates.now }
-    ensures counted { IfOk result (λ r. r ≡ counted second (record { generation = body.entry.generation; snapshot = body.entry.snapshot.now; gates = body.entry.gates.now })) }
+    requires size { length body.snapshot.now + length body.gate_bytes.now + 21 < 2 ^ 64 }
+    requires gate_byte { 0 < length body.gate_bytes.now }
+    ensures counted { IfOk result (λ r. r ≡ counted second (record { generation = body.entry.generation; snapshot = body.entry.snapshot.now; gate_bytes = body.entry.gate_bytes.now })) }
     ensures bound { IfOk result (λ r. IfOk r (λ k. (k.end + 1 < 2 ^ 64) × (k.start ≤ k.end))) }
 {
     let mut list = Items::new(alloc);
     list.push(copy_bytes(alloc, body.snapshot)?)?;
     let start = SNAPSHOT_AT + body.snapshot.len() as u64;
-    match read_records(alloc, body.gates, &mut list)? {
+    match read_records(alloc, body.gate_bytes, &mut list)? {
         Ok(bytes) => Ok(Ok(Counted {
             second,
             generation: body.generation,
@@ -192,7 +192,7 @@ fn read_counted(alloc: Global, second: bool, body: Body<'_>) -> Read<Counted>
     }
 }
 
-// Where a disk that doesn't stand isn't the magic and a gate.
+// Where a disk that doesn't stand isn't the magic and a gate byte.
 fn headless_at(second: bool, bytes: &[u8]) -> Option<DiskPlace>
     ensures { result ≡ headless second bytes.now }
 {
@@ -233,10 +233,10 @@ pub(crate) fn read_one(alloc: Global, second: bool, bytes: &[u8]) -> Read<Counte
 /// What the front of a disk says of the pair.
 #[derive(Clone, Copy)]
 pub(crate) enum Front {
-    /// The disk stands: its generation, where it has a whole snapshot and a gate.
+    /// The disk stands: its generation, where it has a whole snapshot and a gate byte.
     Open(Option<u64>),
     /// It doesn't: how many bytes are those of a disk that stands, and where it isn't the magic and a
-    /// gate.
+    /// gate byte.
     Closed(u64, Option<DiskPlace>),
 }
 
@@ -252,7 +252,7 @@ impl Front {
 #[derive(Clone, Copy)]
 pub(crate) struct Numbers {
     pub(crate) generation: u64,
-    /// The place of the first gate.
+    /// The place of the first gate byte.
     pub(crate) start: u64,
 }
 

@@ -16,19 +16,19 @@ use crate::snapshot::HEAD_GATE;
 use ps_disks::disk::Disk;
 use std::mem;
 
-// Which gate stands open.
+// Which gate byte stands open.
 #[derive(Clone, Copy)]
 enum Stood {
     Nothing,
-    // The last gate of the disk that counts, and the place of the next one.
+    // The last gate byte of the disk that counts, and the place of the next one.
     Record(u64),
-    // The head gate of the other disk, and the place of its first gate.
+    // The head gate byte of the other disk, and the place of its first gate byte.
     Snapshot(u64),
 }
 
 impl<D: Disk> Journal<D> {
     /// Takes the journal up after a call that failed: makes sure of both disks, the first one first, and
-    /// then looks at the gate that the call was to open, where it had come so far. Answers whether that
+    /// then looks at the gate byte that the call was to open, where it had come so far. Answers whether that
     /// call was an `append` and its record stands. Takes no memory.
     pub fn reload(&mut self) -> Result<bool, DiskFault>
         requires failed { is_ready self.old.pending ≡ false }
@@ -39,18 +39,18 @@ impl<D: Disk> Journal<D> {
         ensures ready { OnOk result (IsTrue (is_ready self.new.pending)) }
         ensures first { D.premise → IsRead D.seen D.may_leave D.moment D.left_since (first_disk self.old) (first_disk self.new) }
         ensures second { D.premise → IsRead D.seen D.may_leave D.moment D.left_since (second_disk self.old) (second_disk self.new) }
-        // A snapshot that stands has turned the disks over, and left its head gate open.
+        // A snapshot that stands has turned the disks over, and left its head gate byte open.
         ensures shut { OnOk result ((self.new.second ≡ self.old.second → self.new.shut ≡ self.old.shut) × (self.new.second ≡ not self.old.second → self.new.shut ≡ false)) }
         ensures kept { OnErr result (KeepsPlace self.old self.new × (self.new.end ≡ self.old.end)) }
         ensures pending { OnErr result (self.new.pending ≡ self.old.pending) }
         ensures room { self.new.room ≡ self.old.room }
         ensures told_first { OnOk result (TellsAll (D.told (first_disk self.old)) (D.told (first_disk self.new)) (Sync ∷ [])) }
         ensures told_second { OnOk result (TellsAll (D.told (second_disk self.old)) (D.told (second_disk self.new)) (Sync ∷ [])) }
-        ensures told_err { OnErr result (TellsSyncs D.told D.disk_faults D.went (first_disk self.old) (second_disk self.old) (first_disk self.new) (second_disk self.new)) }
+        ensures told_err { OnErr result (TellsSyncs D.told D.disk_faults D.calls_advance (first_disk self.old) (second_disk self.old) (first_disk self.new) (second_disk self.new)) }
         ensures later { (D.disk_faults (first_disk self.old) ≤ D.disk_faults (first_disk self.new)) × (D.disk_faults (second_disk self.old) ≤ D.disk_faults (second_disk self.new)) }
-        ensures calm { OnOk result ((D.disk_faults (first_disk self.new) ≡ D.disk_faults (first_disk self.old)) × (D.disk_faults (second_disk self.new) ≡ D.disk_faults (second_disk self.old))) }
+        ensures no_fault { OnOk result ((D.disk_faults (first_disk self.new) ≡ D.disk_faults (first_disk self.old)) × (D.disk_faults (second_disk self.new) ≡ D.disk_faults (second_disk self.old))) }
         ensures cause { OnErr result (Rose (D.disk_faults (first_disk self.old)) (D.disk_faults (first_disk self.new)) ⊎ Rose (D.disk_faults (second_disk self.old)) (D.disk_faults (second_disk self.new))) }
-        ensures went { WentOn D.went self.old self.new }
+        ensures calls_advance { WentOn D.calls_advance self.old self.new }
     {
         let stood = find_stood(
             self.second,
@@ -83,7 +83,7 @@ impl<D: Disk> Journal<D> {
     }
 }
 
-// Makes sure of both disks, and then finds the gate that stands open.
+// Makes sure of both disks, and then finds the gate byte that stands open.
 fn find_stood<D: Disk>(
     second: bool,
     counting: &mut D,
@@ -98,13 +98,13 @@ fn find_stood<D: Disk>(
     ensures read_other { D.premise → IsRead D.seen D.may_leave D.moment D.left_since other.old other.new }
     ensures told { OnOk result (TellsAll (D.told counting.old) (D.told counting.new) (Sync ∷ [])) }
     ensures told_other { OnOk result (TellsAll (D.told other.old) (D.told other.new) (Sync ∷ [])) }
-    ensures told_err { OnErr result (TellsSyncs D.told D.disk_faults D.went (if second then other.old else counting.old) (if second then counting.old else other.old) (if second then other.new else counting.new) (if second then counting.new else other.new)) }
+    ensures told_err { OnErr result (TellsSyncs D.told D.disk_faults D.calls_advance (if second then other.old else counting.old) (if second then counting.old else other.old) (if second then other.new else counting.new) (if second then counting.new else other.new)) }
     ensures later { D.disk_faults counting.old ≤ D.disk_faults counting.new }
     ensures later_other { D.disk_faults other.old ≤ D.disk_faults other.new }
-    ensures calm { OnOk result ((D.disk_faults counting.new ≡ D.disk_faults counting.old) × (D.disk_faults other.new ≡ D.disk_faults other.old)) }
+    ensures no_fault { OnOk result ((D.disk_faults counting.new ≡ D.disk_faults counting.old) × (D.disk_faults other.new ≡ D.disk_faults other.old)) }
     ensures cause { OnErr result (Rose (D.disk_faults counting.old) (D.disk_faults counting.new) ⊎ Rose (D.disk_faults other.old) (D.disk_faults other.new)) }
-    ensures went { D.went counting.old counting.new }
-    ensures went_other { D.went other.old other.new }
+    ensures calls_advance { D.calls_advance counting.old counting.new }
+    ensures calls_advance_other { D.calls_advance other.old other.new }
 {
     sync_in_order(second, counting, other)?;
     look_at_gate(counting, other, pending, end)
@@ -117,13 +117,13 @@ fn sync_in_order<D: Disk>(second: bool, counting: &mut D, other: &mut D) -> Resu
     ensures read_other { D.premise → IsRead D.seen D.may_leave D.moment D.left_since other.old other.new }
     ensures told { OnOk result (TellsAll (D.told counting.old) (D.told counting.new) (Sync ∷ [])) }
     ensures told_other { OnOk result (TellsAll (D.told other.old) (D.told other.new) (Sync ∷ [])) }
-    ensures told_err { OnErr result (TellsSyncs D.told D.disk_faults D.went (if second then other.old else counting.old) (if second then counting.old else other.old) (if second then other.new else counting.new) (if second then counting.new else other.new)) }
+    ensures told_err { OnErr result (TellsSyncs D.told D.disk_faults D.calls_advance (if second then other.old else counting.old) (if second then counting.old else other.old) (if second then other.new else counting.new) (if second then counting.new else other.new)) }
     ensures later { D.disk_faults counting.old ≤ D.disk_faults counting.new }
     ensures later_other { D.disk_faults other.old ≤ D.disk_faults other.new }
-    ensures calm { OnOk result ((D.disk_faults counting.new ≡ D.disk_faults counting.old) × (D.disk_faults other.new ≡ D.disk_faults other.old)) }
+    ensures no_fault { OnOk result ((D.disk_faults counting.new ≡ D.disk_faults counting.old) × (D.disk_faults other.new ≡ D.disk_faults other.old)) }
     ensures cause { OnErr result (Rose (D.disk_faults counting.old) (D.disk_faults counting.new) ⊎ Rose (D.disk_faults other.old) (D.disk_faults other.new)) }
-    ensures went { D.went counting.old counting.new }
-    ensures went_other { D.went other.old other.new }
+    ensures calls_advance { D.calls_advance counting.old counting.new }
+    ensures calls_advance_other { D.calls_advance other.old other.new }
 {
     if second {
         sync_both(other, counting)
@@ -146,10 +146,10 @@ fn look_at_gate<D: Disk>(
     ensures told_other { D.told other.new ≡ D.told other.old }
     ensures later { D.disk_faults counting.old ≤ D.disk_faults counting.new }
     ensures later_other { D.disk_faults other.old ≤ D.disk_faults other.new }
-    ensures calm { OnOk result ((D.disk_faults counting.new ≡ D.disk_faults counting.old) × (D.disk_faults other.new ≡ D.disk_faults other.old)) }
+    ensures no_fault { OnOk result ((D.disk_faults counting.new ≡ D.disk_faults counting.old) × (D.disk_faults other.new ≡ D.disk_faults other.old)) }
     ensures cause { OnErr result (Rose (D.disk_faults counting.old) (D.disk_faults counting.new) ⊎ Rose (D.disk_faults other.old) (D.disk_faults other.new)) }
-    ensures went { D.went counting.old counting.new }
-    ensures went_other { D.went other.old other.new }
+    ensures calls_advance { D.calls_advance counting.old counting.new }
+    ensures calls_advance_other { D.calls_advance other.old other.new }
 {
     match pending {
         Pending::Record(next) => {

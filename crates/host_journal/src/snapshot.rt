@@ -16,7 +16,7 @@ use crate::pending::Pending;
 use ps_disks::disk::Disk;
 use std::mem;
 
-/// The place of a disk's head gate.
+/// The place of a disk's head gate byte.
 pub const HEAD_GATE: u64 = 8;
 
 impl<D: Disk> Journal<D> {
@@ -54,15 +54,15 @@ impl<D: Disk> Journal<D> {
         ensures place_err { OnErr result ((self.new.generation ≡ self.old.generation) × (self.new.start ≡ self.old.start) × (self.new.end ≡ self.old.end)) }
         // So `reload` never answers that a record stands.
         ensures no_record { OnErr result ((pair : _) → has_record self.new.pending pair ≡ false) }
-        // What is then known of the head gate of the disk that doesn't count.
+        // What is then known of the head gate byte of the disk that doesn't count.
         ensures shut { OnOk result (self.new.shut ≡ false) }
-        ensures shut_err { OnErr result (((self.new.shut ≡ self.old.shut) × TellsFirst D.told D.disk_faults D.went self.old.other self.new.other (close_calls self.old.shut))
-            ⊎ ((self.new.shut ≡ true) × TellsBoth D.told D.disk_faults D.went self.old.other self.new.other (close_calls self.old.shut) (fill_calls (self.old.generation + 1) image.bytes))) }
+        ensures shut_err { OnErr result (((self.new.shut ≡ self.old.shut) × TellsFirst D.told D.disk_faults D.calls_advance self.old.other self.new.other (close_calls self.old.shut))
+            ⊎ ((self.new.shut ≡ true) × TellsBoth D.told D.disk_faults D.calls_advance self.old.other self.new.other (close_calls self.old.shut) (fill_calls (self.old.generation + 1) image.bytes))) }
         ensures told { OnOk result (TellsAll (D.told self.old.other) (D.told self.new.counting) (snapshot_calls self.old.shut (self.old.generation + 1) image.bytes)) }
-        ensures told_first { OnErr result (TellsFirst D.told D.disk_faults D.went self.old.other self.new.other (snapshot_calls self.old.shut (self.old.generation + 1) image.bytes)) }
-        ensures calm { OnOk result (D.disk_faults self.new.counting ≡ D.disk_faults self.old.other) }
+        ensures told_first { OnErr result (TellsFirst D.told D.disk_faults D.calls_advance self.old.other self.new.other (snapshot_calls self.old.shut (self.old.generation + 1) image.bytes)) }
+        ensures no_fault { OnOk result (D.disk_faults self.new.counting ≡ D.disk_faults self.old.other) }
         ensures cause { OnErr result (Rose (D.disk_faults self.old.other) (D.disk_faults self.new.other)) }
-        ensures went { WentOn D.went self.old self.new }
+        ensures calls_advance { WentOn D.calls_advance self.old self.new }
     {
         put_image(&mut self.buffer, self.generation + 1, image);
         self.pending = Pending::Unopened;
@@ -83,18 +83,18 @@ impl<D: Disk> Journal<D> {
     }
 }
 
-// Closes a head gate, if it isn't known to be closed.
+// Closes a head gate byte, if it isn't known to be closed.
 pub(crate) fn close_head<D: Disk>(disk: &mut D, shut: bool) -> Result<(), DiskFault>
     ensures written { D.premise → OnOk result (D.seen disk.new ≡ written 8 (closing shut) (D.seen disk.old)) }
     ensures fixed { D.premise → OnOk result (Only (D.seen disk.new) (D.may_leave disk.new)) }
     ensures images { D.premise → Follows (Torn 8 (length (closing shut))) (D.may_leave disk.old) (D.may_leave disk.new) }
     ensures moments { D.premise → LeavesOnly D.moment D.left_since disk.old disk.new (PartAfter (Torn 8 (length (closing shut))) (D.may_leave disk.old)) }
     ensures told { OnOk result (TellsAll (D.told disk.old) (D.told disk.new) (Write 8 (closing shut) ∷ Sync ∷ [])) }
-    ensures told_first { OnErr result (TellsFirst D.told D.disk_faults D.went disk.old disk.new (Write 8 (closing shut) ∷ Sync ∷ [])) }
+    ensures told_first { OnErr result (TellsFirst D.told D.disk_faults D.calls_advance disk.old disk.new (Write 8 (closing shut) ∷ Sync ∷ [])) }
     ensures later { D.disk_faults disk.old ≤ D.disk_faults disk.new }
-    ensures calm { OnOk result (D.disk_faults disk.new ≡ D.disk_faults disk.old) }
+    ensures no_fault { OnOk result (D.disk_faults disk.new ≡ D.disk_faults disk.old) }
     ensures cause { OnErr result (Rose (D.disk_faults disk.old) (D.disk_faults disk.new)) }
-    ensures went { D.went disk.old disk.new }
+    ensures calls_advance { D.calls_advance disk.old disk.new }
 {
     if shut {
         write_and_sync(disk, HEAD_GATE, &[])

@@ -18,7 +18,7 @@ fn has_record(alloc: Global, pair: Pair, stands: bool) -> Result<bool, Memory> {
     }
 }
 
-// A first gate that is torn to 7, and bytes behind it that are nobody's: two, and ten.
+// A first gate byte that is torn to 7, and bytes behind it that are nobody's: two, and ten.
 const TORN_GATE: [u8; 24] = *b"PSCHJRN1\x01\0\0\0\0\0\0\0\x01\0\0\0\0\x07\x08\x09";
 
 const LONG_TAIL: [u8; 32] =

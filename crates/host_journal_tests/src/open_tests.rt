@@ -14,17 +14,17 @@ use std::alloc::Global;
 use std::process::Abort;
 use std::test::Fail;
 
-// The bytes 01 02, appended to a new pair, its gate torn to 7, which is closed.
+// The bytes 01 02, appended to a new pair, its gate byte torn to 7, which is closed.
 const TORN_GATE: [u8; 29] = *b"PSCHJRN1\x01\0\0\0\0\0\0\0\x01\0\0\0\0\x07\0\0\0\x02\x01\x02\0";
 
-// The same with an open gate, but without the gate behind the record.
+// The same with an open gate byte, but without the gate byte behind the record.
 const NO_GATE: [u8; 28] = *b"PSCHJRN1\x01\0\0\0\0\0\0\0\x01\0\0\0\0\x01\0\0\0\x02\x01\x02";
 
 // A snapshot of ab with generation 1, and two records: none, and 09.
 const TWO_RECORDS: [u8; 34] =
     *b"PSCHJRN1\x01\0\0\0\0\0\0\0\x01\0\0\0\x01\xab\x01\0\0\0\0\x01\0\0\0\x01\x09\0";
 
-// Whether the second disk counts, its generation, the places of its first and of its last gate.
+// Whether the second disk counts, its generation, the places of its first and of its last gate byte.
 type At = (bool, u64, u64, u64);
 
 // First disk, second disk, where the journal is, the list.
@@ -63,7 +63,7 @@ fn has_places_of(journal: &Journal<MemoryDisk>, at: At) -> bool {
         && Some(journal.record_bytes()) == end.checked_sub(start)
 }
 
-// One more append of 03 stands on the disk that counts, at the place of its last gate.
+// One more append of 03 stands on the disk that counts, at the place of its last gate byte.
 fn is_at(journal: Journal<MemoryDisk>, at: At) -> Result<bool, Memory> {
     let mut journal = journal;
     if !has_places_of(&journal, at) || !add(&mut journal, &[3])? {
@@ -86,8 +86,8 @@ fn has_record(journal: Journal<MemoryDisk>, at: At) -> bool {
 
 static RECORD: [u8; 7] = *b"\x01\0\0\0\x01\x03\0";
 
-fn has_record_at(bytes: &[u8], gate: u64) -> bool {
-    match bytes.get(gate as usize..) {
+fn has_record_at(bytes: &[u8], gate_byte: u64) -> bool {
+    match bytes.get(gate_byte as usize..) {
         Some(bytes) => bytes.starts_with(&RECORD),
         None => false,
     }

@@ -113,7 +113,7 @@ fn an_append_that_fails_and_a_reload(rt: HostRuntime) -> Result<(), Fail> {
     check_appends(rt.alloc(), &APPEND_FAULTS)
 }
 
-// The record 01 02, and two bytes behind its last gate that are nobody's.
+// The record 01 02, and two bytes behind its last gate byte that are nobody's.
 const WITH_TAIL: [u8; 31] =
     *b"PSCHJRN1\x01\0\0\0\0\0\0\0\x01\0\0\0\0\x01\0\0\0\x02\x01\x02\0\x08\x09";
 
@@ -143,7 +143,7 @@ fn a_cut_that_fails_and_a_reload(rt: HostRuntime) -> Result<(), Fail> {
 }
 
 // A journal on a new pair of which the calls with these numbers fail, reads counted too. The opening makes
-// three calls on each disk: a sync, a read of the head, and a read of the first gate or, on the second
+// three calls on each disk: a sync, a read of the head, and a read of the first gate byte or, on the second
 // disk, at the end. Then it finds the length of the first disk, which counts, by 17 reads of a byte, and
 // reads it with a read and a read at the end: 22 calls there.
 fn failing(
@@ -164,7 +164,7 @@ fn reloads_with(journal: &mut Journal<MemoryDisk>, stood: bool) -> Result<bool, 
     Ok(!add(journal, &[3])?)
 }
 
-// After an append a sync and the read of one gate: calls 27 and 28.
+// After an append a sync and the read of one gate byte: calls 27 and 28.
 fn append_reads(alloc: Global) -> Result<bool, Memory> {
     match failing(alloc, &[26, 29], &[])? {
         Some(mut journal) => Ok(!add(&mut journal, &[1, 2])? && reloads_with(&mut journal, true)?),

@@ -85,10 +85,10 @@ module _ {D : Type 0} (premise : Type 0) (seen : D → List ℕ) (tells : D → 
   met_in_step mid now ready =
       ⊎_elim (λ lost. absurd (not_empty lost.told.made lost.told.last lost.told.rest (ap sync_calls (sym ready) ∙ lost.told.split))) (λ unkept. unkept)
 
-  module _ (went_refl : (disk : D) → goes disk disk) (went_trans : (a b c : D) → goes a b → goes b c → goes a c) (first second : D) (mid : KeptHost D) (opened : Opened premise seen tells StandsNow first second mid.machine.standing mid.journal) where
+  module _ (calls_advance_refl : (disk : D) → goes disk disk) (calls_advance_trans : (a b c : D) → goes a b → goes b c → goes a c) (first second : D) (mid : KeptHost D) (opened : Opened premise seen tells StandsNow first second mid.machine.standing mid.journal) where
     pub halted_so : is_ready mid.journal.pending ≡ true → (faults (first_disk mid.journal) ≡ faults first) × (faults (second_disk mid.journal) ≡ faults second) → goes first (first_disk mid.journal) × goes second (second_disk mid.journal)
         → (first_now second_now : D) → (now : KeptHost D) × IsFirstFault premise seen tells faults goes clock mid now × (first_now ≡ first_disk now.journal) × (second_now ≡ second_disk now.journal) → Halted premise seen tells faults goes clock first second first_now second_now
-    halted_so ready calm went first_now second_now met =
+    halted_so ready no_fault calls_advance first_now second_now met =
         let now = met.0 in
         let u = met.1 in
         let calls = start_calls u.place u.step u.image in
@@ -100,8 +100,8 @@ module _ {D : Type 0} (premise : Type 0) (seen : D → List ℕ) (tells : D → 
           unkept = u;
           told = subst (λ (d : D). TellsSome tells faults goes first second d second_now (all ++ calls)) (sym met.2)
               (subst (λ (d : D). TellsSome tells faults goes first second (first_disk now.journal) d (all ++ calls)) (sym met.3)
-              (some_later tells faults goes went_refl went_trans first second (first_disk mid.journal) (second_disk mid.journal) (first_disk now.journal) (second_disk now.journal) all calls
-              (record { told = opened.told; calm = calm; went = went })
+              (some_later tells faults goes calls_advance_refl calls_advance_trans first second (first_disk mid.journal) (second_disk mid.journal) (first_disk now.journal) (second_disk now.journal) all calls
+              (record { told = opened.told; no_fault = no_fault; calls_advance = calls_advance })
               (subst (λ (b : Bool). TellsSome tells faults goes (first_disk mid.journal) (second_disk mid.journal) (first_disk now.journal) (second_disk now.journal) (sync_calls b ++ calls)) ready u.told)));
         }
 

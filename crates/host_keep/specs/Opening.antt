@@ -60,7 +60,7 @@ module _ {D : Type 0} (premise : Type 0) (seen : D → List ℕ) (tells : D → 
     pub answered : IsFirstAnswer premise seen tells clock mid now reply
     pub told : TellsPair tells first second (first_disk now.journal) (second_disk now.journal) (opening_calls opened.place opened.image ++ start_calls answered.place answered.step answered.image)
 
-  -- it was refused, or memory was wanting: it made no call of a disk
+  -- it was refused, or memory ran out: it made no call of a disk
   pub record Unstarted (first_now second_now : D) : Type 0 where
     pub mid : KeptHost D
     pub opened : Opened premise seen tells StandsNow first second mid.machine.standing mid.journal

@@ -10,12 +10,12 @@ use crate::call::{HostCall, HostStep};
 use crate::parts::write_snapshot;
 use host_book::book::HostBook;
 use host_codec::record::{law_writable_record, write_record};
+use host_core::decide::decide;
 use host_journal::image::SnapshotImage;
 use host_model::change::Changes;
 use host_model::config::Config;
 use host_model::law::law_step;
 use host_model::reply::{Outcome, Reply};
-use host_core::decide::decide;
 use host_replay::restore::{Restored as RestoredBook, restore};
 use machine_keep::machine::{Decided, Machine, RestoreFault, Restored};
 use ps_time::items::Items;
@@ -71,7 +71,7 @@ const MOST_RECORD_BYTES: usize = 8_388_608;
 const USUAL_RECORD_BYTES: usize = 512;
 
 // The step that makes these changes; none where there are none. One whose record would be longer than a journal takes is refused
-// as want of memory.
+// as out of memory.
 fn step_of(alloc: Global, book: &mut HostBook, kept: Changes) -> Result<Option<HostStep>, Memory>
     requires { changes.Writable kept }
     ensures number { book.new.number ≡ book.old.number }
@@ -190,7 +190,7 @@ impl Machine for Host {
     ) -> Result<Decided<Reply, HostStep>, Memory> {
         law_step();
         law_writable_record();
-        let _ = self.book.rows();
+        let _known = self.book.rows();
         let HostCall { clock, input } = call;
         let moment = self.book.moment().max(clock);
         let Outcome { reply, list } = decide(alloc, &self.config, &self.book, clock, input)?;

@@ -71,16 +71,16 @@ pub fn open<D: Disk>(
     ensures durable { D.premise → IfOk result (λ keep. EachImage D.may_leave keep.journal (StandsFor StandsNow keep.machine.standing)) }
     // At every moment since the disks were handed in.
     ensures any_moment { D.premise → IfOk result (λ keep. (before : Book) × (keep.machine.standing.book ≡ step_book config before clock OpenInput)
-        × IsStarting D.seen D.may_leave D.moment D.left_since D.went config clock first second before (first_disk keep.journal) (second_disk keep.journal)) }
+        × IsStarting D.seen D.may_leave D.moment D.left_since D.calls_advance config clock first second before (first_disk keep.journal) (second_disk keep.journal)) }
     ensures any_moment_err { D.premise → IfErr result (λ f. EachUnlessUndone D.seen D.may_leave D.moment D.left_since first second f.first f.second
         (λ c d. StandsAsBefore StandsNow StoodOnce (pair_of (D.seen first) (D.seen second)) (pair_of c d))
-        ⊎ ((before : Book) × IsStarting D.seen D.may_leave D.moment D.left_since D.went config clock first second before f.first f.second)) }
+        ⊎ ((before : Book) × IsStarting D.seen D.may_leave D.moment D.left_since D.calls_advance config clock first second before f.first f.second)) }
     ensures ready { IfOk result (λ keep. IsTrue (is_ready keep.journal.pending)) }
     // The calls that the disks tell: those of the opening, and then those of the first step. On no premise.
     ensures told { IfOk result (λ keep. Started D.premise D.seen D.told clock first second keep) }
-    ensures told_err { IfErr result (λ f. f.reason ≡ KeepReason.DiskFault → TellsSome D.told D.disk_faults D.went first second f.first f.second (sync_calls false)
-        ⊎ (Unwritten D.premise D.seen D.told D.disk_faults D.went StandsNow first second f.first f.second
-        ⊎ Halted D.premise D.seen D.told D.disk_faults D.went clock first second f.first f.second)) }
+    ensures told_err { IfErr result (λ f. f.reason ≡ KeepReason.DiskFault → TellsSome D.told D.disk_faults D.calls_advance first second f.first f.second (sync_calls false)
+        ⊎ (Unwritten D.premise D.seen D.told D.disk_faults D.calls_advance StandsNow first second f.first f.second
+        ⊎ Halted D.premise D.seen D.told D.disk_faults D.calls_advance clock first second f.first f.second)) }
     ensures told_refused { IfErr result (λ f. (f.reason ≡ KeepReason.DiskFault → ⊥) → TellsPair D.told first second f.first f.second (sync_calls false)
         ⊎ Unstarted D.premise D.seen D.told clock first second f.first f.second) }
     ensures nothing { D.premise → IfErr result (λ f. (place : _) → f.reason ≡ KeepReason.NotAJournal place → (b : Book) → StandsEither StandsNow StoodOnce (record { config = config; book = b }) (pair_of (D.seen first) (D.seen second)) → ⊥) }
@@ -89,10 +89,10 @@ pub fn open<D: Disk>(
     ensures limits { D.premise → IfErr result (λ f. (wrong : _) → f.reason ≡ KeepReason.Limits wrong → (before : Book) × StandsEither StandsNow StoodOnce (record { config = config; book = before }) (pair_of (D.seen first) (D.seen second))
         × (step_reply config before clock OpenInput ≡ Reply.LimitsWrong wrong)) }
     ensures fault { IfErr result (λ f. f.reason ≡ KeepReason.DiskFault → Rose (D.disk_faults first) (D.disk_faults f.first) ⊎ Rose (D.disk_faults second) (D.disk_faults f.second)) }
-    ensures calm { IfOk result (λ keep. (D.disk_faults (first_disk keep.journal) ≡ D.disk_faults first) × (D.disk_faults (second_disk keep.journal) ≡ D.disk_faults second)) }
-    ensures calm_err { IfErr result (λ f. (f.reason ≡ KeepReason.DiskFault → ⊥) → (D.disk_faults f.first ≡ D.disk_faults first) × (D.disk_faults f.second ≡ D.disk_faults second)) }
-    ensures went { IfOk result (λ keep. D.went first (first_disk keep.journal) × D.went second (second_disk keep.journal)) }
-    ensures went_err { IfErr result (λ f. D.went first f.first × D.went second f.second) }
+    ensures no_fault { IfOk result (λ keep. (D.disk_faults (first_disk keep.journal) ≡ D.disk_faults first) × (D.disk_faults (second_disk keep.journal) ≡ D.disk_faults second)) }
+    ensures no_fault_err { IfErr result (λ f. (f.reason ≡ KeepReason.DiskFault → ⊥) → (D.disk_faults f.first ≡ D.disk_faults first) × (D.disk_faults f.second ≡ D.disk_faults second)) }
+    ensures calls_advance { IfOk result (λ keep. D.calls_advance first (first_disk keep.journal) × D.calls_advance second (second_disk keep.journal)) }
+    ensures calls_advance_err { IfErr result (λ f. D.calls_advance first f.first × D.calls_advance second f.second) }
 {
     match Keep::open(alloc, config, first, second) {
         Ok(keep) => begin(alloc, keep, clock),
@@ -132,16 +132,16 @@ fn begin<D: Disk>(
         (LeftIn (stored D.seen keep.journal) (IsMade StandsNow (stored D.seen keep.journal) (started keep.machine.standing.config keep.machine.standing.book clock)) true)) }
     ensures ready { IfOk result (λ k. IsTrue (is_ready k.journal.pending)) }
     ensures answered { IfOk result (λ k. (reply : ReplySeen) × IsFirstAnswer D.premise D.seen D.told clock keep k reply) }
-    ensures halted { IfErr result (λ f. f.reason ≡ KeepReason.DiskFault → (now : KeptHost D) × IsFirstFault D.premise D.seen D.told D.disk_faults D.went clock keep now
+    ensures halted { IfErr result (λ f. f.reason ≡ KeepReason.DiskFault → (now : KeptHost D) × IsFirstFault D.premise D.seen D.told D.disk_faults D.calls_advance clock keep now
         × (f.first ≡ first_disk now.journal) × (f.second ≡ second_disk now.journal)) }
     ensures unmoved { IfErr result (λ f. (f.reason ≡ KeepReason.DiskFault → ⊥) → TellsPair D.told (first_disk keep.journal) (second_disk keep.journal) f.first f.second []) }
     ensures no_place { IfErr result (λ f. (place : _) → f.reason ≡ KeepReason.NotAJournal place → ⊥) }
     ensures limits { IfErr result (λ f. (wrong : _) → f.reason ≡ KeepReason.Limits wrong → step_reply keep.machine.standing.config keep.machine.standing.book clock OpenInput ≡ Reply.LimitsWrong wrong) }
     ensures fault { IfErr result (λ f. f.reason ≡ KeepReason.DiskFault → Rose (D.disk_faults (first_disk keep.journal)) (D.disk_faults f.first) ⊎ Rose (D.disk_faults (second_disk keep.journal)) (D.disk_faults f.second)) }
-    ensures calm { IfOk result (λ k. (D.disk_faults (first_disk k.journal) ≡ D.disk_faults (first_disk keep.journal)) × (D.disk_faults (second_disk k.journal) ≡ D.disk_faults (second_disk keep.journal))) }
-    ensures calm_err { IfErr result (λ f. (f.reason ≡ KeepReason.DiskFault → ⊥) → (D.disk_faults f.first ≡ D.disk_faults (first_disk keep.journal)) × (D.disk_faults f.second ≡ D.disk_faults (second_disk keep.journal))) }
-    ensures went { IfOk result (λ k. D.went (first_disk keep.journal) (first_disk k.journal) × D.went (second_disk keep.journal) (second_disk k.journal)) }
-    ensures went_err { IfErr result (λ f. D.went (first_disk keep.journal) f.first × D.went (second_disk keep.journal) f.second) }
+    ensures no_fault { IfOk result (λ k. (D.disk_faults (first_disk k.journal) ≡ D.disk_faults (first_disk keep.journal)) × (D.disk_faults (second_disk k.journal) ≡ D.disk_faults (second_disk keep.journal))) }
+    ensures no_fault_err { IfErr result (λ f. (f.reason ≡ KeepReason.DiskFault → ⊥) → (D.disk_faults f.first ≡ D.disk_faults (first_disk keep.journal)) × (D.disk_faults f.second ≡ D.disk_faults (second_disk keep.journal))) }
+    ensures calls_advance { IfOk result (λ k. D.calls_advance (first_disk keep.journal) (first_disk k.journal) × D.calls_advance (second_disk keep.journal) (second_disk k.journal)) }
+    ensures calls_advance_err { IfErr result (λ f. D.calls_advance (first_disk keep.journal) f.first × D.calls_advance (second_disk keep.journal) f.second) }
 {
     let mut keep = keep;
     keep.known();

@@ -8,6 +8,7 @@ ghost use Rattle.host_queries.specs.DueKeys.{HasFewArchives, due_of_keys, found_
 use archive_retry::retry::due as is_due;
 use archive_retry::state::ArchiveState;
 use host_book::book::HostBook;
+use ps_lists::tiered_lent::Lent;
 use ps_time::items::Items;
 use ps_time::key::RunKey;
 use ps_time::memory::Memory;
@@ -15,7 +16,6 @@ use ps_time::moment::Moment;
 use run_states::row::RunRow;
 use run_states::rows::Rows;
 use std::alloc::Global;
-use ps_lists::tiered_lent::Lent;
 
 /// Every run and archive that is due at a clock, in seconds since 1970 UTC: by key, then by the archive's position among
 /// those of its task, from 0 on. Rows that aren't live aren't looked at.

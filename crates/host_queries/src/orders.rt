@@ -24,7 +24,7 @@ pub fn orders(
     requires clock { clock ≤ MAX_MOMENT }
     ensures { IfOk result (λ list. list ≡ orders book.now.book clock) }
 {
-    let _ = book.rows();
+    let _known = book.rows();
     let moment = book.moment().max(clock);
     let draft = Draft::new(alloc, book, &config.limits, moment)?;
     let live = book.live_by(alloc, moment)?;

@@ -6,12 +6,12 @@ ghost use Rattle.host_model.specs.declared.change.Changes.{Changes as Record};
 ghost use Rattle.replay_check.specs.ReadChange.{IsReadChange};
 ghost use Rattle.host_replay.specs.Stands.{IsRecord};
 
-use replay_check::record::{law_read_record, take_record};
 use host_book::book::HostBook;
 use host_codec::first::read_first_record;
 use host_codec::record::read_record;
 use host_model::change::Changes;
 use ps_time::memory::Memory;
+use replay_check::record::{law_read_record, take_record};
 use std::alloc::Global;
 
 fn read_of(alloc: Global, second: bool, bytes: &[u8]) -> Result<Option<Changes>, Memory>
@@ -28,7 +28,7 @@ fn read_of(alloc: Global, second: bool, bytes: &[u8]) -> Result<Option<Changes>,
 }
 
 /// Takes the record whose bytes these are, of the second format or of the first, into the book of the host with this number.
-/// False where they are the record of none, or of one that may not follow the book; then, and where memory is wanting, the
+/// False where they are the record of none, or of one that may not follow the book; then, and where memory runs out, the
 /// book is of no use.
 pub fn take_bytes(
     alloc: Global,

@@ -103,7 +103,7 @@ fn restore_either(
 
 /// The book of the host with this number for which a list stands, a snapshot and then records, and in which format. The index that is refused is
 /// that of the first item that is no snapshot of a lawful book, or no record that may follow. A list has a snapshot; without
-/// one the answer is want of memory.
+/// one the answer is out of memory.
 pub fn restore(alloc: Global, number: u16, list: &[Items<u8>]) -> Result<Restored, RestoreFault>
     ensures number { IfOk result (λ r. r.book.number ≡ number) }
     ensures stands { IfOk result (λ r. StandsAs (not r.is_first) number list.now r.book.book) }

@@ -9,8 +9,8 @@ use host_book::book::HostBook;
 use host_book::parts::Parts;
 use host_codec::book::{KeptBook, read_book};
 use host_codec::first::read_first_book;
-use replay_check::book::{is_lawful, law_read_book};
 use ps_time::memory::Memory;
+use replay_check::book::{is_lawful, law_read_book};
 use std::alloc::Global;
 
 fn read_of(alloc: Global, second: bool, bytes: &[u8]) -> Result<Option<KeptBook>, Memory>

@@ -6,13 +6,13 @@ use crate::books::TWO_BOOKINGS;
 use host_codec::book::{BookParts, KeptBook, read_book, write_book};
 use host_codec::record::{read_record, write_record};
 use host_model::change::{Change, Changes};
+use ps_lists::tiered_list::TieredList;
 use ps_time::items::Items;
 use ps_time::key::RunKey;
 use run_states::row::RunRow;
 use run_states::rows::Rows;
 use std::alloc::Global;
 use std::test::Fail;
-use ps_lists::tiered_list::TieredList;
 
 // At the moment 1000 one change: the confirmation of the seventh booking of host 1.
 static CONFIRMED: [u8; 25] = [

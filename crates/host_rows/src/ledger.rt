@@ -15,11 +15,12 @@ ghost use Rattle.host_rows.specs.Closing.{closed_each};
 
 use crate::called::add_called;
 use crate::deadlines::{Deadlines, deadline_of, file_each};
+use crate::live_keys::LiveKeys;
 use crate::staying::{next_purge, sooner, sooner_before};
+use crate::still::is_live;
 use host_timeline::booking::Booking;
 use host_timeline::timeline::Timeline;
-use crate::live_keys::LiveKeys;
-use crate::still::is_live;
+use ps_lists::tiered_lent::Lent;
 use ps_time::items::Items;
 use ps_time::key::RunKey;
 use ps_time::memory::Memory;
@@ -32,7 +33,6 @@ use run_states::rows::Rows;
 use run_states::why::{Closing, Why};
 use std::alloc::Global;
 use std::marker::Model;
-use ps_lists::tiered_lent::Lent;
 
 /// Rows with reserved places, and what is counted over them.
 #[derive(Drop)]
@@ -119,7 +119,7 @@ impl Ledger {
         ensures ascending { IsAscendingRows self.now.list }
         ensures moments { All HasMoments self.now.list }
     {
-        let _ = self.rows.in_order();
+        let _known = self.rows.in_order();
         &self.rows
     }
 
@@ -136,8 +136,8 @@ impl Ledger {
         ensures { IfOk result (λ keys. keys ≡ keys_live_by self.now.number moment self.now.list) }
     {
         let mut keys = self.live.copy(alloc)?;
-        let _ = self.rows.in_order();
-        let _ = self.deadlines.len();
+        let _known = self.rows.in_order();
+        let _known = self.deadlines.len();
         add_called(&mut keys, &self.deadlines, &self.rows, moment)?;
         keys.to_list(alloc)
     }
@@ -148,7 +148,7 @@ impl Ledger {
         ensures ascending { IsAscendingDeadlines self.now.deadlines }
         ensures waits { All (Waits self.now.deadlines) self.now.list }
     {
-        let _ = self.deadlines.len();
+        let _known = self.deadlines.len();
         &self.deadlines
     }
 
@@ -201,8 +201,8 @@ impl Ledger {
         ensures fewer { length self.new.deadlines < length self.old.deadlines }
         ensures room { self.old.room ≤ self.new.room }
     {
-        let _ = self.rows();
-        let _ = self.deadlines();
+        let _known = self.rows();
+        let _known = self.deadlines();
         match self.lapse_of(key, moment) {
             Some((place, closing)) => {
                 self.mark_at(place, key, LifeStep::Close(closing.why), closing.moment);
@@ -335,7 +335,7 @@ impl Ledger {
         ensures rows { self.new.list ≡ put_row self.old.list row }
         ensures room { self.old.room ≤ self.new.room + 1 }
     {
-        let _ = self.rows.in_order();
+        let _known = self.rows.in_order();
         let key = row.key;
         let waits = deadline_of(&row);
         let lives = is_live(&row, self.number);
@@ -384,7 +384,7 @@ impl Ledger {
         ensures rows { self.new.list ≡ change_row (close_row (record { moment = moment; why = Preempted by })) self.old.list key }
         ensures room { self.old.room ≤ self.new.room }
     {
-        let _ = self.rows();
+        let _known = self.rows();
         self.mark(key, LifeStep::Close(Why::Preempted(by)), moment);
     }
 }

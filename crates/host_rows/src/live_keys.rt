@@ -5,14 +5,14 @@ ghost use Rattle.host_rows.specs.LiveKeys.{drop_key, find_own, marked, with_key,
 ghost use Rattle.host_rows.specs.Still.{live_keys};
 
 use crate::still::is_live;
+use ps_lists::tiered_lent::Lent;
+use ps_lists::tiered_list::TieredList;
 use ps_time::items::Items;
 use ps_time::key::RunKey;
 use ps_time::memory::Memory;
 use run_states::row::RunRow;
 use std::alloc::Global;
 use std::marker::Model;
-use ps_lists::tiered_lent::Lent;
-use ps_lists::tiered_list::TieredList;
 
 /// Different keys in ascending order, in places that were reserved.
 #[derive(Drop)]

@@ -14,7 +14,7 @@ use run_states::rows::Rows;
 pub(crate) fn next_purge(rows: &Rows, number: u16) -> Moment
     ensures { All (StaysUntil number rows.now.list result) rows.now.list }
 {
-    let _ = rows.in_order();
+    let _known = rows.in_order();
     let mut next = Moment::MAX;
     for place in 0..rows.len() {
         next = sooner(next, rows, place, number);

@@ -11,12 +11,12 @@ use crate::booking::{Booking, started};
 use crate::lane::{Place, place_of};
 use crate::lent::LentBookings;
 use ps_lists::placed_list::PlacedList;
+use ps_lists::tiered_list::TieredList;
 use ps_time::memory::Memory;
 use ps_time::moment::Moment;
 use std::alloc::Global;
 use std::cmp::Ordering;
 use std::marker::Model;
-use ps_lists::tiered_list::TieredList;
 
 /// Bookings, and their starts in the same order, eight bytes each: a search among starts looks at no booking, and needs a
 /// small part of the memory that bookings take.

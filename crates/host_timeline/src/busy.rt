@@ -7,13 +7,13 @@ ghost use Rattle.host_timeline.specs.Busy.{covers, is_busy, range_places, AreBus
 use crate::booking::Booking;
 use crate::lanes::Lanes;
 use crate::ranges::{Ranges, add_conflicts};
+use ps_lists::tiered_lent::Lent;
 use ps_time::class::{Class, classes_conflict};
 use ps_time::interval::Interval;
 use ps_time::memory::Memory;
 use ps_time::moment::Moment;
 use std::alloc::Global;
 use std::marker::Model;
-use ps_lists::tiered_lent::Lent;
 
 /// What bookings of conflicting classes take, for a normal and for an exclusive run.
 #[derive(Drop)]

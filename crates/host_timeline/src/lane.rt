@@ -149,7 +149,7 @@ impl Lane {
         requires { list_all (reaches earliest from) self.now.list ≡ true }
         ensures { (test : SeenBooking → Bool) → FailsOutside (spans from until) test → IsTrue result → how_many test self.now.list ≡ 0 }
     {
-        let _ = &self.bookings;
+        let _known = &self.bookings;
         !starts_by(until, earliest)
     }
 

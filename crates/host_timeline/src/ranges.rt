@@ -6,14 +6,14 @@ ghost use Rattle.ps_time.specs.Span.{Span};
 ghost use Rattle.host_timeline.specs.Busy.{begin_at, conflicts_begin_at, covers, has_second, pieces, range_places, span_between, takes_beside, with_range, without_range, HavePlacesFor, IsApart, IsCovered};
 
 use crate::lent::LentBookings;
+use ps_lists::tiered_lent::Lent;
+use ps_lists::tiered_list::TieredList;
 use ps_time::class::Class;
 use ps_time::interval::Interval;
 use ps_time::memory::Memory;
 use ps_time::moment::Moment;
 use std::alloc::Global;
 use std::marker::Model;
-use ps_lists::tiered_lent::Lent;
-use ps_lists::tiered_list::TieredList;
 
 /// Ranges of seconds, each maximal, and places that are reserved for more.
 #[derive(Drop)]

@@ -19,6 +19,7 @@ use crate::lanes::Lanes;
 use crate::least_key::{add_conflicts, first_conflict, least_conflict, least_firm, lesser_of};
 use crate::lent::LentBookings;
 use ps_lists::placed_list::PlacedList;
+use ps_lists::tiered_lent::Lent;
 use ps_time::class::Class;
 use ps_time::interval::{Interval, Window};
 use ps_time::items::Items;
@@ -28,7 +29,6 @@ use ps_time::moment::{Length, Moment};
 use ps_time::tiers::Tiers;
 use std::alloc::Global;
 use std::marker::Model;
-use ps_lists::tiered_lent::Lent;
 
 /// The bookings of a host, at most one of a key, and places that are reserved for more.
 #[derive(Drop)]
@@ -103,7 +103,7 @@ impl Timeline {
         ensures same { (second : ℕ) → covers result second ≡ is_busy class self.now.list second }
         ensures apart { IsApart result }
     {
-        let _ = &self.bookings;
+        let _known = &self.bookings;
         self.busy.of(class)
     }
 
@@ -135,7 +135,7 @@ impl Timeline {
         ensures keys { IfOk result (λ keys. keys ≡ keys_of (conflicting class interval.now self.now.list)) }
         ensures ascending { IfOk result (λ keys. IsAscending key_cmp (λ k. k) keys) }
     {
-        let _ = &self.bookings;
+        let _known = &self.bookings;
         let (exclusive, normal) = self.beside(class, interval.start, Some(interval.end));
         let mut keys = Vec::new(alloc);
         add_conflicts(&mut keys, exclusive, class, interval)?;
@@ -153,7 +153,7 @@ impl Timeline {
     ) -> Result<Vec<Booking>, Memory>
         ensures { IfOk result (λ made. made.items ≡ conflicting class interval.now self.now.list) }
     {
-        let _ = &self.bookings;
+        let _known = &self.bookings;
         let keys = self.conflicts(alloc, class, interval)?;
         self.bookings_of(alloc, keys.as_slice())
     }
@@ -169,7 +169,7 @@ impl Timeline {
         ensures least { result ≡ least_key (keys_of (conflicting_after class interval.now after self.now.list)) }
         ensures walk { keys_of (conflicting_after class interval.now after self.now.list) ≡ key_and result (λ key. keys_of (conflicting_after class interval.now (Some key) self.now.list)) }
     {
-        let _ = &self.bookings;
+        let _known = &self.bookings;
         let (exclusive, normal) = self.at_odds(class, interval)?;
         lesser_of(
             least_conflict(exclusive, class, interval, after),
@@ -299,7 +299,7 @@ impl Timeline {
         ensures none { IfNone result (conflicting class interval.now self.now.list ≡ []) }
         ensures ordered { IsAscendingBookings self.now.list }
     {
-        let _ = &self.bookings;
+        let _known = &self.bookings;
         let (exclusive, normal) = self.at_odds(class, interval)?;
         match first_conflict(exclusive, class, interval) {
             Some(key) => Some(key),
@@ -317,7 +317,7 @@ impl Timeline {
         ensures clear { IfNone result (conflicting class interval.now self.now.list ≡ []) }
         ensures decide { IfSome result (λ lanes. Decide class interval.now.start (Some interval.now.end) self.now.list lanes.0 lanes.1) }
     {
-        let _ = &self.bookings;
+        let _known = &self.bookings;
         let from = interval.start;
         let until = Some(interval.end);
         let earliest = self.busy.reach_back(class, from);
@@ -337,7 +337,7 @@ impl Timeline {
         ensures have { Have class from until self.now.list result.0 result.1 }
         ensures decide { Decide class from until self.now.list result.0 result.1 }
     {
-        let _ = &self.bookings;
+        let _known = &self.bookings;
         let earliest = self.busy.reach_back(class, from);
         self.lanes.beside(class, earliest, from, until)
     }

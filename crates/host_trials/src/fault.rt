@@ -1,9 +1,9 @@
 //! Why there is no table.
 
+use host_input_trials::fault::LineFault;
 use ps_time::memory::Memory;
 use std::alloc::{AllocError, AllocFailed};
 use std::io;
-use host_input_trials::fault::LineFault;
 
 /// Why there is no table, or only a part of one.
 #[derive(Clone, Copy)]

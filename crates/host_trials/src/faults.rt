@@ -4,11 +4,11 @@ ghost use Rattle.ps_time.specs.declared.moment.TheConstants.{MAX_MOMENT};
 
 use crate::fault::TableFault;
 use crate::host::{Disks, KeptHost, Outcome};
-use ps_time::moment::Moment;
-use std::alloc::Global;
 use host_input_trials::booking::{a_booking, later};
 use host_input_trials::given::{asked_of, clock_of};
 use host_input_trials::inputs::an_input;
+use ps_time::moment::Moment;
+use std::alloc::Global;
 
 /// A step of a script, and the steps before it.
 #[derive(Clone, Copy)]
@@ -25,7 +25,7 @@ pub(crate) struct Books {
 }
 
 impl Books {
-    /// The letter of what was found.
+    /// The message of what was found.
     pub(crate) fn letter(&self, found: &[u8]) -> char {
         let without = found == self.without.as_slice();
         let with = found == self.with.as_slice();
@@ -113,7 +113,7 @@ fn fault_letter(alloc: Global, step: &Step, call: u64, books: &Books) -> Result<
     }
 }
 
-/// A letter for each call that fails, and one for the call behind the last.
+/// A message for each call that fails, and one for the call behind the last.
 pub(crate) fn fault_letters(
     alloc: Global,
     step: &Step,

@@ -4,6 +4,7 @@ ghost use Rattle.ps_time.specs.declared.moment.TheConstants.{MAX_MOMENT};
 ghost use Rattle.host_model.specs.Conditions.{IsInput};
 
 use crate::fault::TableFault;
+use host_input_trials::config::config;
 use host_journal::image::SnapshotImage;
 use host_keep::call::HostCall;
 use host_keep::host::Host;
@@ -19,7 +20,6 @@ use ps_time::memory::Memory;
 use ps_time::moment::Moment;
 use std::alloc::Global;
 use std::marker::Model;
-use host_input_trials::config::config;
 
 /// The disks of a host, in their order.
 pub(crate) type Disks = (MemoryDisk, MemoryDisk);

@@ -2,6 +2,7 @@
 ghost use Rattle.host_model.specs.Conditions.{IsConfig};
 
 use crate::fault::TableFault;
+use host_input_trials::config::config;
 use host_keep::open::open;
 use host_model::config::Config;
 use ps_disks::disk::Disk;
@@ -11,7 +12,6 @@ use ps_files::folder_rack::FolderRack;
 use std::alloc::Global;
 use std::fs::File;
 use std::println;
-use host_input_trials::config::config;
 
 type Files = (FileDisk<File>, FileDisk<File>);
 

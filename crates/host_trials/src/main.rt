@@ -4,15 +4,15 @@
 //!
 //! - `new` and `again`: the book's moment, and how many rows and epochs it has, of a host on new disks at 1000, and of what its disks
 //!   give at 1010;
-//! - `cut`: a letter for each number of calls from 0 to 11. After so many calls of that first opening a crash tears the second disk.
+//! - `cut`: a message for each number of calls from 0 to 11. After so many calls of that first opening a crash tears the second disk.
 //!   `o` says that the disks open again, with one epoch;
-//! - for each step its name, how many calls that change it it makes of the first disk and of the second, and a letter for each call from
+//! - for each step its name, how many calls that change it it makes of the first disk and of the second, and a message for each call from
 //!   the first to one more than these. That call of each disk fails, and then a run is booked. `b` says that the book is then that
 //!   without the step, and the one that is opened again too, `a` that both are those with it, `=` that all are the same, `?` that it
 //!   is otherwise, and `.` that no fault was met;
 //! - for a last line that asks `open`, the disks are opened again at its clock: its name, the same of the calls of that opening, and
 //!   behind each call that fails the book that they give at an opening 2 seconds later. Then three times, as a crash leaves the writes
-//!   that no sync made sure of dropped, kept, or torn, a letter for each number of calls of the second disk behind which it comes, from
+//!   that no sync made sure of dropped, kept, or torn, a message for each number of calls of the second disk behind which it comes, from
 //!   none to all.
 //!
 //! With a folder as its word it opens the host whose pair of disks lies there, and prints how many rows it has and the generation of

@@ -16,7 +16,7 @@ fn cut_letter(alloc: Global, calls: u64) -> Result<char, TableFault> {
     if epochs == 1 { Ok('o') } else { Ok('?') }
 }
 
-/// A letter for each number of calls.
+/// A message for each number of calls.
 pub(crate) fn cut_letters(alloc: Global) -> Result<String, TableFault> {
     let mut letters = String::new(alloc);
     for calls in 0..CALLS {

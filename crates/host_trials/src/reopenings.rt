@@ -3,10 +3,10 @@
 use crate::fault::TableFault;
 use crate::faults::{Books, Step, book_of, host_before};
 use crate::host::{Disks, KeptHost};
-use ps_disks::image::Image;
-use std::alloc::Global;
 use host_input_trials::booking::later;
 use host_input_trials::given::clock_of;
+use ps_disks::image::Image;
+use std::alloc::Global;
 
 // The disks are opened once more so many seconds later.
 const AGAIN: u64 = 2;
@@ -102,7 +102,7 @@ fn put_crash_letters(
     Ok(())
 }
 
-/// A letter for each call that fails, and one for the call behind the last; then, for each image, one for each number of calls of the
+/// A message for each call that fails, and one for the call behind the last; then, for each image, one for each number of calls of the
 /// second disk behind which a crash comes, from none to all.
 pub(crate) fn opening_letters(
     alloc: Global,

@@ -5,8 +5,8 @@ use crate::faults::{Step, calls_in, fault_letters, next_books};
 use crate::host::KeptHost;
 use crate::openings::cut_letters;
 use crate::reopenings::{calls_of, opening_letters};
-use std::println;
 use host_input_trials::given::{asked_of, name_of};
+use std::println;
 
 fn print_host(rt: &HostRuntime, word: &str, host: &KeptHost) -> Result<(), TableFault> {
     let (moment, rows, epochs) = host.stands();

@@ -101,7 +101,7 @@ fn later_attempt(rule: &Rule, key: RunKey, moment: Moment) -> Option<Attempt>
     requires { moment ≤ MAX_MOMENT }
     ensures { result ≡ fresh_attempt moment rule.now (key.number + 1) }
 {
-    let _ = &rule.anchor;
+    let _known = &rule.anchor;
     match key.number.checked_add(1) {
         Some(from) => fresh_attempt(rule, from, moment),
         None => None,

@@ -1,4 +1,4 @@
--- A configuration that is read has whole numbers alone and is flat, and a refusal hides no want of memory.
+-- A configuration that is read has whole numbers alone and is flat, and a refusal hides no running out of memory.
 use Rattle.std.proofs.Common.{◌≡◌, ◌≢◌, ◌≤◌, ℕ, ℤ, zero, suc, max, pos, negsuc, Bool, true, false, ◌||◌, List, [], Some, Result, Ok, Err, IfErr, OnOk, refl, sym, ap, ◌∙◌, subst, codes, arith}
 use Rattle.serde_json.specs.Data.{Data, null, boolean, number, string, array, object, Items, no_items, item, Members, no_members, member, depth, items_depth, members_depth}
 use Rattle.serde_json.specs.Written.{has_float, items_have_float, members_have_float}
@@ -220,7 +220,7 @@ mutual
 
 -- ---- answers of calls
 
--- want of memory may come in place of any answer, and hides nothing either
+-- out of memory may come in place of any answer, and hides nothing either
 pub answer_told : {A : Type 0} (G : Type 0) (r want : Result A LimitFault) → GivesUnless out_of_memory r want → Gives G want → IfErr r IsTold
 answer_told G (Ok x) want gives known = tt
 answer_told G (Err e) want gives known = λ is. let other : e ≢ out_of_memory = λ same. cc in subst (Gives G) (gives other) known is

@@ -24,7 +24,7 @@ pub fn law_one_kept(limits: &Limits)
         counts.limits,
         counts.applications,
     );
-    let _ = limits.text();
+    let _known = limits.text();
 }
 
 fn law_counted(identifiers: u32, classifiers: u32, limits: u32, applications: u32)

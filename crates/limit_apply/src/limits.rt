@@ -138,7 +138,7 @@ impl Limits {
         ensures value { result ≡ ceiling_of self.now asker.now }
         ensures within { IsPriority result }
     {
-        let _ = &self.priorities;
+        let _known = &self.priorities;
         self.greatest_ceiling(&KnownAsker::new(asker))
     }
 

@@ -144,7 +144,7 @@ impl Lists {
             && fits(self.applications.len())
     }
 
-    /// The configuration. A list of 2^32 entries or more is answered as want of memory.
+    /// The configuration. A list of 2^32 entries or more is answered as out of memory.
     fn counted(self, priorities: Priorities, text: Text) -> Result<Limits, LimitFault>
         requires { config_in text ≡ Ok (config self priorities text) }
         ensures { GivesUnless LimitFault.Memory result (Ok (config self priorities text)) }
@@ -242,7 +242,7 @@ impl Limits {
         }
     }
 
-    /// The configuration of a text that is one's own. So only memory may be wanting.
+    /// The configuration of a text that is one's own. So only memory may be out_of_memory.
     pub fn read_kept(alloc: Global, text: &str) -> Result<Limits, Memory>
         requires { IsLimitsText text.now }
         ensures { IfOk result (λ config. config_in text.now ≡ Ok config) }

@@ -1,4 +1,4 @@
--- Identifiers and classifiers that are read have whole numbers alone and are flat, and a refusal hides no want of memory.
+-- Identifiers and classifiers that are read have whole numbers alone and are flat, and a refusal hides no running out of memory.
 use Rattle.std.proofs.Common.{◌≡◌, ℕ, ℤ, suc, ◌^◌, pos, nat_lt, int_le, ◌&&◌, Bool, true, false, List, [], ◌∷◌, ◌++◌, Option, Some, None, Result, Ok, Err, bytes_eq, refl, sym, ap, ◌∙◌, subst, codes}
 use Rattle.serde_json.specs.Data.{Data, null, boolean, number, string, array, object, Items, no_items, item, Members, unsigned, negative, float}
 use Rattle.ps_json.specs.Answer.{then_with}

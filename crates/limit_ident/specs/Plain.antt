@@ -53,7 +53,7 @@ abbrev mutual
   AreFlat n no_members = Unit {0}
   AreFlat n (member k d ms) = IsFlat n d × AreFlat n ms
 
--- a refusal that holds a fault of JSON doesn't hide want of memory in it
+-- a refusal that holds a fault of JSON doesn't hide out of memory in it
 abbrev pub IsTold : LimitFault → Type 0
 IsTold fault = fault ≢ Json json_memory
 

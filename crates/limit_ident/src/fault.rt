@@ -28,12 +28,12 @@ pub enum LimitFault {
     Empty(Text),
     /// A number of this member is out of its bounds, or a lower bound is above its upper one.
     BadRange(Text),
-    /// Want of memory, which may come in place of any answer.
+    /// Out of memory, which may come in place of any answer.
     Memory,
 }
 
 impl LimitFault {
-    /// The refusal of an empty list, or want of memory for the name.
+    /// The refusal of an empty list, or out of memory for the name.
     pub fn empty(alloc: Global, name: &str) -> LimitFault
         ensures { result ≢ LimitFault.Memory → result ≡ LimitFault.Empty name.now }
     {
@@ -43,7 +43,7 @@ impl LimitFault {
         }
     }
 
-    /// The refusal of this member's bounds, or want of memory for the name.
+    /// The refusal of this member's bounds, or out of memory for the name.
     pub fn bad_range(alloc: Global, name: &str) -> LimitFault
         ensures { result ≢ LimitFault.Memory → result ≡ LimitFault.BadRange name.now }
     {

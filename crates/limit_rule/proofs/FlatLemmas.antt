@@ -1,4 +1,4 @@
--- Limits that are read have whole numbers alone and are flat, and a refusal hides no want of memory.
+-- Limits that are read have whole numbers alone and are flat, and a refusal hides no running out of memory.
 use Rattle.std.proofs.Common.{◌≡◌, ℕ, suc, pos, nat_lt, if◌then◌else◌, false, List, [], Option, Some, None, Result, Ok, Err, refl, sym, ap, ◌∙◌, subst, unsigned_abs, codes}
 use Rattle.serde_json.specs.Data.{Data, null, boolean, number, string, array, object, Members}
 use Rattle.ps_json.specs.Answer.{then_with}

@@ -55,7 +55,7 @@ fn wake_after(rule: &Rule, row: &RunRow) -> Option<Moment>
 fn wake_behind(rule: &Rule, key: RunKey) -> Option<Moment>
     ensures { result ≡ wake_from rule.now (key.number + 1) }
 {
-    let _ = &rule.anchor;
+    let _known = &rule.anchor;
     match key.number.checked_add(1) {
         Some(number) => wake_from(rule, number),
         None => None,

@@ -18,22 +18,22 @@ module _ {R : Type 0} (old new : State DiskState) (result : Result R StepFault) 
   pub armed_meets : (first second : ℕ) → IsArmed (first_disk old) first → IsArmed (second_disk old) second → result ≡ Err disk_fault
       → MeetsFault (first_disk old) (first_disk new) ⊎ MeetsFault (second_disk old) (second_disk new)
   armed_meets first second one two failed =
-      ⊎_elim (λ rose. inl (meets_fault (first_disk old) (first_disk new) first one step.went.0 rose)) (λ rose. inr (meets_fault (second_disk old) (second_disk new) second two step.went.1 rose)) (step.cause failed)
+      ⊎_elim (λ rose. inl (meets_fault (first_disk old) (first_disk new) first one step.calls_advance.0 rose)) (λ rose. inr (meets_fault (second_disk old) (second_disk new) second two step.calls_advance.1 rose)) (step.cause failed)
 
   pub armed_spared : (first second : ℕ) → IsArmed (first_disk old) first → IsArmed (second_disk old) second → (result ≡ Err disk_fault → ⊥)
       → IsSpared (first_disk old) (first_disk new) × IsSpared (second_disk old) (second_disk new)
-  armed_spared first second one two calm =
-      let same = step.calm calm in
-      (spared (first_disk old) (first_disk new) first one step.went.0 same.0, spared (second_disk old) (second_disk new) second two step.went.1 same.1)
+  armed_spared first second one two no_fault =
+      let same = step.no_fault no_fault in
+      (spared (first_disk old) (first_disk new) first one step.calls_advance.0 same.0, spared (second_disk old) (second_disk new) second two step.calls_advance.1 same.1)
 
-  pub calm_lacks : IsArmed (first_disk old) 0 → IsArmed (second_disk old) 0 → result ≡ Err disk_fault → Lacks (first_disk old) (first_disk new) ⊎ Lacks (second_disk old) (second_disk new)
-  calm_lacks one two failed =
+  pub no_fault_lacks : IsArmed (first_disk old) 0 → IsArmed (second_disk old) 0 → result ≡ Err disk_fault → Lacks (first_disk old) (first_disk new) ⊎ Lacks (second_disk old) (second_disk new)
+  no_fault_lacks one two failed =
       ⊎_elim (λ met. inl (none_armed (first_disk old) (first_disk new) one met)) (λ met. inr (none_armed (second_disk old) (second_disk new) two met)) (armed_meets 0 0 one two failed)
     where
       none_armed : (a b : DiskState) → IsArmed a 0 → MeetsFault a b → Lacks a b
-      none_armed a b calm (inl starved) = inl starved
-      none_armed a b calm (inr (inl far)) = inr far
-      none_armed a b calm (inr (inr reached)) = absurd (omega (arith, calm.armed, reached.0))
+      none_armed a b no_fault (inl starved) = inl starved
+      none_armed a b no_fault (inr (inl far)) = inr far
+      none_armed a b no_fault (inr (inr reached)) = absurd (omega (arith, no_fault.armed, reached.0))
 
 -- the calls told since are those that were noted
 pub told_made : (old new : DiskState) (calls : List DiskCall) → new.starved ≡ false → TellsAll (told_calls old) (told_calls new) calls → made_since old new ≡ calls

@@ -60,10 +60,10 @@ module _ {D : Type 0} (told : D → Option (List DiskCall)) where
     subst (TellsAll (told b) (told f)) (sym (second_joined xs ys)) (tells_on (told b) (told d) (told f) (second_calls xs) (second_calls ys) one.1 two.1),
   )
 
-module _ {D : Type 0} (told : D → Option (List DiskCall)) (faults : D → ℕ) (went : D → D → Type 0) (went_refl : (disk : D) → went disk disk) (went_trans : (a b c : D) → went a b → went b c → went a c) where
+module _ {D : Type 0} (told : D → Option (List DiskCall)) (faults : D → ℕ) (calls_advance : D → D → Type 0) (calls_advance_refl : (disk : D) → calls_advance disk disk) (calls_advance_trans : (a b c : D) → calls_advance a b → calls_advance b c → calls_advance a c) where
   -- calls on one of the two disks, up to the one that failed
-  pub some_on : (side : Bool) (one still new : D) (calls : List DiskCall) → TellsFirst told faults went one new calls
-      → TellsSome told faults went (if side then still else one) (if side then one else still) (if side then still else new) (if side then new else still) (all_on side calls)
+  pub some_on : (side : Bool) (one still new : D) (calls : List DiskCall) → TellsFirst told faults calls_advance one new calls
+      → TellsSome told faults calls_advance (if side then still else one) (if side then one else still) (if side then still else new) (if side then new else still) (all_on side calls)
   some_on false one still new calls first = record {
     made = all_on false first.made;
     last = (false, first.failed);
@@ -71,10 +71,10 @@ module _ {D : Type 0} (told : D → Option (List DiskCall)) (faults : D → ℕ)
     split = ap (all_on false) first.split ∙ all_joined false first.made (first.failed ∷ first.rest);
     first_mid = first.mid;
     second_mid = still;
-    before = record { told = tells_counting told false one still first.mid first.made first.before.told; calm = (first.before.calm, refl); went = (first.before.went, went_refl still) };
+    before = record { told = tells_counting told false one still first.mid first.made first.before.told; no_fault = (first.before.no_fault, refl); calls_advance = (first.before.calls_advance, calls_advance_refl still) };
     told = tells_counting told false first.mid still new (first.failed ∷ []) first.told;
     rose = inl first.rose;
-    went = (first.went, went_refl still);
+    calls_advance = (first.calls_advance, calls_advance_refl still);
   }
   some_on true one still new calls first = record {
     made = all_on true first.made;
@@ -83,26 +83,26 @@ module _ {D : Type 0} (told : D → Option (List DiskCall)) (faults : D → ℕ)
     split = ap (all_on true) first.split ∙ all_joined true first.made (first.failed ∷ first.rest);
     first_mid = still;
     second_mid = first.mid;
-    before = record { told = tells_counting told true one still first.mid first.made first.before.told; calm = (refl, first.before.calm); went = (went_refl still, first.before.went) };
+    before = record { told = tells_counting told true one still first.mid first.made first.before.told; no_fault = (refl, first.before.no_fault); calls_advance = (calls_advance_refl still, first.before.calls_advance) };
     told = tells_counting told true first.mid still new (first.failed ∷ []) first.told;
     rose = inr first.rose;
-    went = (went_refl still, first.went);
+    calls_advance = (calls_advance_refl still, first.calls_advance);
   }
 
-  pub some_other : (side : Bool) (counting other new : D) (calls : List DiskCall) → TellsFirst told faults went other new calls
-      → TellsSome told faults went (if side then other else counting) (if side then counting else other) (if side then new else counting) (if side then counting else new) (all_on (not side) calls)
+  pub some_other : (side : Bool) (counting other new : D) (calls : List DiskCall) → TellsFirst told faults calls_advance other new calls
+      → TellsSome told faults calls_advance (if side then other else counting) (if side then counting else other) (if side then new else counting) (if side then counting else new) (all_on (not side) calls)
   some_other false counting other new calls first = some_on true other counting new calls first
   some_other true counting other new calls first = some_on false other counting new calls first
 
-  pub makes_both : (a b c d e f : D) (xs ys : PairCalls) → MakesPair told faults went a b c d xs → MakesPair told faults went c d e f ys → MakesPair told faults went a b e f (xs ++ ys)
+  pub makes_both : (a b c d e f : D) (xs ys : PairCalls) → MakesPair told faults calls_advance a b c d xs → MakesPair told faults calls_advance c d e f ys → MakesPair told faults calls_advance a b e f (xs ++ ys)
   makes_both a b c d e f xs ys one two = record {
     told = tells_both told a b c d e f xs ys one.told two.told;
-    calm = (two.calm.0 ∙ one.calm.0, two.calm.1 ∙ one.calm.1);
-    went = (went_trans a c e one.went.0 two.went.0, went_trans b d f one.went.1 two.went.1);
+    no_fault = (two.no_fault.0 ∙ one.no_fault.0, two.no_fault.1 ∙ one.no_fault.1);
+    calls_advance = (calls_advance_trans a c e one.calls_advance.0 two.calls_advance.0, calls_advance_trans b d f one.calls_advance.1 two.calls_advance.1);
   }
 
   -- all of the first run, and some of the second
-  abbrev pub some_later : (a b c d e f : D) (xs ys : PairCalls) → MakesPair told faults went a b c d xs → TellsSome told faults went c d e f ys → TellsSome told faults went a b e f (xs ++ ys)
+  abbrev pub some_later : (a b c d e f : D) (xs ys : PairCalls) → MakesPair told faults calls_advance a b c d xs → TellsSome told faults calls_advance c d e f ys → TellsSome told faults calls_advance a b e f (xs ++ ys)
   some_later a b c d e f xs ys one two = record {
     made = xs ++ two.made;
     last = two.last;
@@ -113,11 +113,11 @@ module _ {D : Type 0} (told : D → Option (List DiskCall)) (faults : D → ℕ)
     before = makes_both a b c d two.first_mid two.second_mid xs two.made one two.before;
     told = two.told;
     rose = two.rose;
-    went = two.went;
+    calls_advance = two.calls_advance;
   }
 
   -- some of the first run
-  pub some_early : (a b c d : D) (xs ys : PairCalls) → TellsSome told faults went a b c d xs → TellsSome told faults went a b c d (xs ++ ys)
+  pub some_early : (a b c d : D) (xs ys : PairCalls) → TellsSome told faults calls_advance a b c d xs → TellsSome told faults calls_advance a b c d (xs ++ ys)
   some_early a b c d xs ys one = record {
     made = one.made;
     last = one.last;
@@ -128,5 +128,5 @@ module _ {D : Type 0} (told : D → Option (List DiskCall)) (faults : D → ℕ)
     before = one.before;
     told = one.told;
     rose = one.rose;
-    went = one.went;
+    calls_advance = one.calls_advance;
   }

@@ -69,32 +69,32 @@ module _ {D : Type 0} (told : D → Option (List DiskCall)) where
   synced_and_room old mid new calls same all = subst (λ (s : State D). TellsPair told (first_disk old) (second_disk old) (first_disk s) (second_disk s) calls) (sym same) all
 
 -- up to a fault
-module _ {D : Type 0} (told : D → Option (List DiskCall)) (faults : D → ℕ) (went : D → D → Type 0) (went_refl : (disk : D) → went disk disk) (went_trans : (a b c : D) → went a b → went b c → went a c) where
-  pub counting_some : (old new : State D) → KeepsPlace old new → new.other ≡ old.other → (calls : List DiskCall) → TellsFirst told faults went old.counting new.counting calls → TellsSomeIn told faults went old new (all_on old.second calls)
+module _ {D : Type 0} (told : D → Option (List DiskCall)) (faults : D → ℕ) (calls_advance : D → D → Type 0) (calls_advance_refl : (disk : D) → calls_advance disk disk) (calls_advance_trans : (a b c : D) → calls_advance a b → calls_advance b c → calls_advance a c) where
+  pub counting_some : (old new : State D) → KeepsPlace old new → new.other ≡ old.other → (calls : List DiskCall) → TellsFirst told faults calls_advance old.counting new.counting calls → TellsSomeIn told faults calls_advance old new (all_on old.second calls)
   counting_some old new kept same calls some =
-      subst (λ (d : D). TellsSome told faults went (first_disk old) (second_disk old) d (second_disk new) (all_on old.second calls)) (sym (first_so told old new kept same))
-      (subst (λ (d : D). TellsSome told faults went (first_disk old) (second_disk old) (if old.second then old.other else new.counting) d (all_on old.second calls)) (sym (second_so told old new kept same))
-      (some_on told faults went went_refl went_trans old.second old.counting old.other new.counting calls some))
+      subst (λ (d : D). TellsSome told faults calls_advance (first_disk old) (second_disk old) d (second_disk new) (all_on old.second calls)) (sym (first_so told old new kept same))
+      (subst (λ (d : D). TellsSome told faults calls_advance (first_disk old) (second_disk old) (if old.second then old.other else new.counting) d (all_on old.second calls)) (sym (second_so told old new kept same))
+      (some_on told faults calls_advance calls_advance_refl calls_advance_trans old.second old.counting old.other new.counting calls some))
 
   -- in a snapshot, after room was made for it
-  pub turned_some : (old mid new : State D) (image : List ℕ) → SameButRoom old mid → TellsFirst told faults went mid.other new.other (snapshot_calls mid.shut (mid.generation + 1) image) → new.counting ≡ mid.counting → new.second ≡ mid.second
-      → TellsSomeIn told faults went old new (image_calls old (Some image))
+  pub turned_some : (old mid new : State D) (image : List ℕ) → SameButRoom old mid → TellsFirst told faults calls_advance mid.other new.other (snapshot_calls mid.shut (mid.generation + 1) image) → new.counting ≡ mid.counting → new.second ≡ mid.second
+      → TellsSomeIn told faults calls_advance old new (image_calls old (Some image))
   turned_some old mid new image same first counting side =
       let calls = snapshot_calls old.shut (old.generation + 1) image in
-      let first_old : TellsFirst told faults went old.other new.other calls = subst (λ (m : State D). TellsFirst told faults went m.other new.other (snapshot_calls m.shut (m.generation + 1) image)) same first in
+      let first_old : TellsFirst told faults calls_advance old.other new.other calls = subst (λ (m : State D). TellsFirst told faults calls_advance m.other new.other (snapshot_calls m.shut (m.generation + 1) image)) same first in
       let was : new.counting ≡ old.counting = counting ∙ ap (λ (m : State D). m.counting) same in
       let is : new.second ≡ old.second = side ∙ ap (λ (m : State D). m.second) same in
       let one : first_disk new ≡ (if old.second then new.other else old.counting) = ap (λ (b : Bool). if b then new.other else new.counting) is ∙ ap (λ (d : D). if old.second then new.other else d) was in
       let two : second_disk new ≡ (if old.second then old.counting else new.other) = ap (λ (b : Bool). if b then new.counting else new.other) is ∙ ap (λ (d : D). if old.second then d else new.other) was in
-      subst (λ (d : D). TellsSome told faults went (first_disk old) (second_disk old) d (second_disk new) (all_on (not old.second) calls)) (sym one)
-      (subst (λ (d : D). TellsSome told faults went (first_disk old) (second_disk old) (if old.second then new.other else old.counting) d (all_on (not old.second) calls)) (sym two)
-      (some_other told faults went went_refl went_trans old.second old.counting old.other new.other calls first_old))
+      subst (λ (d : D). TellsSome told faults calls_advance (first_disk old) (second_disk old) d (second_disk new) (all_on (not old.second) calls)) (sym one)
+      (subst (λ (d : D). TellsSome told faults calls_advance (first_disk old) (second_disk old) (if old.second then new.other else old.counting) d (all_on (not old.second) calls)) (sym two)
+      (some_other told faults calls_advance calls_advance_refl calls_advance_trans old.second old.counting old.other new.other calls first_old))
 
   -- in the syncs of both disks, or a read behind one
-  pub syncs_some : (first second first_now second_now : D) → TellsSyncs told faults went first second first_now second_now → TellsSome told faults went first second first_now second_now (sync_calls false)
+  pub syncs_some : (first second first_now second_now : D) → TellsSyncs told faults calls_advance first second first_now second_now → TellsSome told faults calls_advance first second first_now second_now (sync_calls false)
   syncs_some first second first_now second_now (inl one) =
-      subst (λ (d : D). TellsSome told faults went first second first_now d (sync_calls false)) (sym one.1)
-      (some_early told faults went went_refl went_trans first second first_now second ((false, Sync) ∷ []) ((true, Sync) ∷ []) (some_on told faults went went_refl went_trans false first second first_now (Sync ∷ []) one.0))
+      subst (λ (d : D). TellsSome told faults calls_advance first second first_now d (sync_calls false)) (sym one.1)
+      (some_early told faults calls_advance calls_advance_refl calls_advance_trans first second first_now second ((false, Sync) ∷ []) ((true, Sync) ∷ []) (some_on told faults calls_advance calls_advance_refl calls_advance_trans false first second first_now (Sync ∷ []) one.0))
   syncs_some first second first_now second_now (inr two) = record {
     made = (false, Sync) ∷ [];
     last = (true, Sync);
@@ -102,10 +102,10 @@ module _ {D : Type 0} (told : D → Option (List DiskCall)) (faults : D → ℕ)
     split = refl;
     first_mid = two.mid;
     second_mid = second;
-    before = record { told = (two.before.told, (tells_none told first second).1); calm = (two.before.calm, refl); went = (two.before.went, went_refl second) };
+    before = record { told = (two.before.told, (tells_none told first second).1); no_fault = (two.before.no_fault, refl); calls_advance = (two.before.calls_advance, calls_advance_refl second) };
     told = (subst (λ (o : Option (List DiskCall)). TellsAll (told two.mid) o []) (sym two.still) (tells_none told two.mid second).0, two.told);
     rose = two.rose;
-    went = (two.went_one, two.went_other);
+    calls_advance = (two.calls_advance_one, two.calls_advance_other);
   }
 
 -- ---- what is found
@@ -148,25 +148,25 @@ four_on : (second : Bool) (end : ℕ) (payload : List ℕ) (rest : PairCalls) �
 four_on second end payload rest = omega arith
 
 -- a fault was met in the record, or in the snapshot behind it
-module _ {D : Type 0} (told : D → Option (List DiskCall)) (faults : D → ℕ) (went : D → D → Type 0) (went_refl : (disk : D) → went disk disk) (went_trans : (a b c : D) → went a b → went b c → went a c)
+module _ {D : Type 0} (told : D → Option (List DiskCall)) (faults : D → ℕ) (calls_advance : D → D → Type 0) (calls_advance_refl : (disk : D) → calls_advance disk disk) (calls_advance_trans : (a b c : D) → calls_advance a b → calls_advance b c → calls_advance a c)
     (old mid : State D) (same : SameButRoom old mid) (payload : List ℕ) where
-  pub kept_early : (new : State D) → TellsSomeIn told faults went mid new (record_calls mid (Some payload)) → TellsSomeIn told faults went old new (kept_calls old (Some payload) None)
+  pub kept_early : (new : State D) → TellsSomeIn told faults calls_advance mid new (record_calls mid (Some payload)) → TellsSomeIn told faults calls_advance old new (kept_calls old (Some payload) None)
   kept_early new some =
-      some_early told faults went went_refl went_trans (first_disk old) (second_disk old) (first_disk new) (second_disk new) (record_calls old (Some payload)) []
-      (subst (λ (m : State D). TellsSome told faults went (first_disk m) (second_disk m) (first_disk new) (second_disk new) (record_calls m (Some payload))) same some)
+      some_early told faults calls_advance calls_advance_refl calls_advance_trans (first_disk old) (second_disk old) (first_disk new) (second_disk new) (record_calls old (Some payload)) []
+      (subst (λ (m : State D). TellsSome told faults calls_advance (first_disk m) (second_disk m) (first_disk new) (second_disk new) (record_calls m (Some payload))) same some)
 
-  abbrev pub kept_late : (turned new : State D) → KeepsPlace mid turned → MakesPair told faults went (first_disk mid) (second_disk mid) (first_disk turned) (second_disk turned) (record_calls mid (Some payload))
-      → (image : List ℕ) → TellsSomeIn told faults went turned new (image_calls turned (Some image)) → TellsSomeIn told faults went old new (kept_calls old (Some payload) (Some image))
+  abbrev pub kept_late : (turned new : State D) → KeepsPlace mid turned → MakesPair told faults calls_advance (first_disk mid) (second_disk mid) (first_disk turned) (second_disk turned) (record_calls mid (Some payload))
+      → (image : List ℕ) → TellsSomeIn told faults calls_advance turned new (image_calls turned (Some image)) → TellsSomeIn told faults calls_advance old new (kept_calls old (Some payload) (Some image))
   kept_late turned new kept all image more =
-      some_later told faults went went_refl went_trans (first_disk old) (second_disk old) (first_disk turned) (second_disk turned) (first_disk new) (second_disk new) (record_calls old (Some payload)) (image_calls old (Some image))
-      (subst (λ (m : State D). MakesPair told faults went (first_disk m) (second_disk m) (first_disk turned) (second_disk turned) (record_calls m (Some payload))) same all)
-      (subst (TellsSome told faults went (first_disk turned) (second_disk turned) (first_disk new) (second_disk new)) (images_same old mid turned same kept (Some image)) more)
+      some_later told faults calls_advance calls_advance_refl calls_advance_trans (first_disk old) (second_disk old) (first_disk turned) (second_disk turned) (first_disk new) (second_disk new) (record_calls old (Some payload)) (image_calls old (Some image))
+      (subst (λ (m : State D). MakesPair told faults calls_advance (first_disk m) (second_disk m) (first_disk turned) (second_disk turned) (record_calls m (Some payload))) same all)
+      (subst (TellsSome told faults calls_advance (first_disk turned) (second_disk turned) (first_disk new) (second_disk new)) (images_same old mid turned same kept (Some image)) more)
 
   -- behind the record
-  pub late_behind : (turned new : State D) (kept : KeepsPlace mid turned) (all : MakesPair told faults went (first_disk mid) (second_disk mid) (first_disk turned) (second_disk turned) (record_calls mid (Some payload)))
-      → (image : List ℕ) (more : TellsSomeIn told faults went turned new (image_calls turned (Some image))) → 4 ≤ length (kept_late turned new kept all image more).made
+  pub late_behind : (turned new : State D) (kept : KeepsPlace mid turned) (all : MakesPair told faults calls_advance (first_disk mid) (second_disk mid) (first_disk turned) (second_disk turned) (record_calls mid (Some payload)))
+      → (image : List ℕ) (more : TellsSomeIn told faults calls_advance turned new (image_calls turned (Some image))) → 4 ≤ length (kept_late turned new kept all image more).made
   late_behind turned new kept all image more =
-      four_on old.second old.end payload (subst (TellsSome told faults went (first_disk turned) (second_disk turned) (first_disk new) (second_disk new)) (images_same old mid turned same kept (Some image)) more).made
+      four_on old.second old.end payload (subst (TellsSome told faults calls_advance (first_disk turned) (second_disk turned) (first_disk new) (second_disk new)) (images_same old mid turned same kept (Some image)) more).made
 
 module _ {D : Type 0} (old mid turned : State D) (same : SameButRoom old mid) (payload : List ℕ) (kept : KeepsPlace mid turned) (longer : turned.end ≡ mid.end + 5 + length payload) where
   start_same : turned.start ≡ old.start
@@ -224,16 +224,16 @@ module _ {D S : Type 0} (premise : Type 0) (seen : D → List ℕ) (told : D →
   }
 
 -- a fault was met in the snapshot that an opening makes
-pub unwritten_so : {D S : Type 0} (premise : Type 0) (seen : D → List ℕ) (told : D → Option (List DiskCall)) (faults : D → ℕ) (went : D → D → Type 0) (went_refl : (disk : D) → went disk disk) (went_trans : (a b c : D) → went a b → went b c → went a c) (stands : List (List ℕ) → S → Type 0) (first second : D) (journal : State D)
-    → IsRead premise seen first second journal → MakesPair told faults went first second (first_disk journal) (second_disk journal) (sync_calls false) → (first_now second_now : D)
-    → (s : S) × (image : List ℕ) × stands (image ∷ []) s × TellsSome told faults went (first_disk journal) (second_disk journal) first_now second_now (image_calls journal (Some image)) → Unwritten premise seen told faults went stands first second first_now second_now
-unwritten_so premise seen told faults went went_refl went_trans stands first second journal read synced first_now second_now met = record {
+pub unwritten_so : {D S : Type 0} (premise : Type 0) (seen : D → List ℕ) (told : D → Option (List DiskCall)) (faults : D → ℕ) (calls_advance : D → D → Type 0) (calls_advance_refl : (disk : D) → calls_advance disk disk) (calls_advance_trans : (a b c : D) → calls_advance a b → calls_advance b c → calls_advance a c) (stands : List (List ℕ) → S → Type 0) (first second : D) (journal : State D)
+    → IsRead premise seen first second journal → MakesPair told faults calls_advance first second (first_disk journal) (second_disk journal) (sync_calls false) → (first_now second_now : D)
+    → (s : S) × (image : List ℕ) × stands (image ∷ []) s × TellsSome told faults calls_advance (first_disk journal) (second_disk journal) first_now second_now (image_calls journal (Some image)) → Unwritten premise seen told faults calls_advance stands first second first_now second_now
+unwritten_so premise seen told faults calls_advance calls_advance_refl calls_advance_trans stands first second journal read synced first_now second_now met = record {
   place = journal;
   read = read;
   state = met.0;
   image = met.1;
   alone = met.2;
-  told = some_later told faults went went_refl went_trans first second (first_disk journal) (second_disk journal) first_now second_now (sync_calls false) (image_calls journal (Some met.1)) synced met.3;
+  told = some_later told faults calls_advance calls_advance_refl calls_advance_trans first second (first_disk journal) (second_disk journal) first_now second_now (sync_calls false) (image_calls journal (Some met.1)) synced met.3;
 }
 
 -- or it was refused, and nothing was written

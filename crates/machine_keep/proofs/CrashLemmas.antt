@@ -18,7 +18,7 @@ use Rattle.machine_keep.specs.Faulted.{seen_on}
 use Rattle.machine_keep.specs.Kept.{StandsFor, is_many}
 use Rattle.machine_keep.proofs.KeepLemmas.{with_step}
 
--- a step that stops at its fifth call or later is kept, and one that stops earlier where its gate is open
+-- a step that stops at its fifth call or later is kept, and one that stops earlier where its gate byte is open
 late_or : (a b : Bool) → b ≡ true → a || b ≡ true
 late_or true b is = refl
 late_or false b is = is

@@ -27,7 +27,7 @@ use Rattle.host_journal.proofs.TurnLemmas.{turned_in}
 use Rattle.machine_keep.specs.Calls.{PairCalls, all_on, first_calls, kept_calls, second_calls, sync_calls}
 use Rattle.machine_keep.specs.Course.{IsBehindRecord, IsDue, Leaves}
 use Rattle.machine_keep.specs.Faulted.{BrokenInMemory, Faulted, left_now, seen_on, state_before, wanted_calls}
-use Rattle.machine_keep.specs.Kept.{Kept, StandsBut, StandsFor, after_step}
+use Rattle.machine_keep.specs.Kept.{Kept, StandsExcept, StandsFor, after_step}
 use Rattle.machine_keep.specs.Stopped.{StopsAt, are_too_far, noted_as, with_calls}
 use Rattle.machine_keep.proofs.KeepLemmas.{with_step}
 use Rattle.machine_keep.proofs.StoppedLemmas.{stopped_at}
@@ -66,7 +66,7 @@ module _ (generation start end : ℕ) (list : List (List ℕ)) (payload c : List
   abbrev pub next : ℕ
   next = end + 5 + length payload
 
-  -- with the record behind its gate, and with the gate opened
+  -- with the record behind its gate byte, and with the gate byte opened
   abbrev pub put : List ℕ
   put = written (end + 1) piece c
 
@@ -390,24 +390,24 @@ module _ {M S C R T : Type 0} (state : M → S) (stands : List (List ℕ) → S 
         let both : which payload stood (stored seen_on old.journal) ≡ which payload (nat_lt 3 (made + 1)) (stored seen_on old.journal) = sym found ∙ stored_so (omega (arith, early)) in
         which_one payload _ stood (nat_lt 3 (made + 1)) (sym (ap (which payload stood) is_counted) ∙ (both ∙ ap (which payload (nat_lt 3 (made + 1))) is_counted))
 
-    late_stands : (o : Option T) → new.unsure ≡ o → o ≡ None → StandsBut stands bytes (state new.machine) new.journal.pending (stored seen_on new.journal) new.unsure → StandsFor stands (state new.machine) (stored seen_on new.journal)
-    late_stands None is none but = subst (StandsBut stands bytes (state new.machine) new.journal.pending (stored seen_on new.journal)) is but
-    late_stands (Some t) is none but = absurd (cc none)
+    late_stands : (o : Option T) → new.unsure ≡ o → o ≡ None → StandsExcept stands bytes (state new.machine) new.journal.pending (stored seen_on new.journal) new.unsure → StandsFor stands (state new.machine) (stored seen_on new.journal)
+    late_stands None is none except_unsure = subst (StandsExcept stands bytes (state new.machine) new.journal.pending (stored seen_on new.journal)) is except_unsure
+    late_stands (Some t) is none except_unsure = absurd (cc none)
 
-    stands_so : (b : Bool) → (made < 10) ⊎ (10 ≤ made) → b ≡ nat_lt 3 (made + 1) → StandsBut stands bytes (state new.machine) new.journal.pending (stored seen_on new.journal) new.unsure → StandsFor stands (if b then after before step else before) (stored seen_on new.journal)
-    stands_so b (inl most) is but =
+    stands_so : (b : Bool) → (made < 10) ⊎ (10 ≤ made) → b ≡ nat_lt 3 (made + 1) → StandsExcept stands bytes (state new.machine) new.journal.pending (stored seen_on new.journal) new.unsure → StandsFor stands (if b then after before step else before) (stored seen_on new.journal)
+    stands_so b (inl most) is except_unsure =
         subst (StandsFor stands (if b then after before step else before)) (sym (stored_so most ∙ ap (λ (x : Bool). which payload x (stored seen_on old.journal)) (sym is))) (stands_which b)
-    stands_so b (inr late) is but =
+    stands_so b (inr late) is except_unsure =
         let yes : nat_lt 3 (made + 1) ≡ true = late_test made late in
         let left = late_so (omega (arith, late)) in
         subst (λ (x : Bool). StandsFor stands (if x then after before step else before) (stored seen_on new.journal)) (sym (is ∙ yes))
-        (subst (λ (s : S). StandsFor stands s (stored seen_on new.journal)) left.0 (late_stands new.unsure refl left.1 but))
+        (subst (λ (s : S). StandsFor stands s (stored seen_on new.journal)) left.0 (late_stands new.unsure refl left.1 except_unsure))
 
     near_or_far : (made < 10) ⊎ (10 ≤ made)
     near_or_far = cases_lt made 10
 
-    faulted_so : StandsBut stands bytes (state new.machine) new.journal.pending (stored seen_on new.journal) new.unsure → Faulted state stands bytes answers follows after first second old new call broken
-    faulted_so but = record {
+    faulted_so : StandsExcept stands bytes (state new.machine) new.journal.pending (stored seen_on new.journal) new.unsure → Faulted state stands bytes answers follows after first second old new call broken
+    faulted_so except_unsure = record {
       step = step;
       is_step = is_step;
       number = made + 1;
@@ -415,7 +415,7 @@ module _ {M S C R T : Type 0} (state : M → S) (stands : List (List ℕ) → S 
       place = stops.place ∙ ap Some at_number;
       unsure = λ early. let left = early_so (omega (arith, early)) in (left.0, left.1, record_so (omega (arith, early)));
       taken = λ late. late_so (omega (arith, late));
-      stands_for = stands_so (nat_lt 3 (made + 1)) near_or_far refl but;
+      stands_for = stands_so (nat_lt 3 (made + 1)) near_or_far refl except_unsure;
       reads_as = λ most. stored_so (omega (arith, most));
       turned = λ late image is small_image fits. turned_so (omega (arith, late)) image is small_image fits;
     }
@@ -424,15 +424,15 @@ module _ {M S C R T : Type 0} (state : M → S) (stands : List (List ℕ) → S 
         at_number = omega (arith, broken.synced)
 
   -- a step that met a fault makes a change
-  pub faulted : StandsBut stands bytes (state new.machine) new.journal.pending (stored seen_on new.journal) new.unsure → Faulted state stands bytes answers follows after first second old new call broken
-  faulted but = by_step broken.unkept.step refl
+  pub faulted : StandsExcept stands bytes (state new.machine) new.journal.pending (stored seen_on new.journal) new.unsure → Faulted state stands bytes answers follows after first second old new call broken
+  faulted except_unsure = by_step broken.unkept.step refl
     where
       none_made : (image : Option (List ℕ)) → IsDue stands (after_step after before None) place None image → length (kept_calls place None image) ≡ 0
       none_made None due = refl
       none_made (Some image) due = absurd due
 
       by_step : (o : Option T) → broken.unkept.step ≡ o → Faulted state stands bytes answers follows after first second old new call broken
-      by_step (Some step) is = faulted_so step is but
+      by_step (Some step) is = faulted_so step is except_unsure
       by_step None is =
           let none = none_made broken.unkept.image (subst (λ (o : Option T). IsDue stands (after_step after before o) place (option_map bytes o) broken.unkept.image) is broken.unkept.due) in
           let some : made < length (kept_calls place None broken.unkept.image) = subst (λ (o : Option T). made < length (kept_calls place (option_map bytes o) broken.unkept.image)) is few in

@@ -22,7 +22,7 @@ use Rattle.host_journal.proofs.HeadLemmas.{aside_below, closed_same}
 use Rattle.host_journal.proofs.PairLemmas.{counts_as, pair_whole}
 use Rattle.machine_keep.specs.Calls.{PairCalls, all_on, first_calls, kept_calls, second_calls, sync_calls}
 use Rattle.machine_keep.specs.Course.{IsBehindRecord}
-use Rattle.machine_keep.specs.FaultLeft.{IsWithinReach, LeftAgain, LeftStill, keeps_faulted, left_of_fault, loose_image, turns_faulted}
+use Rattle.machine_keep.specs.FaultLeft.{IsWithinReach, LeftAgain, LeftStill, keeps_faulted, left_of_fault, unsynced_image, turns_faulted}
 use Rattle.machine_keep.specs.Faulted.{BrokenInMemory, Faulted, left_now, seen_on, wanted_calls}
 use Rattle.machine_keep.specs.Kept.{Kept}
 use Rattle.machine_keep.specs.Stopped.{IsStopped, StopsAt, are_too_far, noted_as, with_calls}
@@ -263,7 +263,7 @@ module _ (generation start end : ℕ) (list : List (List ℕ)) (payload c : List
         let nine : length cut_it ≡ 9 = cut_long generation start end list payload c small whole second shut image d aside in
         closed_same cut_it (written 9 half cut_it) is_cut_it (torn_front 9 9 (length half) cut_it (written 9 half cut_it) torn (omega arith) (omega (arith, nine))) (omega (arith, torn.no_shorter, nine))
 
-    -- half of the write that closes a head gate is none
+    -- half of the write that closes a head gate byte is none
     half_closing : (b : Bool) → written 8 (take (length (closing b) / 2) (closing b)) d ≡ d
     half_closing true = refl
     half_closing false = refl
@@ -292,7 +292,7 @@ module _ (generation start end : ℕ) (list : List (List ℕ)) (payload c : List
     is_beside (suc (suc (suc (suc (suc zero))))) few Torn = inl is_filled_it
     is_beside (suc (suc (suc (suc (suc (suc made)))))) few i = absurd (omega (arith, few))
 
-    -- behind the write of its head gate
+    -- behind the write of its head gate byte
     at_head : (i : Image) → generation + 1 < 2 ^ 64 → length image < 2 ^ 32
         → pair_in second gated_it (other_image 6 i) ≡ (if is_new i then counts_as (not second) (generation + 1) (gates_at image) (gates_at image) (image ∷ []) else which payload true (counts_as second generation start end list))
     at_head Old fits small_image = pair_has true second gated_it filled_it has_record_now (inl is_filled_it)
@@ -307,7 +307,7 @@ module _ (generation start end : ℕ) (list : List (List ℕ)) (payload c : List
 
   in_record_left : (second : Bool) (d : List ℕ) → IsBelow second generation d → (made : ℕ) → made < 4 → (one two : Image)
       → pair_left second made (all_on second (append_calls end payload) ++ []) d one two
-      ≡ which payload (keeps_faulted (made + 1) (loose_image (made + 1) second one two)) (counts_as second generation start end list)
+      ≡ which payload (keeps_faulted (made + 1) (unsynced_image (made + 1) second one two)) (counts_as second generation start end list)
   in_record_left false d below zero few one two = pair_has (keeps_faulted 1 one) false (counting_image 0 one) d (is_counting 0 few one) below
   in_record_left false d below (suc zero) few one two = pair_has (keeps_faulted 2 one) false (counting_image 1 one) d (is_counting 1 few one) below
   in_record_left false d below (suc (suc zero)) few one two = pair_has (keeps_faulted 3 one) false (counting_image 2 one) d (is_counting 2 few one) below
@@ -321,8 +321,8 @@ module _ (generation start end : ℕ) (list : List (List ℕ)) (payload c : List
 
   in_snapshot_left : (second shut : Bool) (image d : List ℕ) → IsAside second generation shut d → (made : ℕ) → 4 ≤ made → made < 11 → (10 ≤ made → (length image < 2 ^ 32) × (generation + 1 < 2 ^ 64)) → (one two : Image)
       → pair_left second made (all_on second (append_calls end payload) ++ all_on (not second) (snapshot_calls shut (generation + 1) image)) d one two
-      ≡ (if turns_faulted (made + 1) (loose_image (made + 1) second one two) then counts_as (not second) (generation + 1) (gates_at image) (gates_at image) (image ∷ [])
-      else which payload (keeps_faulted (made + 1) (loose_image (made + 1) second one two)) (counts_as second generation start end list))
+      ≡ (if turns_faulted (made + 1) (unsynced_image (made + 1) second one two) then counts_as (not second) (generation + 1) (gates_at image) (gates_at image) (image ∷ [])
+      else which payload (keeps_faulted (made + 1) (unsynced_image (made + 1) second one two)) (counts_as second generation start end list))
   in_snapshot_left false shut image d aside zero some few reach one two = absurd (omega (arith, some))
   in_snapshot_left false shut image d aside (suc zero) some few reach one two = absurd (omega (arith, some))
   in_snapshot_left false shut image d aside (suc (suc zero)) some few reach one two = absurd (omega (arith, some))
@@ -385,15 +385,15 @@ module _ (s : State DiskState) (ready_now : is_ready s.pending ≡ true) (sound 
         ∙ ap (λ (b : List ℕ). pair_of (images_of (if s.second then seen_on s.other else seen_on s.counting) (first_calls (take made calls)) (first_calls (take 1 (drop made calls))) one) (images_of b (second_calls (take made calls)) (second_calls (take 1 (drop made calls))) two)) (seen_second s)
 
     laid_left : (snapshot : Option (List ℕ)) (made : ℕ) → made < length (kept_calls s (Some payload) snapshot) → IsBehindRecord snapshot made → IsWithinReach (made + 1) s.generation snapshot → (one two : Image)
-        → left_after made (kept_calls s (Some payload) snapshot) one two ≡ left_of_fault (stored seen_on s) s payload snapshot (made + 1) (loose_image (made + 1) s.second one two)
+        → left_after made (kept_calls s (Some payload) snapshot) one two ≡ left_of_fault (stored seen_on s) s payload snapshot (made + 1) (unsynced_image (made + 1) s.second one two)
     laid_left None made few behind reach one two =
         in_order_left made (kept_calls s (Some payload) None) one two
         ∙ (in_record_left s.generation s.start s.end list_now payload (seen_on s.counting) small whole_now s.second (seen_on s.other) (aside_below s.second s.generation s.shut (seen_on s.other) (is_aside s ready_now sound payload small)) made few one two
-        ∙ ap (which payload (keeps_faulted (made + 1) (loose_image (made + 1) s.second one two))) stored_now)
+        ∙ ap (which payload (keeps_faulted (made + 1) (unsynced_image (made + 1) s.second one two))) stored_now)
     laid_left (Some image) made few behind reach one two =
         in_order_left made (kept_calls s (Some payload) (Some image)) one two
         ∙ (in_snapshot_left s.generation s.start s.end list_now payload (seen_on s.counting) small whole_now s.second s.shut image (seen_on s.other) (is_aside s ready_now sound payload small) made behind few (λ late. reach (omega (arith, late))) one two
-        ∙ ap (λ (p : Result Counted DiskPlace). if turns_faulted (made + 1) (loose_image (made + 1) s.second one two) then snapshot_of image s else which payload (keeps_faulted (made + 1) (loose_image (made + 1) s.second one two)) p) stored_now)
+        ∙ ap (λ (p : Result Counted DiskPlace). if turns_faulted (made + 1) (unsynced_image (made + 1) s.second one two) then snapshot_of image s else which payload (keeps_faulted (made + 1) (unsynced_image (made + 1) s.second one two)) p) stored_now)
 
 -- ---- what is left of a step
 module _ {M S C R T : Type 0} (state : M → S) (stands : List (List ℕ) → S → Type 0) (bytes : T → List ℕ) (answers : S → C → R → Option T → Type 0) (follows : S → T → Type 0) (after : S → T → S)
@@ -470,13 +470,13 @@ module _ {M S C R T : Type 0} (state : M → S) (stands : List (List ℕ) → S 
 
   module _ (reach : IsWithinReach faulted.number place.generation broken.unkept.image) where
     each_left : (one two : Image) → pair_of (image_bytes one (first_disk new.journal).history) (image_bytes two (second_disk new.journal).history)
-        ≡ left_of_fault (stored seen_on old.journal) place payload broken.unkept.image faulted.number (loose_image faulted.number place.second one two)
+        ≡ left_of_fault (stored seen_on old.journal) place payload broken.unkept.image faulted.number (unsynced_image faulted.number place.second one two)
     each_left one two =
         ap (λ (l : List ℕ). pair_of l (image_bytes two (second_disk new.journal).history)) (first_left one)
         ∙ (ap (pair_of (images_of (seen_on (first_disk place)) (first_calls (take made kept)) (first_calls (take 1 (drop made kept))) one)) (second_left two)
         ∙ (laid_left place broken.unkept.found.ready (broken.sound tt) payload small broken.unkept.image made few broken.behind (subst (λ (n : ℕ). IsWithinReach n place.generation broken.unkept.image) (sym is_number) reach) one two
-        ∙ (ap (λ (n : ℕ). left_of_fault (stored seen_on place) place payload broken.unkept.image n (loose_image n place.second one two)) is_number
-        ∙ ap (λ (p : Result Counted DiskPlace). left_of_fault p place payload broken.unkept.image faulted.number (loose_image faulted.number place.second one two)) read)))
+        ∙ (ap (λ (n : ℕ). left_of_fault (stored seen_on place) place payload broken.unkept.image n (unsynced_image n place.second one two)) is_number
+        ∙ ap (λ (p : Result Counted DiskPlace). left_of_fault p place payload broken.unkept.image faulted.number (unsynced_image faulted.number place.second one two)) read)))
 
     pub left_again : LeftAgain state stands bytes answers follows after first second old new call broken faulted
     left_again = record {

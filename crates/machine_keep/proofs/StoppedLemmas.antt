@@ -6,7 +6,7 @@ use Rattle.std.proofs.lemmas.Bool.{eqb-true}
 use Rattle.ps_ports.specs.Causes.{Rose, counted}
 use Rattle.ps_disks.specs.History.{History}
 use Rattle.ps_disks.specs.MemoryDisk.{DiskState, ends_too_far, told_calls}
-use Rattle.ps_disks.specs.Run.{IsAfter, IsArmed, IsSpared, MeetsFault, Went, has_too_far, made_since, noted, went_further}
+use Rattle.ps_disks.specs.Run.{IsAfter, IsArmed, IsSpared, MeetsFault, Went, has_too_far, made_since, noted, calls_advance_further}
 use Rattle.ps_disks.specs.declared.disk.DiskCall.{DiskCall}
 use Rattle.ps_disks.specs.declared.history.LoggedCall.{LoggedCall}
 use Rattle.ps_disks.proofs.RunLemmas.{fed_after, meets_fault, spared}
@@ -79,17 +79,17 @@ passes_all first second ((true, c) ∷ made) one two =
 
 -- ---- one disk
 -- its calls met no fault
-module _ (old new : DiskState) (calm : IsSpared old new) (calls : List DiskCall) (made : made_since old new ≡ calls) where
+module _ (old new : DiskState) (no_fault : IsSpared old new) (calls : List DiskCall) (made : made_since old new ≡ calls) where
   still_ahead : IsAhead old.until_fault calls
-  still_ahead = subst (IsAhead old.until_fault) made calm.ahead
+  still_ahead = subst (IsAhead old.until_fault) made no_fault.ahead
 
   pub done_log : new.history.log ≡ old.history.log ++ noted_as true calls
   done_log =
-      subst (λ (l : List DiskCall). new.history.log ≡ old.history.log ++ noted old.until_fault l) made calm.after.log
-      ∙ ap (λ (log : List LoggedCall). old.history.log ++ log) (noted_done old.until_fault calls still_ahead (subst (λ (l : List DiskCall). has_too_far l ≡ false) made calm.in_reach))
+      subst (λ (l : List DiskCall). new.history.log ≡ old.history.log ++ noted old.until_fault l) made no_fault.after.log
+      ∙ ap (λ (log : List LoggedCall). old.history.log ++ log) (noted_done old.until_fault calls still_ahead (subst (λ (l : List DiskCall). has_too_far l ≡ false) made no_fault.in_reach))
 
   left_number : (number : ℕ) → IsArmed old number → IsArmed new (number - length calls)
-  left_number number armed = subst (λ (k : ℕ). IsArmed new (k - length calls)) armed.armed (subst (λ (l : List DiskCall). IsArmed new (old.until_fault - length l)) made calm.left)
+  left_number number armed = subst (λ (k : ℕ). IsArmed new (k - length calls)) armed.armed (subst (λ (l : List DiskCall). IsArmed new (old.until_fault - length l)) made no_fault.left)
 
 pub same_history : (a b : History) → a.start ≡ b.start → a.log ≡ b.log → a ≡ b
 same_history a b start log = ap (λ (s : List ℕ). record { start = s; log = a.log }) start ∙ ap (λ (l : List LoggedCall). record { start = b.start; log = l }) log
@@ -105,7 +105,7 @@ done_history old new calls start log =
     same_history new.history (with_calls old.history calls []) start (log ∙ ap (λ (l : List LoggedCall). old.history.log ++ l) (sym (append-nil (noted_as true calls))))
 
 after_made : (old new : DiskState) (number : ℕ) (calls : List DiskCall) → IsArmed old number → Went old new → new.starved ≡ false → made_since old new ≡ calls → IsAfter old new calls
-after_made old new number calls armed went fed made = subst (IsAfter old new) made (fed_after old new went armed.reads fed)
+after_made old new number calls armed calls_advance fed made = subst (IsAfter old new) made (fed_after old new calls_advance armed.reads fed)
 
 -- ---- the places of calls
 parted : (made : PairCalls) (last : Bool × DiskCall) (rest : PairCalls) → take (length made + 1) (made ++ last ∷ rest) ≡ made ++ last ∷ []
@@ -178,13 +178,13 @@ reached mid new calls made fed near (inr (inr it)) = (it.0, subst (λ (l : List 
 
 module _ (f f_mid f_new s s_mid s_new : DiskState) (made : PairCalls) (last : Bool × DiskCall) (rest : PairCalls) (first second : ℕ) (armed_one : IsArmed f first) (armed_two : IsArmed s second)
     (before : MakesPair told_calls (λ (d : DiskState). counted d.faults) Went f s f_mid s_mid made) (told : TellsPair told_calls f_mid s_mid f_new s_new (last ∷ []))
-    (rose : Rose (counted f_mid.faults) (counted f_new.faults) ⊎ Rose (counted s_mid.faults) (counted s_new.faults)) (went : Went f_mid f_new × Went s_mid s_new)
+    (rose : Rose (counted f_mid.faults) (counted f_new.faults) ⊎ Rose (counted s_mid.faults) (counted s_new.faults)) (calls_advance : Went f_mid f_new × Went s_mid s_new)
     (fed_one : f_new.starved ≡ false) (fed_two : s_new.starved ≡ false) (near : ends_too_far last.1 ≡ false) where
   one : IsSpared f f_mid
-  one = spared f f_mid first armed_one before.went.0 before.calm.0
+  one = spared f f_mid first armed_one before.calls_advance.0 before.no_fault.0
 
   two : IsSpared s s_mid
-  two = spared s s_mid second armed_two before.went.1 before.calm.1
+  two = spared s s_mid second armed_two before.calls_advance.1 before.no_fault.1
 
   made_one : made_since f f_mid ≡ first_calls made
   made_one = told_made f f_mid (first_calls made) one.left.fed before.told.0
@@ -207,8 +207,8 @@ module _ (f f_mid f_new s s_mid s_new : DiskState) (made : PairCalls) (last : Bo
   met : Met f_mid.until_fault s_mid.until_fault last
   met =
       ⊎_elim
-      (λ r. inl (reached f_mid f_new (first_calls (last ∷ [])) last_one fed_one (first_near last near) (meets_fault f_mid f_new (first - length (first_calls made)) left_one went.0 r)))
-      (λ r. inr (reached s_mid s_new (second_calls (last ∷ [])) last_two fed_two (second_near last near) (meets_fault s_mid s_new (second - length (second_calls made)) left_two went.1 r)))
+      (λ r. inl (reached f_mid f_new (first_calls (last ∷ [])) last_one fed_one (first_near last near) (meets_fault f_mid f_new (first - length (first_calls made)) left_one calls_advance.0 r)))
+      (λ r. inr (reached s_mid s_new (second_calls (last ∷ [])) last_two fed_two (second_near last near) (meets_fault s_mid s_new (second - length (second_calls made)) left_two calls_advance.1 r)))
       rose
 
   stop_place : first_fault first second (made ++ last ∷ rest) ≡ Some (length made + 1)
@@ -221,23 +221,23 @@ module _ (f f_mid f_new s s_mid s_new : DiskState) (made : PairCalls) (last : Bo
   first_stopped : f_new.history ≡ with_calls f.history (first_calls made) (first_calls (last ∷ []))
   first_stopped =
       stopped_history f f_mid f_new (first_calls made) (first_calls (last ∷ [])) one.after.start (done_log f f_mid one (first_calls made) made_one)
-      (after_made f_mid f_new (first - length (first_calls made)) (first_calls (last ∷ [])) left_one went.0 fed_one last_one) (first_noted f_mid.until_fault s_mid.until_fault last met)
+      (after_made f_mid f_new (first - length (first_calls made)) (first_calls (last ∷ [])) left_one calls_advance.0 fed_one last_one) (first_noted f_mid.until_fault s_mid.until_fault last met)
 
   second_stopped : s_new.history ≡ with_calls s.history (second_calls made) (second_calls (last ∷ []))
   second_stopped =
       stopped_history s s_mid s_new (second_calls made) (second_calls (last ∷ [])) two.after.start (done_log s s_mid two (second_calls made) made_two)
-      (after_made s_mid s_new (second - length (second_calls made)) (second_calls (last ∷ [])) left_two went.1 fed_two last_two) (second_noted f_mid.until_fault s_mid.until_fault last met)
+      (after_made s_mid s_new (second - length (second_calls made)) (second_calls (last ∷ [])) left_two calls_advance.1 fed_two last_two) (second_noted f_mid.until_fault s_mid.until_fault last met)
 
   both_told : TellsPair told_calls f s f_new s_new (made ++ last ∷ [])
   both_told = tells_both told_calls f s f_mid s_mid f_new s_new made (last ∷ []) before.told told
 
   first_made : IsAfter f f_new (first_calls (made ++ last ∷ []))
   first_made =
-      after_made f f_new first (first_calls (made ++ last ∷ [])) armed_one (went_further f f_mid f_new before.went.0 went.0) fed_one (told_made f f_new (first_calls (made ++ last ∷ [])) fed_one both_told.0)
+      after_made f f_new first (first_calls (made ++ last ∷ [])) armed_one (calls_advance_further f f_mid f_new before.calls_advance.0 calls_advance.0) fed_one (told_made f f_new (first_calls (made ++ last ∷ [])) fed_one both_told.0)
 
   second_made : IsAfter s s_new (second_calls (made ++ last ∷ []))
   second_made =
-      after_made s s_new second (second_calls (made ++ last ∷ [])) armed_two (went_further s s_mid s_new before.went.1 went.1) fed_two (told_made s s_new (second_calls (made ++ last ∷ [])) fed_two both_told.1)
+      after_made s s_new second (second_calls (made ++ last ∷ [])) armed_two (calls_advance_further s s_mid s_new before.calls_advance.1 calls_advance.1) fed_two (told_made s s_new (second_calls (made ++ last ∷ [])) fed_two both_told.1)
 
 -- ---- a step
 module _ (old new : State DiskState) (calls : PairCalls) (first second : ℕ) (armed_one : IsArmed (first_disk old) first) (armed_two : IsArmed (second_disk old) second) where
@@ -249,32 +249,32 @@ module _ (old new : State DiskState) (calls : PairCalls) (first second : ℕ) (a
       let rest = stop.rest in
       let all : PairCalls = made ++ last ∷ rest in
       let end = near_last made last rest (subst (λ (l : PairCalls). are_too_far l ≡ false) stop.split near) in
-      let first_so = first_stopped (first_disk old) stop.first_mid (first_disk new) (second_disk old) stop.second_mid (second_disk new) made last rest first second armed_one armed_two stop.before stop.told stop.rose stop.went fed_one fed_two end in
-      let second_so = second_stopped (first_disk old) stop.first_mid (first_disk new) (second_disk old) stop.second_mid (second_disk new) made last rest first second armed_one armed_two stop.before stop.told stop.rose stop.went fed_one fed_two end in
+      let first_so = first_stopped (first_disk old) stop.first_mid (first_disk new) (second_disk old) stop.second_mid (second_disk new) made last rest first second armed_one armed_two stop.before stop.told stop.rose stop.calls_advance fed_one fed_two end in
+      let second_so = second_stopped (first_disk old) stop.first_mid (first_disk new) (second_disk old) stop.second_mid (second_disk new) made last rest first second armed_one armed_two stop.before stop.told stop.rose stop.calls_advance fed_one fed_two end in
       subst (λ (l : PairCalls). StopsAt first second old new l (length made + 1)) (sym stop.split) (record {
         least = omega arith;
         most = omega (arith, length-append made (last ∷ rest));
-        place = stop_place (first_disk old) stop.first_mid (first_disk new) (second_disk old) stop.second_mid (second_disk new) made last rest first second armed_one armed_two stop.before stop.told stop.rose stop.went fed_one fed_two end;
+        place = stop_place (first_disk old) stop.first_mid (first_disk new) (second_disk old) stop.second_mid (second_disk new) made last rest first second armed_one armed_two stop.before stop.told stop.rose stop.calls_advance fed_one fed_two end;
         first_history = subst (λ (l : PairCalls). (first_disk new).history ≡ with_calls (first_disk old).history (first_calls l) (first_calls (take 1 (drop ((length made + 1) - 1) all)))) (sym (parted_before made last rest))
             (subst (λ (l : PairCalls). (first_disk new).history ≡ with_calls (first_disk old).history (first_calls made) (first_calls l)) (sym (parted_last made last rest)) first_so);
         second_history = subst (λ (l : PairCalls). (second_disk new).history ≡ with_calls (second_disk old).history (second_calls l) (second_calls (take 1 (drop ((length made + 1) - 1) all)))) (sym (parted_before made last rest))
             (subst (λ (l : PairCalls). (second_disk new).history ≡ with_calls (second_disk old).history (second_calls made) (second_calls l)) (sym (parted_last made last rest)) second_so);
         first_after = subst (λ (l : PairCalls). IsAfter (first_disk old) (first_disk new) (first_calls l)) (sym (parted made last rest))
-            (first_made (first_disk old) stop.first_mid (first_disk new) (second_disk old) stop.second_mid (second_disk new) made last rest first second armed_one armed_two stop.before stop.told stop.rose stop.went fed_one fed_two end);
+            (first_made (first_disk old) stop.first_mid (first_disk new) (second_disk old) stop.second_mid (second_disk new) made last rest first second armed_one armed_two stop.before stop.told stop.rose stop.calls_advance fed_one fed_two end);
         second_after = subst (λ (l : PairCalls). IsAfter (second_disk old) (second_disk new) (second_calls l)) (sym (parted made last rest))
-            (second_made (first_disk old) stop.first_mid (first_disk new) (second_disk old) stop.second_mid (second_disk new) made last rest first second armed_one armed_two stop.before stop.told stop.rose stop.went fed_one fed_two end);
+            (second_made (first_disk old) stop.first_mid (first_disk new) (second_disk old) stop.second_mid (second_disk new) made last rest first second armed_one armed_two stop.before stop.told stop.rose stop.calls_advance fed_one fed_two end);
       })
 
   pub stopped : IsStopped old new calls → (first_disk new).starved ≡ false → (second_disk new).starved ≡ false → are_too_far calls ≡ false → (n : ℕ) × StopsAt first second old new calls n
   stopped stop fed_one fed_two near = (length stop.made + 1, stopped_at stop fed_one fed_two near)
 
   pub runs_through : IsSpared (first_disk old) (first_disk new) × IsSpared (second_disk old) (second_disk new) → TellsIn told_calls old new calls → RunsThrough first second old new calls
-  runs_through calm told =
-      let one = told_made (first_disk old) (first_disk new) (first_calls calls) calm.0.left.fed told.0 in
-      let two = told_made (second_disk old) (second_disk new) (second_calls calls) calm.1.left.fed told.1 in
+  runs_through no_fault told =
+      let one = told_made (first_disk old) (first_disk new) (first_calls calls) no_fault.0.left.fed told.0 in
+      let two = told_made (second_disk old) (second_disk new) (second_calls calls) no_fault.1.left.fed told.1 in
       record {
-        place = passes_all first second calls (subst (λ (k : ℕ). IsAhead k (first_calls calls)) armed_one.armed (still_ahead (first_disk old) (first_disk new) calm.0 (first_calls calls) one))
-            (subst (λ (k : ℕ). IsAhead k (second_calls calls)) armed_two.armed (still_ahead (second_disk old) (second_disk new) calm.1 (second_calls calls) two));
-        first_history = done_history (first_disk old) (first_disk new) (first_calls calls) calm.0.after.start (done_log (first_disk old) (first_disk new) calm.0 (first_calls calls) one);
-        second_history = done_history (second_disk old) (second_disk new) (second_calls calls) calm.1.after.start (done_log (second_disk old) (second_disk new) calm.1 (second_calls calls) two);
+        place = passes_all first second calls (subst (λ (k : ℕ). IsAhead k (first_calls calls)) armed_one.armed (still_ahead (first_disk old) (first_disk new) no_fault.0 (first_calls calls) one))
+            (subst (λ (k : ℕ). IsAhead k (second_calls calls)) armed_two.armed (still_ahead (second_disk old) (second_disk new) no_fault.1 (second_calls calls) two));
+        first_history = done_history (first_disk old) (first_disk new) (first_calls calls) no_fault.0.after.start (done_log (first_disk old) (first_disk new) no_fault.0 (first_calls calls) one);
+        second_history = done_history (second_disk old) (second_disk new) (second_calls calls) no_fault.1.after.start (done_log (second_disk old) (second_disk new) no_fault.1 (second_calls calls) two);
       }

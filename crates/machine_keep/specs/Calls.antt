@@ -55,8 +55,8 @@ module _ {D : Type 0} (tells : D → Option (List DiskCall)) (faults : D → ℕ
   -- they made these, and none of their calls failed
   pub record MakesPair (first second first_now second_now : D) (calls : PairCalls) : Type 0 where
     pub told : TellsPair tells first second first_now second_now calls
-    pub calm : (faults first_now ≡ faults first) × (faults second_now ≡ faults second)
-    pub went : goes first first_now × goes second second_now
+    pub no_fault : (faults first_now ≡ faults first) × (faults second_now ≡ faults second)
+    pub calls_advance : goes first first_now × goes second second_now
 
   -- The first of these, up to the one at which a fault was met: those before it were made without one. It failed, or, behind a sync, a read.
   pub record TellsSome (first second first_now second_now : D) (calls : PairCalls) : Type 0 where
@@ -70,7 +70,7 @@ module _ {D : Type 0} (tells : D → Option (List DiskCall)) (faults : D → ℕ
     pub before : MakesPair first second first_mid second_mid made
     pub told : TellsPair tells first_mid second_mid first_now second_now (last ∷ [])
     pub rose : Rose (faults first_mid) (faults first_now) ⊎ Rose (faults second_mid) (faults second_now)
-    pub went : goes first_mid first_now × goes second_mid second_now
+    pub calls_advance : goes first_mid first_now × goes second_mid second_now
 
   -- the disks of a journal
   abbrev pub TellsSomeIn : State D → State D → PairCalls → Type 0

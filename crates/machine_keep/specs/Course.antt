@@ -120,7 +120,7 @@ module _ {M D S C R T : Type 0} (premise : Type 0) (seen : D → List ℕ) (tell
     pub told : TellsIn tells old.journal new.journal (step_calls (is_ready old.journal.pending) place (option_map bytes step) image)
 
   -- one for which there was no memory
-  pub record Wanting (old new : Kept M D T) : Type 0 where
+  pub record OutOfMemory (old new : Kept M D T) : Type 0 where
     pub stood : Bool
     pub place : State D
     pub found : IsFound premise seen old.journal stood place

@@ -34,8 +34,8 @@ IsSnapshotBehind stands s place None snapshot = snapshot ≡ None
 IsSnapshotBehind stands s place (Some payload) snapshot = IsSnapshotFor stands s place.generation (is_many_with place payload) snapshot
 
 -- ---- for what the disks stand then
--- A step with this record and this snapshot that stops at this of its calls: with the record where its gate is open, and once the
--- snapshot's head gate is open, which comes behind the four calls of the record, for the snapshot alone on the other disk.
+-- A step with this record and this snapshot that stops at this of its calls: with the record where its gate byte is open, and once the
+-- snapshot's head gate byte is open, which comes behind the four calls of the record, for the snapshot alone on the other disk.
 abbrev pub left_of_step : {D : Type 0} → (D → List ℕ) → State D → Option (List ℕ) → Option (List ℕ) → ℕ → Image → Result Counted DiskPlace
 left_of_step seen place None snapshot stop image = stored seen place
 left_of_step seen place (Some payload) None stop image = which payload (keeps_step stop image) (stored seen place)

@@ -15,11 +15,11 @@ use Rattle.machine_keep.specs.Kept.{Kept}
 use Rattle.machine_keep.specs.Stopped.{first_fault}
 
 -- A step of which this call failed, counted from 1, is kept in this image: from the fifth on in any, and where it is the fourth, which
--- was to make sure of the record's gate, in the one that keeps what no sync made sure of.
+-- was to make sure of the record's gate byte, in the one that keeps what no sync made sure of.
 abbrev pub keeps_faulted : ℕ → Image → Bool
 keeps_faulted number image = nat_lt 4 number || (nat_lt 3 number && is_new image)
 
--- the same of a snapshot's head gate, of which the eleventh call was to make sure
+-- the same of a snapshot's head gate byte, of which the eleventh call was to make sure
 abbrev pub turns_faulted : ℕ → Image → Bool
 turns_faulted number image = nat_lt 10 number && is_new image
 
@@ -29,8 +29,8 @@ left_of_fault before place payload None number image = which payload (keeps_faul
 left_of_fault before place payload (Some snapshot) number image = if turns_faulted number image then snapshot_of snapshot place else which payload (keeps_faulted number image) before
 
 -- The image of the disk of that call: the one that counts in the four calls of the record, and the other in those of a snapshot.
-abbrev pub loose_image : ℕ → Bool → Image → Image → Image
-loose_image number second one two = if nat_lt 4 number then (if second then one else two) else (if second then two else one)
+abbrev pub unsynced_image : ℕ → Bool → Image → Image → Image
+unsynced_image number second one two = if nat_lt 4 number then (if second then one else two) else (if second then two else one)
 
 -- where it was the eleventh, the snapshot has fewer than 2^32 bytes, and this isn't the last generation
 abbrev pub IsWithinReach : ℕ → ℕ → Option (List ℕ) → Type 0
@@ -41,9 +41,9 @@ module _ {M S C R T : Type 0} (state : M → S) (stands : List (List ℕ) → S 
   pub record LeftAgain (first second : ℕ) (old new : Kept M DiskState T) (call : C) (broken : BrokenInMemory state stands bytes answers follows after old new call)
       (faulted : Faulted state stands bytes answers follows after first second old new call broken) : Type 0 where
     pub images : (one two : Image) → pair_of (image_bytes one (first_disk new.journal).history) (image_bytes two (second_disk new.journal).history)
-        ≡ left_of_fault (stored seen_on old.journal) broken.unkept.place (bytes faulted.step) broken.unkept.image faulted.number (loose_image faulted.number broken.unkept.place.second one two)
+        ≡ left_of_fault (stored seen_on old.journal) broken.unkept.place (bytes faulted.step) broken.unkept.image faulted.number (unsynced_image faulted.number broken.unkept.place.second one two)
     pub synced : (image : Image) → pair_of (seen_on (first_disk new.journal)) (image_bytes image (second_disk new.journal).history)
-        ≡ left_of_fault (stored seen_on old.journal) broken.unkept.place (bytes faulted.step) broken.unkept.image faulted.number (loose_image faulted.number broken.unkept.place.second New image)
+        ≡ left_of_fault (stored seen_on old.journal) broken.unkept.place (bytes faulted.step) broken.unkept.image faulted.number (unsynced_image faulted.number broken.unkept.place.second New image)
 
 -- Where a sync before the step failed, that of the first disk or that of the second: what each image of a disk was it is still, but for
 -- those of the first that was made sure of.

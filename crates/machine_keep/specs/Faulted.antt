@@ -61,12 +61,12 @@ module _ {M S C R T : Type 0} (state : M → S) (stands : List (List ℕ) → S 
     pub number : ℕ
     pub least : 1 ≤ number
     pub place : first_fault first second (wanted_calls old new call broken) ≡ Some (length (sync_calls (is_ready old.journal.pending)) + number)
-    -- in the record: the step is unsure, and its record stands exactly behind the write of its gate
+    -- in the record: the step is unsure, and its record stands exactly behind the write of its gate byte
     pub unsure : number ≤ 4 → (state new.machine ≡ state_before old new call broken) × (new.unsure ≡ Some step) × (has_record new.journal.pending (stored seen_on new.journal) ≡ nat_lt 3 number)
     -- in the snapshot: it was taken in
     pub taken : 4 < number → (state new.machine ≡ after (state_before old new call broken) step) × (new.unsure ≡ None)
     -- what the disks stand for as they read
     pub stands_for : StandsFor stands (if nat_lt 3 number then after (state_before old new call broken) step else state_before old new call broken) (stored seen_on new.journal)
     pub reads_as : number ≤ 10 → stored seen_on new.journal ≡ which (bytes step) (nat_lt 3 number) (stored seen_on old.journal)
-    -- once the snapshot's gate is written, the other disk counts
+    -- once the snapshot's gate byte is written, the other disk counts
     pub turned : 10 < number → (image : List ℕ) → broken.unkept.image ≡ Some image → length image < 2 ^ 32 → broken.unkept.place.generation + 1 < 2 ^ 64 → stored seen_on new.journal ≡ snapshot_of image broken.unkept.place

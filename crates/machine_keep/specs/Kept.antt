@@ -30,9 +30,9 @@ pub record IsUnsure {S T : Type 0} (stands : List (List ℕ) → S → Type 0) (
   pub found : pair ≡ which (bytes step) (has_record pending pair) before
 
 -- they stand for the state, but for a step that is unsure
-abbrev pub StandsBut : {S T : Type 0} → (List (List ℕ) → S → Type 0) → (T → List ℕ) → S → Pending → Result Counted DiskPlace → Option T → Type 0
-StandsBut stands bytes s pending pair None = StandsFor stands s pair
-StandsBut stands bytes s pending pair (Some step) = IsUnsure stands bytes s step pending pair
+abbrev pub StandsExcept : {S T : Type 0} → (List (List ℕ) → S → Type 0) → (T → List ℕ) → S → Pending → Result Counted DiskPlace → Option T → Type 0
+StandsExcept stands bytes s pending pair None = StandsFor stands s pair
+StandsExcept stands bytes s pending pair (Some step) = IsUnsure stands bytes s step pending pair
 
 -- the state with a step, where there is one
 abbrev pub after_step : {S T : Type 0} → (S → T → S) → S → Option T → S
@@ -49,8 +49,8 @@ abbrev pub is_many : ℕ → ℕ → Bool
 is_many records snapshot = nat_lt (max (2 * snapshot) 1_048_576) records
 
 -- the bytes of a journal's records are at most 1 MiB, or twice those of its snapshot
-abbrev pub HasFew : {D : Type 0} → State D → Type 0
-HasFew s = s.end - s.start ≤ max (2 * (s.start - 21)) 1_048_576
+abbrev pub IsLogBounded : {D : Type 0} → State D → Type 0
+IsLogBounded s = s.end - s.start ≤ max (2 * (s.start - 21)) 1_048_576
 
 -- the disks stand for the state, or for what a step that the call asks for makes of it
 abbrev pub StandsAround : {S C R T : Type 0} → (List (List ℕ) → S → Type 0) → (S → C → R → Option T → Type 0) → (S → T → S) → S → C → Result Counted DiskPlace → Type 0

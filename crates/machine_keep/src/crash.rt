@@ -24,7 +24,7 @@ impl<M: Machine + Drop> Keep<M, MemoryDisk> {
     /// fewer, and before them all for 0, and hands back the disks as a crash there leaves them. A write or cut at which it stops
     /// counts among those that no sync made sure of; a sync at which it stops is not made. `Keep::open` then finds the state for
     /// which the disks stand. `Memory` also stands for a call of a disk that failed, and for a snapshot that would have been put off
-    /// for want of memory.
+    /// out of memory.
     pub fn crash_in(
         self,
         alloc: Global,
@@ -40,7 +40,7 @@ impl<M: Machine + Drop> Keep<M, MemoryDisk> {
         // And of that step, which list it is that the disks stand for, and on which of them.
         ensures left { IfOk result (λ disks. LeftExactly ⟦<MemoryDisk as Disk>⟧.seen M.stands_for M.record_of M.answers M.follows M.after (M.state self.machine) self.journal call stop image
             (pair_of (⟦<MemoryDisk as Disk>⟧.seen disks.0) (⟦<MemoryDisk as Disk>⟧.seen disks.1))) }
-        ensures calm { IfOk result (λ disks. IsArmed disks.0 0 × IsArmed disks.1 0) }
+        ensures no_fault { IfOk result (λ disks. IsArmed disks.0 0 × IsArmed disks.1 0) }
         // A later crash leaves what they read.
         ensures first { IfOk result (λ disks. Only (⟦<MemoryDisk as Disk>⟧.seen disks.0) (⟦<MemoryDisk as Disk>⟧.may_leave disks.0)) }
         ensures second { IfOk result (λ disks. Only (⟦<MemoryDisk as Disk>⟧.seen disks.1) (⟦<MemoryDisk as Disk>⟧.may_leave disks.1)) }
@@ -76,7 +76,7 @@ impl<M: Machine + Drop> Keep<M, MemoryDisk> {
             (pair_of (⟦<MemoryDisk as Disk>⟧.seen disks.0) (⟦<MemoryDisk as Disk>⟧.seen disks.1))) }
         ensures left { 2 < stop → IfOk result (λ disks. LeftBehind ⟦<MemoryDisk as Disk>⟧.seen M.stands_for M.record_of M.answers M.follows M.after (caught M.after (M.state self.machine) self.unsure (has_record self.journal.pending (stored ⟦<MemoryDisk as Disk>⟧.seen self.journal))) self.journal call (stop - 2) image
             (pair_of (⟦<MemoryDisk as Disk>⟧.seen disks.0) (⟦<MemoryDisk as Disk>⟧.seen disks.1))) }
-        ensures calm { IfOk result (λ disks. IsArmed disks.0 0 × IsArmed disks.1 0) }
+        ensures no_fault { IfOk result (λ disks. IsArmed disks.0 0 × IsArmed disks.1 0) }
         ensures first { IfOk result (λ disks. Only (⟦<MemoryDisk as Disk>⟧.seen disks.0) (⟦<MemoryDisk as Disk>⟧.may_leave disks.0)) }
         ensures second { IfOk result (λ disks. Only (⟦<MemoryDisk as Disk>⟧.seen disks.1) (⟦<MemoryDisk as Disk>⟧.may_leave disks.1)) }
         ensures size { IfOk result (λ disks. AreBounded (⟦<MemoryDisk as Disk>⟧.may_leave disks.0) × AreBounded (⟦<MemoryDisk as Disk>⟧.may_leave disks.1)) }

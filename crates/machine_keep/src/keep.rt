@@ -7,9 +7,9 @@ ghost use Rattle.host_journal.specs.Moments.{Adds, LeftIn, Shows};
 ghost use Rattle.host_journal.specs.Pair.{pair_of};
 ghost use Rattle.host_journal.specs.State.{append_calls, is_ready, stored, has_record, which, with_record, EachImage, EachSince, IsAt, IsSound, KeepsPlace, SameButRoom, WentOn, first_disk, second_disk};
 ghost use Rattle.machine_keep.specs.Calls.{TellsIn, TellsSomeIn, all_on, image_calls, record_calls, sync_calls};
-ghost use Rattle.machine_keep.specs.Course.{Answered, Breaks, IsFound, IsShortened, IsSnapshotOf, Keeps, Unfound, Unkept, Wanting};
+ghost use Rattle.machine_keep.specs.Course.{Answered, Breaks, IsFound, IsShortened, IsSnapshotOf, Keeps, Unfound, Unkept, OutOfMemory};
 ghost use Rattle.machine_keep.specs.Faulted.{Broken, Unsettled};
-ghost use Rattle.machine_keep.specs.Kept.{HasFew, IsMade, IsStepMade, Snapped, StandsAround, StandsBut, StandsFor, after_step, caught, is_many};
+ghost use Rattle.machine_keep.specs.Kept.{IsLogBounded, IsMade, IsStepMade, Snapped, StandsAround, StandsExcept, StandsFor, after_step, caught, is_many};
 ghost use Rattle.machine_keep.specs.declared.fault.StepFault.TheVariants.{Disk as disk_fault, Memory as no_memory};
 
 use crate::fault::StepFault;
@@ -37,7 +37,7 @@ pub struct Keep<M: Machine, D: Disk> {
 impl<M: Machine, D: Disk> Model for Keep<M, D> {
     ghost use Rattle.std.specs.Prelude.{◌≡◌, IsTrue, IfSome, None};
     ghost use Rattle.host_journal.specs.State.{is_ready, stored};
-    ghost use Rattle.machine_keep.specs.Kept.{Kept, StandsBut};
+    ghost use Rattle.machine_keep.specs.Kept.{Kept, StandsExcept};
 
     ghost Value = { Kept M D M.Step };
 
@@ -45,7 +45,7 @@ impl<M: Machine, D: Disk> Model for Keep<M, D> {
 
     ghost invariant = { λ k. (IsTrue (is_ready k.journal.pending) → k.unsure ≡ None)
         × (IfSome k.unsure (λ step. M.follows (M.state k.machine) step × M.has_room k.machine step)
-        × (D.premise → StandsBut M.stands_for M.record_of (M.state k.machine) k.journal.pending (stored D.seen k.journal) k.unsure)) };
+        × (D.premise → StandsExcept M.stands_for M.record_of (M.state k.machine) k.journal.pending (stored D.seen k.journal) k.unsure)) };
 }
 
 // Written out, so that a drop elsewhere is one call.
@@ -84,7 +84,7 @@ impl<M: Machine, D: Disk> Keep<M, D> {
         &self.machine
     }
 
-    /// How many snapshots were put off since it was opened: those that were due, and for which memory was wanting, that had
+    /// How many snapshots were put off since it was opened: those that were due, and for which memory ran out, that had
     /// more than 4,294,967,295 bytes, or that were due in the last generation of a journal. Nothing is lost by one; the
     /// records grow, and the next step tries again. It stands still at its greatest value.
     pub fn put_off(&self) -> u64
@@ -114,7 +114,7 @@ impl<M: Machine, D: Disk> Keep<M, D> {
         self.journal.is_second()
     }
 
-    /// The bytes of the records behind the snapshot: for each a length of four, the record and a gate.
+    /// The bytes of the records behind the snapshot: for each a length of four, the record and a gate byte.
     pub fn record_bytes(&self) -> u64
         ensures { result ≡ self.now.journal.end - self.now.journal.start }
     {
@@ -143,7 +143,7 @@ impl<M: Machine, D: Disk> Keep<M, D> {
     /// What is known of a kept machine, and what more of one whose last call met no fault. Does nothing.
     pub fn known(&self)
         // The disks stand for its state; after a fault, but for a step that is unsure.
-        ensures but { D.premise → StandsBut M.stands_for M.record_of (M.state self.now.machine) self.now.journal.pending (stored D.seen self.now.journal) self.now.unsure }
+        ensures except_unsure { D.premise → StandsExcept M.stands_for M.record_of (M.state self.now.machine) self.now.journal.pending (stored D.seen self.now.journal) self.now.unsure }
         ensures order { self.now.journal.start ≤ self.now.journal.end }
         ensures sure { IsTrue (is_ready self.now.journal.pending) → self.now.unsure ≡ None }
         ensures stands { D.premise → IsTrue (is_ready self.now.journal.pending) → StandsFor M.stands_for (M.state self.now.machine) (stored D.seen self.now.journal) }
@@ -179,25 +179,25 @@ impl<M: Machine, D: Disk> Keep<M, D> {
             → (D.may_leave (first_disk self.old.journal) c ⊎ D.may_leave (second_disk self.old.journal) d)
             ⊎ StandsAround M.stands_for M.answers M.after (caught M.after (M.state self.old.machine) self.old.unsure (has_record self.old.journal.pending (stored D.seen self.old.journal))) call (pair_of c d) }
         // A step leaves few records, or a snapshot that was put off is counted.
-        ensures few { D.premise → OnOk result ((M.state self.new.machine ≡ caught M.after (M.state self.old.machine) self.old.unsure (has_record self.old.journal.pending (stored D.seen self.old.journal)))
-            ⊎ (HasFew self.new.journal ⊎ Rose self.old.put_off self.new.put_off)) }
-        // What it does, and the calls that the disks tell of it: all at an answer, those before a step where memory was wanting, and
+        ensures log_bounded { D.premise → OnOk result ((M.state self.new.machine ≡ caught M.after (M.state self.old.machine) self.old.unsure (has_record self.old.journal.pending (stored D.seen self.old.journal)))
+            ⊎ (IsLogBounded self.new.journal ⊎ Rose self.old.put_off self.new.put_off)) }
+        // What it does, and the calls that the disks tell of it: all at an answer, those before a step where memory ran out, and
         // at a fault those up to the one that failed. On no premise.
         ensures answered { IfOk result (λ reply. Answered D.premise D.seen D.told M.state M.stands_for M.record_of M.answers M.follows M.after self.old self.new call reply) }
-        ensures wanting { result ≡ Err no_memory → Wanting D.premise D.seen D.told M.state M.stands_for M.record_of M.answers M.follows M.after self.old self.new }
-        ensures failed { result ≡ Err disk_fault → Unfound D.told D.disk_faults D.went M.state self.old self.new
-            ⊎ Unkept D.premise D.seen D.told D.disk_faults D.went M.state M.stands_for M.record_of M.answers M.follows M.after self.old self.new call }
+        ensures out_of_memory { result ≡ Err no_memory → OutOfMemory D.premise D.seen D.told M.state M.stands_for M.record_of M.answers M.follows M.after self.old self.new }
+        ensures failed { result ≡ Err disk_fault → Unfound D.told D.disk_faults D.calls_advance M.state self.old self.new
+            ⊎ Unkept D.premise D.seen D.told D.disk_faults D.calls_advance M.state M.stands_for M.record_of M.answers M.follows M.after self.old self.new call }
         // More of a fault: what was known before it, and where the record of an unsure step stands.
-        ensures broken { result ≡ Err disk_fault → Unsettled D.premise D.seen D.told D.disk_faults D.went M.state self.old self.new
-            ⊎ Broken D.premise D.seen D.may_leave D.told D.disk_faults D.went M.state M.stands_for M.record_of M.answers M.follows M.after self.old self.new call }
+        ensures broken { result ≡ Err disk_fault → Unsettled D.premise D.seen D.told D.disk_faults D.calls_advance M.state self.old self.new
+            ⊎ Broken D.premise D.seen D.may_leave D.told D.disk_faults D.calls_advance M.state M.stands_for M.record_of M.answers M.follows M.after self.old self.new call }
         ensures ready { (result ≡ Err disk_fault → ⊥) → IsTrue (is_ready self.new.journal.pending) }
         ensures unready { result ≡ Err disk_fault → is_ready self.new.journal.pending ≡ false }
         // Whatever it comes to.
         ensures fixed { M.fixed (M.state self.new.machine) ≡ M.fixed (M.state self.old.machine) }
         ensures later { (D.disk_faults (first_disk self.old.journal) ≤ D.disk_faults (first_disk self.new.journal)) × (D.disk_faults (second_disk self.old.journal) ≤ D.disk_faults (second_disk self.new.journal)) }
-        ensures calm { (result ≡ Err disk_fault → ⊥) → (D.disk_faults (first_disk self.new.journal) ≡ D.disk_faults (first_disk self.old.journal)) × (D.disk_faults (second_disk self.new.journal) ≡ D.disk_faults (second_disk self.old.journal)) }
+        ensures no_fault { (result ≡ Err disk_fault → ⊥) → (D.disk_faults (first_disk self.new.journal) ≡ D.disk_faults (first_disk self.old.journal)) × (D.disk_faults (second_disk self.new.journal) ≡ D.disk_faults (second_disk self.old.journal)) }
         ensures cause { result ≡ Err disk_fault → Rose (D.disk_faults (first_disk self.old.journal)) (D.disk_faults (first_disk self.new.journal)) ⊎ Rose (D.disk_faults (second_disk self.old.journal)) (D.disk_faults (second_disk self.new.journal)) }
-        ensures went { WentOn D.went self.old.journal self.new.journal }
+        ensures calls_advance { WentOn D.calls_advance self.old.journal self.new.journal }
     {
         self.known();
         self.catch_up()?;
@@ -218,16 +218,16 @@ impl<M: Machine, D: Disk> Keep<M, D> {
         ensures put_off { self.new.put_off ≡ self.old.put_off }
         ensures found { OnOk result ((stood : Bool) × IsFound D.premise D.seen self.old.journal stood self.new.journal × (M.state self.new.machine ≡ caught M.after (M.state self.old.machine) self.old.unsure stood)) }
         ensures told { OnOk result (TellsIn D.told self.old.journal self.new.journal (sync_calls (is_ready self.old.journal.pending))) }
-        ensures unfound { OnErr result (Unfound D.told D.disk_faults D.went M.state self.old self.new) }
+        ensures unfound { OnErr result (Unfound D.told D.disk_faults D.calls_advance M.state self.old self.new) }
         ensures pending { OnErr result (self.new.journal.pending ≡ self.old.journal.pending) }
         ensures unready { OnErr result (is_ready self.new.journal.pending ≡ false) }
         ensures read { D.premise → (D.seen (first_disk self.new.journal) ≡ D.seen (first_disk self.old.journal)) × (D.seen (second_disk self.new.journal) ≡ D.seen (second_disk self.old.journal)) }
         ensures first { D.premise → is_ready self.old.journal.pending ≡ false → IsRead D.seen D.may_leave D.moment D.left_since (first_disk self.old.journal) (first_disk self.new.journal) }
         ensures second { D.premise → is_ready self.old.journal.pending ≡ false → IsRead D.seen D.may_leave D.moment D.left_since (second_disk self.old.journal) (second_disk self.new.journal) }
         ensures later { (D.disk_faults (first_disk self.old.journal) ≤ D.disk_faults (first_disk self.new.journal)) × (D.disk_faults (second_disk self.old.journal) ≤ D.disk_faults (second_disk self.new.journal)) }
-        ensures calm { OnOk result ((D.disk_faults (first_disk self.new.journal) ≡ D.disk_faults (first_disk self.old.journal)) × (D.disk_faults (second_disk self.new.journal) ≡ D.disk_faults (second_disk self.old.journal))) }
+        ensures no_fault { OnOk result ((D.disk_faults (first_disk self.new.journal) ≡ D.disk_faults (first_disk self.old.journal)) × (D.disk_faults (second_disk self.new.journal) ≡ D.disk_faults (second_disk self.old.journal))) }
         ensures cause { OnErr result (Rose (D.disk_faults (first_disk self.old.journal)) (D.disk_faults (first_disk self.new.journal)) ⊎ Rose (D.disk_faults (second_disk self.old.journal)) (D.disk_faults (second_disk self.new.journal))) }
-        ensures went { WentOn D.went self.old.journal self.new.journal }
+        ensures calls_advance { WentOn D.calls_advance self.old.journal self.new.journal }
     {
         self.known();
         if self.journal.is_ready() {
@@ -259,17 +259,17 @@ impl<M: Machine, D: Disk> Keep<M, D> {
             (λ pair. StandsFor M.stands_for (M.state self.old.machine) pair ⊎ ((step : M.Step) × ((decided.step ≡ Some step) × StandsFor M.stands_for (M.after (M.state self.old.machine) step) pair))) }
         ensures adds { D.premise → Adds D.moment D.left_since self.old.journal self.new.journal
             (LeftIn (stored D.seen self.old.journal) (λ pair. (step : M.Step) × ((decided.step ≡ Some step) × IsMade M.stands_for (stored D.seen self.old.journal) (M.after (M.state self.old.machine) step) pair))) }
-        ensures few { OnOk result (IsSome decided.step → HasFew self.new.journal ⊎ Rose self.old.put_off self.new.put_off) }
+        ensures log_bounded { OnOk result (IsSome decided.step → IsLogBounded self.new.journal ⊎ Rose self.old.put_off self.new.put_off) }
         ensures keeps { OnOk result (Keeps D.told M.state M.stands_for M.record_of M.after self.old self.new decided.step) }
-        ensures breaks { result ≡ Err disk_fault → Breaks D.told D.disk_faults D.went M.state M.stands_for M.record_of M.after self.old self.new decided.step }
+        ensures breaks { result ≡ Err disk_fault → Breaks D.told D.disk_faults D.calls_advance M.state M.stands_for M.record_of M.after self.old self.new decided.step }
         // Where the step is unsure, its record stands where a reload is to answer so.
         ensures which { D.premise → result ≡ Err disk_fault → IfSome self.new.unsure (λ step. stored D.seen self.new.journal ≡ which (M.record_of step) (has_record self.new.journal.pending (stored D.seen self.new.journal)) (stored D.seen self.old.journal)) }
         ensures unmoved { result ≡ Err no_memory → SameButRoom self.old.journal self.new.journal × (M.state self.new.machine ≡ M.state self.old.machine) × (self.new.put_off ≡ self.old.put_off) }
         ensures fixed { M.fixed (M.state self.new.machine) ≡ M.fixed (M.state self.old.machine) }
         ensures later { (D.disk_faults (first_disk self.old.journal) ≤ D.disk_faults (first_disk self.new.journal)) × (D.disk_faults (second_disk self.old.journal) ≤ D.disk_faults (second_disk self.new.journal)) }
-        ensures calm { (result ≡ Err disk_fault → ⊥) → (D.disk_faults (first_disk self.new.journal) ≡ D.disk_faults (first_disk self.old.journal)) × (D.disk_faults (second_disk self.new.journal) ≡ D.disk_faults (second_disk self.old.journal)) }
+        ensures no_fault { (result ≡ Err disk_fault → ⊥) → (D.disk_faults (first_disk self.new.journal) ≡ D.disk_faults (first_disk self.old.journal)) × (D.disk_faults (second_disk self.new.journal) ≡ D.disk_faults (second_disk self.old.journal)) }
         ensures cause { result ≡ Err disk_fault → Rose (D.disk_faults (first_disk self.old.journal)) (D.disk_faults (first_disk self.new.journal)) ⊎ Rose (D.disk_faults (second_disk self.old.journal)) (D.disk_faults (second_disk self.new.journal)) }
-        ensures went { WentOn D.went self.old.journal self.new.journal }
+        ensures calls_advance { WentOn D.calls_advance self.old.journal self.new.journal }
     {
         let Decided { reply, step } = decided;
         match step {
@@ -298,17 +298,17 @@ impl<M: Machine, D: Disk> Keep<M, D> {
             (λ pair. StandsFor M.stands_for (M.state self.old.machine) pair ⊎ StandsFor M.stands_for (M.after (M.state self.old.machine) step) pair) }
         ensures adds { D.premise → Adds D.moment D.left_since self.old.journal self.new.journal
             (LeftIn (stored D.seen self.old.journal) (IsMade M.stands_for (stored D.seen self.old.journal) (M.after (M.state self.old.machine) step))) }
-        ensures few { OnOk result (HasFew self.new.journal ⊎ Rose self.old.put_off self.new.put_off) }
+        ensures log_bounded { OnOk result (IsLogBounded self.new.journal ⊎ Rose self.old.put_off self.new.put_off) }
         ensures keeps { OnOk result (Keeps D.told M.state M.stands_for M.record_of M.after self.old self.new (Some step)) }
-        ensures breaks { result ≡ Err disk_fault → Breaks D.told D.disk_faults D.went M.state M.stands_for M.record_of M.after self.old self.new (Some step) }
+        ensures breaks { result ≡ Err disk_fault → Breaks D.told D.disk_faults D.calls_advance M.state M.stands_for M.record_of M.after self.old self.new (Some step) }
         // Where the step is unsure, its record stands where a reload is to answer so.
         ensures which { D.premise → result ≡ Err disk_fault → IfSome self.new.unsure (λ step. stored D.seen self.new.journal ≡ which (M.record_of step) (has_record self.new.journal.pending (stored D.seen self.new.journal)) (stored D.seen self.old.journal)) }
         ensures unmoved { result ≡ Err no_memory → SameButRoom self.old.journal self.new.journal × (M.state self.new.machine ≡ M.state self.old.machine) × (self.new.put_off ≡ self.old.put_off) }
         ensures fixed { M.fixed (M.state self.new.machine) ≡ M.fixed (M.state self.old.machine) }
         ensures later { (D.disk_faults (first_disk self.old.journal) ≤ D.disk_faults (first_disk self.new.journal)) × (D.disk_faults (second_disk self.old.journal) ≤ D.disk_faults (second_disk self.new.journal)) }
-        ensures calm { (result ≡ Err disk_fault → ⊥) → (D.disk_faults (first_disk self.new.journal) ≡ D.disk_faults (first_disk self.old.journal)) × (D.disk_faults (second_disk self.new.journal) ≡ D.disk_faults (second_disk self.old.journal)) }
+        ensures no_fault { (result ≡ Err disk_fault → ⊥) → (D.disk_faults (first_disk self.new.journal) ≡ D.disk_faults (first_disk self.old.journal)) × (D.disk_faults (second_disk self.new.journal) ≡ D.disk_faults (second_disk self.old.journal)) }
         ensures cause { result ≡ Err disk_fault → Rose (D.disk_faults (first_disk self.old.journal)) (D.disk_faults (first_disk self.new.journal)) ⊎ Rose (D.disk_faults (second_disk self.old.journal)) (D.disk_faults (second_disk self.new.journal)) }
-        ensures went { WentOn D.went self.old.journal self.new.journal }
+        ensures calls_advance { WentOn D.calls_advance self.old.journal self.new.journal }
     {
         self.known();
         let bytes = self.machine.write_record(alloc, &step)?;
@@ -333,18 +333,18 @@ impl<M: Machine, D: Disk> Keep<M, D> {
         ensures kept { KeepsPlace self.old.journal self.new.journal }
         ensures end { OnOk result (self.new.journal.end ≡ self.old.journal.end + 5 + length (M.record_of step)) }
         ensures told { OnOk result (TellsIn D.told self.old.journal self.new.journal (record_calls self.old.journal (Some (M.record_of step)))) }
-        ensures told_first { OnErr result (TellsSomeIn D.told D.disk_faults D.went self.old.journal self.new.journal (record_calls self.old.journal (Some (M.record_of step)))) }
+        ensures told_first { OnErr result (TellsSomeIn D.told D.disk_faults D.calls_advance self.old.journal self.new.journal (record_calls self.old.journal (Some (M.record_of step)))) }
         ensures unsure { OnErr result ((M.state self.new.machine ≡ M.state self.old.machine) × (self.new.unsure ≡ Some step)) }
         ensures which { D.premise → OnErr result (stored D.seen self.new.journal ≡ which (M.record_of step) (has_record self.new.journal.pending (stored D.seen self.new.journal)) (stored D.seen self.old.journal)) }
         ensures sure { OnOk result (self.new.unsure ≡ None) }
         ensures fixed { M.fixed (M.state self.new.machine) ≡ M.fixed (M.state self.old.machine) }
         ensures put_off { self.new.put_off ≡ self.old.put_off }
         ensures later { (D.disk_faults (first_disk self.old.journal) ≤ D.disk_faults (first_disk self.new.journal)) × (D.disk_faults (second_disk self.old.journal) ≤ D.disk_faults (second_disk self.new.journal)) }
-        ensures calm { OnOk result ((D.disk_faults (first_disk self.new.journal) ≡ D.disk_faults (first_disk self.old.journal)) × (D.disk_faults (second_disk self.new.journal) ≡ D.disk_faults (second_disk self.old.journal))) }
+        ensures no_fault { OnOk result ((D.disk_faults (first_disk self.new.journal) ≡ D.disk_faults (first_disk self.old.journal)) × (D.disk_faults (second_disk self.new.journal) ≡ D.disk_faults (second_disk self.old.journal))) }
         ensures ready { OnOk result (IsTrue (is_ready self.new.journal.pending)) }
         ensures unready { OnErr result (is_ready self.new.journal.pending ≡ false) }
         ensures cause { OnErr result (Rose (D.disk_faults (first_disk self.old.journal)) (D.disk_faults (first_disk self.new.journal)) ⊎ Rose (D.disk_faults (second_disk self.old.journal)) (D.disk_faults (second_disk self.new.journal))) }
-        ensures went { WentOn D.went self.old.journal self.new.journal }
+        ensures calls_advance { WentOn D.calls_advance self.old.journal self.new.journal }
     {
         self.known();
         let step = append(&mut self.journal, &mut self.unsure, step, bytes)?;
@@ -360,16 +360,16 @@ impl<M: Machine, D: Disk> Keep<M, D> {
         ensures shortened { OnOk result ((image : Option (List ℕ)) × IsShortened M.stands_for (M.state self.old.machine) self.old.put_off self.new.put_off self.old.journal image self.new.journal
             × TellsIn D.told self.old.journal self.new.journal (image_calls self.old.journal image)) }
         ensures told_first { OnErr result ((image : List ℕ) × (is_many (self.old.journal.end - self.old.journal.start) (self.old.journal.start - 21) ≡ true) × IsSnapshotOf M.stands_for (M.state self.old.machine) self.old.journal.generation image
-            × TellsSomeIn D.told D.disk_faults D.went self.old.journal self.new.journal (image_calls self.old.journal (Some image))) }
-        ensures few { OnOk result (HasFew self.new.journal ⊎ Rose self.old.put_off self.new.put_off) }
+            × TellsSomeIn D.told D.disk_faults D.calls_advance self.old.journal self.new.journal (image_calls self.old.journal (Some image))) }
+        ensures log_bounded { OnOk result (IsLogBounded self.new.journal ⊎ Rose self.old.put_off self.new.put_off) }
         ensures ready { OnOk result (IsTrue (is_ready self.new.journal.pending)) }
         ensures unready { OnErr result (is_ready self.new.journal.pending ≡ false) }
         ensures adds { D.premise → Adds D.moment D.left_since self.old.journal self.new.journal
             (Snapped D.seen M.stands_for (M.state self.old.machine) self.old.journal) }
         ensures later { (D.disk_faults (first_disk self.old.journal) ≤ D.disk_faults (first_disk self.new.journal)) × (D.disk_faults (second_disk self.old.journal) ≤ D.disk_faults (second_disk self.new.journal)) }
-        ensures calm { OnOk result ((D.disk_faults (first_disk self.new.journal) ≡ D.disk_faults (first_disk self.old.journal)) × (D.disk_faults (second_disk self.new.journal) ≡ D.disk_faults (second_disk self.old.journal))) }
+        ensures no_fault { OnOk result ((D.disk_faults (first_disk self.new.journal) ≡ D.disk_faults (first_disk self.old.journal)) × (D.disk_faults (second_disk self.new.journal) ≡ D.disk_faults (second_disk self.old.journal))) }
         ensures cause { OnErr result (Rose (D.disk_faults (first_disk self.old.journal)) (D.disk_faults (first_disk self.new.journal)) ⊎ Rose (D.disk_faults (second_disk self.old.journal)) (D.disk_faults (second_disk self.new.journal))) }
-        ensures went { WentOn D.went self.old.journal self.new.journal }
+        ensures calls_advance { WentOn D.calls_advance self.old.journal self.new.journal }
     {
         self.known();
         if !self.has_many_records() {
@@ -483,13 +483,13 @@ fn append<S: Drop, D: Disk>(
     ensures kept { KeepsPlace journal.old journal.new }
     ensures end { OnOk result (journal.new.end ≡ journal.old.end + 5 + length bytes.now) }
     ensures told { OnOk result (TellsIn D.told journal.old journal.new (all_on journal.old.second (append_calls journal.old.end bytes.now))) }
-    ensures told_first { OnErr result (TellsSomeIn D.told D.disk_faults D.went journal.old journal.new (all_on journal.old.second (append_calls journal.old.end bytes.now))) }
+    ensures told_first { OnErr result (TellsSomeIn D.told D.disk_faults D.calls_advance journal.old journal.new (all_on journal.old.second (append_calls journal.old.end bytes.now))) }
     ensures ready { OnOk result (IsTrue (is_ready journal.new.pending)) }
     ensures failed { OnErr result (is_ready journal.new.pending ≡ false) }
     ensures later { (D.disk_faults (first_disk journal.old) ≤ D.disk_faults (first_disk journal.new)) × (D.disk_faults (second_disk journal.old) ≤ D.disk_faults (second_disk journal.new)) }
-    ensures calm { OnOk result ((D.disk_faults (first_disk journal.new) ≡ D.disk_faults (first_disk journal.old)) × (D.disk_faults (second_disk journal.new) ≡ D.disk_faults (second_disk journal.old))) }
+    ensures no_fault { OnOk result ((D.disk_faults (first_disk journal.new) ≡ D.disk_faults (first_disk journal.old)) × (D.disk_faults (second_disk journal.new) ≡ D.disk_faults (second_disk journal.old))) }
     ensures cause { OnErr result (Rose (D.disk_faults (first_disk journal.old)) (D.disk_faults (first_disk journal.new)) ⊎ Rose (D.disk_faults (second_disk journal.old)) (D.disk_faults (second_disk journal.new))) }
-    ensures went { WentOn D.went journal.old journal.new }
+    ensures calls_advance { WentOn D.calls_advance journal.old journal.new }
 {
     match journal.append(bytes) {
         Ok(()) => Ok(step),

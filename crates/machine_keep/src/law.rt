@@ -11,7 +11,7 @@ ghost use Rattle.machine_keep.specs.Calls.{PairCalls, TellsIn};
 ghost use Rattle.machine_keep.specs.Course.{Unfound};
 ghost use Rattle.machine_keep.specs.FaultLeft.{IsWithinReach, LeftAgain, LeftStill};
 ghost use Rattle.machine_keep.specs.Faulted.{BrokenInMemory, Faulted, seen_on, wanted_calls};
-ghost use Rattle.machine_keep.specs.Kept.{Kept, StandsBut};
+ghost use Rattle.machine_keep.specs.Kept.{Kept, StandsExcept};
 ghost use Rattle.machine_keep.specs.Stopped.{IsStopped, RunsThrough, StopsAt, are_too_far};
 ghost use Rattle.machine_keep.specs.declared.fault.StepFault.{StepFault};
 ghost use Rattle.machine_keep.specs.declared.fault.StepFault.TheVariants.{Disk as disk_fault};
@@ -20,18 +20,18 @@ use crate::machine::Machine;
 
 /// A law: over disks in memory of which no call is to fail a step meets no fault of a disk, unless there was no memory for a
 /// call of theirs, or a write would have ended past 2^64 - 1.
-pub fn law_calm<M: Machine>()
+pub fn law_no_fault<M: Machine>()
     ensures { (old new : State DiskState) (result : Result M.Reply StepFault) → IsStep old new result → IsArmed (first_disk old) 0 → IsArmed (second_disk old) 0
         → result ≡ Err disk_fault → Lacks (first_disk old) (first_disk new) ⊎ Lacks (second_disk old) (second_disk new) }
 {}
 
 /// A law: over disks in memory of each of which one call is to fail, counted from 1 among its writes, cuts and syncs, a step
-/// meets a fault of a disk exactly where one of them makes so many calls in it, or for want of memory, or by a write that
+/// meets a fault of a disk exactly where one of them makes so many calls in it, or out of memory, or by a write that
 /// would end past 2^64 - 1. Else the calls that are to fail come nearer by those that were made.
 pub fn law_armed<M: Machine>()
     ensures fault { (old new : State DiskState) (result : Result M.Reply StepFault) (first second : ℕ) → IsStep old new result → IsArmed (first_disk old) first → IsArmed (second_disk old) second
         → result ≡ Err disk_fault → MeetsFault (first_disk old) (first_disk new) ⊎ MeetsFault (second_disk old) (second_disk new) }
-    ensures calm { (old new : State DiskState) (result : Result M.Reply StepFault) (first second : ℕ) → IsStep old new result → IsArmed (first_disk old) first → IsArmed (second_disk old) second
+    ensures no_fault { (old new : State DiskState) (result : Result M.Reply StepFault) (first second : ℕ) → IsStep old new result → IsArmed (first_disk old) first → IsArmed (second_disk old) second
         → (result ≡ Err disk_fault → ⊥) → IsSpared (first_disk old) (first_disk new) × IsSpared (second_disk old) (second_disk new) }
 {}
 
@@ -61,7 +61,7 @@ pub fn law_faulted<M: Machine>()
     ensures { (old new : Kept M DiskState M.Step) (call : M.Call) (broken : BrokenInMemory M.state M.stands_for M.record_of M.answers M.follows M.after old new call) (first second : ℕ)
         → IsArmed (first_disk old.journal) first → IsArmed (second_disk old.journal) second → (first_disk new.journal).starved ≡ false → (second_disk new.journal).starved ≡ false
         → are_too_far (wanted_calls M.state M.stands_for M.record_of M.answers M.follows M.after old new call broken) ≡ false
-        → StandsBut M.stands_for M.record_of (M.state new.machine) new.journal.pending (stored seen_on new.journal) new.unsure
+        → StandsExcept M.stands_for M.record_of (M.state new.machine) new.journal.pending (stored seen_on new.journal) new.unsure
         → Faulted M.state M.stands_for M.record_of M.answers M.follows M.after first second old new call broken }
 {}
 

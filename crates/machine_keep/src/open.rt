@@ -60,18 +60,18 @@ impl<M: Machine + Drop, D: Disk> Keep<M, D> {
         // At the place where they are no journal, or else of the first item that is refused.
         ensures place { D.premise → IfErr result (λ f. (place : _) → f.reason ≡ OpenReason.NotAJournal place → IsRefusedAt (StandsOf M.fixed (M.fixed_of origin) M.stands_for M.stood_for) (pair_of (D.seen first) (D.seen second)) place) }
         ensures fault { IfErr result (λ f. f.reason ≡ OpenReason.DiskFault → Rose (D.disk_faults first) (D.disk_faults f.first) ⊎ Rose (D.disk_faults second) (D.disk_faults f.second)) }
-        ensures calm { IfOk result (λ keep. (D.disk_faults (first_disk keep.journal) ≡ D.disk_faults first) × (D.disk_faults (second_disk keep.journal) ≡ D.disk_faults second)) }
-        ensures calm_err { IfErr result (λ f. (f.reason ≡ OpenReason.DiskFault → ⊥) → (D.disk_faults f.first ≡ D.disk_faults first) × (D.disk_faults f.second ≡ D.disk_faults second)) }
+        ensures no_fault { IfOk result (λ keep. (D.disk_faults (first_disk keep.journal) ≡ D.disk_faults first) × (D.disk_faults (second_disk keep.journal) ≡ D.disk_faults second)) }
+        ensures no_fault_err { IfErr result (λ f. (f.reason ≡ OpenReason.DiskFault → ⊥) → (D.disk_faults f.first ≡ D.disk_faults first) × (D.disk_faults f.second ≡ D.disk_faults second)) }
         // The form of the list decides which disk counts then.
         ensures form { D.premise → IfOk result (λ keep. (read : Counted) → pair_of (D.seen first) (D.seen second) ≡ Ok read
             → IsInForm M.stands_for M.stood_for (M.state keep.machine) read.second keep.journal.second (pair_of (D.seen first) (D.seen second))) }
         // The calls that the disks tell: the syncs, and a snapshot where the list was in the earlier form. On no premise.
         ensures opened { IfOk result (λ keep. Opened D.premise D.seen D.told M.stands_for first second (M.state keep.machine) keep.journal) }
-        ensures told_err { IfErr result (λ f. f.reason ≡ OpenReason.DiskFault → TellsSome D.told D.disk_faults D.went first second f.first f.second (sync_calls false)
-            ⊎ Unwritten D.premise D.seen D.told D.disk_faults D.went M.stands_for first second f.first f.second) }
+        ensures told_err { IfErr result (λ f. f.reason ≡ OpenReason.DiskFault → TellsSome D.told D.disk_faults D.calls_advance first second f.first f.second (sync_calls false)
+            ⊎ Unwritten D.premise D.seen D.told D.disk_faults D.calls_advance M.stands_for first second f.first f.second) }
         ensures told_refused { IfErr result (λ f. (f.reason ≡ OpenReason.DiskFault → ⊥) → TellsPair D.told first second f.first f.second (sync_calls false)) }
-        ensures went { IfOk result (λ keep. D.went first (first_disk keep.journal) × D.went second (second_disk keep.journal)) }
-        ensures went_err { IfErr result (λ f. D.went first f.first × D.went second f.second) }
+        ensures calls_advance { IfOk result (λ keep. D.calls_advance first (first_disk keep.journal) × D.calls_advance second (second_disk keep.journal)) }
+        ensures calls_advance_err { IfErr result (λ f. D.calls_advance first f.first × D.calls_advance second f.second) }
     {
         match Journal::open(alloc, first, second) {
             Ok((journal, list)) => Keep::of_list(alloc, origin, journal, list),
@@ -103,13 +103,13 @@ impl<M: Machine + Drop, D: Disk> Keep<M, D> {
         ensures nothing { D.premise → IfErr result (λ f. (place : _) → f.reason ≡ OpenReason.NotAJournal place → (s : M.State) → M.fixed s ≡ M.fixed_of origin → StandsEither M.stands_for M.stood_for s (stored D.seen journal) → ⊥) }
         ensures place { D.premise → IfErr result (λ f. (place : _) → f.reason ≡ OpenReason.NotAJournal place → IsRefusedAt (StandsOf M.fixed (M.fixed_of origin) M.stands_for M.stood_for) (stored D.seen journal) place) }
         ensures fault { IfErr result (λ f. f.reason ≡ OpenReason.DiskFault → Rose (D.disk_faults (first_disk journal)) (D.disk_faults f.first) ⊎ Rose (D.disk_faults (second_disk journal)) (D.disk_faults f.second)) }
-        ensures calm { IfOk result (λ keep. (D.disk_faults (first_disk keep.journal) ≡ D.disk_faults (first_disk journal)) × (D.disk_faults (second_disk keep.journal) ≡ D.disk_faults (second_disk journal))) }
+        ensures no_fault { IfOk result (λ keep. (D.disk_faults (first_disk keep.journal) ≡ D.disk_faults (first_disk journal)) × (D.disk_faults (second_disk keep.journal) ≡ D.disk_faults (second_disk journal))) }
         ensures form { D.premise → IfOk result (λ keep. IsInForm M.stands_for M.stood_for (M.state keep.machine) journal.second keep.journal.second (stored D.seen journal)) }
         ensures told { IfOk result (λ keep. (image : Option (List ℕ)) × IsRewritten M.stands_for (M.state keep.machine) journal image keep.journal × TellsIn D.told journal keep.journal (image_calls journal image)) }
         ensures told_first { IfErr result (λ f. f.reason ≡ OpenReason.DiskFault → (s : M.State) × (image : List ℕ) × M.stands_for (image ∷ []) s
-            × TellsSome D.told D.disk_faults D.went (first_disk journal) (second_disk journal) f.first f.second (image_calls journal (Some image))) }
-        ensures went { IfOk result (λ keep. WentOn D.went journal keep.journal) }
-        ensures went_err { IfErr result (λ f. D.went (first_disk journal) f.first × D.went (second_disk journal) f.second) }
+            × TellsSome D.told D.disk_faults D.calls_advance (first_disk journal) (second_disk journal) f.first f.second (image_calls journal (Some image))) }
+        ensures calls_advance { IfOk result (λ keep. WentOn D.calls_advance journal keep.journal) }
+        ensures calls_advance_err { IfErr result (λ f. D.calls_advance (first_disk journal) f.first × D.calls_advance (second_disk journal) f.second) }
     {
         match M::restore(alloc, origin, list.as_slice()) {
             Ok(restored) => Keep::of_restored(alloc, journal, restored),
@@ -142,13 +142,13 @@ impl<M: Machine + Drop, D: Disk> Keep<M, D> {
         ensures left { D.premise → IfErr result (λ f. IsMigrating D.seen D.moment D.left_since M.stands_for M.stood_for journal f.first f.second) }
         ensures no_place { IfErr result (λ f. (place : _) → f.reason ≡ OpenReason.NotAJournal place → ⊥) }
         ensures fault { IfErr result (λ f. f.reason ≡ OpenReason.DiskFault → Rose (D.disk_faults (first_disk journal)) (D.disk_faults f.first) ⊎ Rose (D.disk_faults (second_disk journal)) (D.disk_faults f.second)) }
-        ensures calm { IfOk result (λ keep. (D.disk_faults (first_disk keep.journal) ≡ D.disk_faults (first_disk journal)) × (D.disk_faults (second_disk keep.journal) ≡ D.disk_faults (second_disk journal))) }
+        ensures no_fault { IfOk result (λ keep. (D.disk_faults (first_disk keep.journal) ≡ D.disk_faults (first_disk journal)) × (D.disk_faults (second_disk keep.journal) ≡ D.disk_faults (second_disk journal))) }
         ensures form { D.premise → IfOk result (λ keep. IsInForm M.stands_for M.stood_for (M.state keep.machine) journal.second keep.journal.second (stored D.seen journal)) }
         ensures told { IfOk result (λ keep. (image : Option (List ℕ)) × IsRewritten M.stands_for (M.state keep.machine) journal image keep.journal × TellsIn D.told journal keep.journal (image_calls journal image)) }
         ensures told_first { IfErr result (λ f. f.reason ≡ OpenReason.DiskFault → (s : M.State) × (image : List ℕ) × M.stands_for (image ∷ []) s
-            × TellsSome D.told D.disk_faults D.went (first_disk journal) (second_disk journal) f.first f.second (image_calls journal (Some image))) }
-        ensures went { IfOk result (λ keep. WentOn D.went journal keep.journal) }
-        ensures went_err { IfErr result (λ f. D.went (first_disk journal) f.first × D.went (second_disk journal) f.second) }
+            × TellsSome D.told D.disk_faults D.calls_advance (first_disk journal) (second_disk journal) f.first f.second (image_calls journal (Some image))) }
+        ensures calls_advance { IfOk result (λ keep. WentOn D.calls_advance journal keep.journal) }
+        ensures calls_advance_err { IfErr result (λ f. D.calls_advance (first_disk journal) f.first × D.calls_advance (second_disk journal) f.second) }
     {
         let Restored {
             machine,

@@ -20,7 +20,7 @@ use std::alloc::Global;
 pub(crate) const MOST_IMAGE_BYTES: usize = 4_294_967_295;
 
 /// Puts a snapshot of the machine in place of all records. `StepFault::Memory` puts it off, and leaves all but the room: memory
-/// for it was wanting, it has too many bytes, or the journal is in its last generation.
+/// for it there was no memory, it has too many bytes, or the journal is in its last generation.
 pub fn put_snapshot<M: Machine, D: Disk>(
     alloc: Global,
     machine: &M,
@@ -37,11 +37,11 @@ pub fn put_snapshot<M: Machine, D: Disk>(
     ensures put_off { result ≡ Err no_memory → SameButRoom journal.old journal.new }
     ensures turned { OnOk result ((image : List ℕ) × IsSnapshotOf M.stands_for (M.state machine.now) journal.old.generation image × IsTurned image journal.old journal.new
         × TellsIn D.told journal.old journal.new (image_calls journal.old (Some image))) }
-    ensures told_first { result ≡ Err disk_fault → (image : List ℕ) × IsSnapshotOf M.stands_for (M.state machine.now) journal.old.generation image × TellsSomeIn D.told D.disk_faults D.went journal.old journal.new (image_calls journal.old (Some image)) }
+    ensures told_first { result ≡ Err disk_fault → (image : List ℕ) × IsSnapshotOf M.stands_for (M.state machine.now) journal.old.generation image × TellsSomeIn D.told D.disk_faults D.calls_advance journal.old journal.new (image_calls journal.old (Some image)) }
     ensures later { (D.disk_faults (first_disk journal.old) ≤ D.disk_faults (first_disk journal.new)) × (D.disk_faults (second_disk journal.old) ≤ D.disk_faults (second_disk journal.new)) }
-    ensures calm { (result ≡ Err disk_fault → ⊥) → (D.disk_faults (first_disk journal.new) ≡ D.disk_faults (first_disk journal.old)) × (D.disk_faults (second_disk journal.new) ≡ D.disk_faults (second_disk journal.old)) }
+    ensures no_fault { (result ≡ Err disk_fault → ⊥) → (D.disk_faults (first_disk journal.new) ≡ D.disk_faults (first_disk journal.old)) × (D.disk_faults (second_disk journal.new) ≡ D.disk_faults (second_disk journal.old)) }
     ensures cause { result ≡ Err disk_fault → Rose (D.disk_faults (first_disk journal.old)) (D.disk_faults (first_disk journal.new)) ⊎ Rose (D.disk_faults (second_disk journal.old)) (D.disk_faults (second_disk journal.new)) }
-    ensures went { WentOn D.went journal.old journal.new }
+    ensures calls_advance { WentOn D.calls_advance journal.old journal.new }
 {
     if journal.generation() == u64::MAX {
         return Err(StepFault::Memory);

@@ -8,7 +8,7 @@ ghost use Rattle.machine_keep.specs.declared.fault.StepFault.TheVariants.{Disk a
 use crate::gatherer::Gatherer;
 use machine_keep::fault::StepFault;
 use machine_keep::keep::Keep;
-use machine_keep::law::{law_armed, law_calm};
+use machine_keep::law::{law_armed, law_no_fault};
 use ps_disks::memory_disk::MemoryDisk;
 use ps_time::items::Items;
 use std::alloc::Global;
@@ -23,10 +23,10 @@ pub fn armed_step(
     requires second { IsArmed (second_disk keep.old.journal) (second_disk keep.old.journal).until_fault }
     ensures fault { result ≡ Err disk_fault → MeetsFault (first_disk keep.old.journal) (first_disk keep.new.journal) ⊎ MeetsFault (second_disk keep.old.journal) (second_disk keep.new.journal) }
     ensures spared { (result ≡ Err disk_fault → ⊥) → IsSpared (first_disk keep.old.journal) (first_disk keep.new.journal) × IsSpared (second_disk keep.old.journal) (second_disk keep.new.journal) }
-    ensures calm { IsArmed (first_disk keep.old.journal) 0 → IsArmed (second_disk keep.old.journal) 0 → result ≡ Err disk_fault
+    ensures no_fault { IsArmed (first_disk keep.old.journal) 0 → IsArmed (second_disk keep.old.journal) 0 → result ≡ Err disk_fault
         → Lacks (first_disk keep.old.journal) (first_disk keep.new.journal) ⊎ Lacks (second_disk keep.old.journal) (second_disk keep.new.journal) }
 {
-    law_calm::<Gatherer>();
+    law_no_fault::<Gatherer>();
     law_armed::<Gatherer>();
     keep.apply(alloc, call)
 }

@@ -201,7 +201,7 @@ fn one_in_a_snapshot_turns_the_disks_from_the_sync_of_its_open_head_on(
     Ok(())
 }
 
-// The head gate of the snapshot is left in the image new alone.
+// The head gate byte of the snapshot is left in the image new alone.
 fn turns_so(alloc: Global, image: Image, generation: u64) -> Result<bool, Memory> {
     match with_pieces(alloc, 11)? {
         Some(keep) => Ok(has_pieces(alloc, crashed(keep.into_disks(), image)?, true, generation)),

@@ -128,7 +128,7 @@ fn what_is_set_after_a_fault_holds_for_the_next_step(rt: HostRuntime) -> Result<
 }
 
 // The calls of the first disk behind which a crash comes while a byte is gathered, since the next one fails, and whether the byte
-// is kept: from the sync behind its open gate on.
+// is kept: from the sync behind its open gate byte on.
 static CRASHES: [(u64, bool); 5] = [(0, false), (1, false), (2, false), (3, false), (4, true)];
 
 fn crashed_after(alloc: Global, calls: u64) -> Result<Option<Pair>, Memory> {

@@ -30,7 +30,7 @@ pub enum MeshFault {
     BadTemplate(Text),
     /// With some hosts of its group this is no task.
     BadTask(Text),
-    /// Want of memory, which may come in place of any answer.
+    /// Out of memory, which may come in place of any answer.
     Memory,
 }
 
@@ -52,7 +52,7 @@ impl Drop for MeshFault {
 }
 
 impl MeshFault {
-    /// The refusal of a member without entries, or want of memory for the name.
+    /// The refusal of a member without entries, or out of memory for the name.
     pub fn empty(alloc: Global, name: &str) -> MeshFault
         ensures { result ≢ MeshFault.Memory → result ≡ MeshFault.Empty name.now }
     {
@@ -62,7 +62,7 @@ impl MeshFault {
         }
     }
 
-    /// The refusal of a member with too many entries, or want of memory for the name.
+    /// The refusal of a member with too many entries, or out of memory for the name.
     pub fn too_many(alloc: Global, name: &str) -> MeshFault
         ensures { result ≢ MeshFault.Memory → result ≡ MeshFault.TooMany name.now }
     {
@@ -72,7 +72,7 @@ impl MeshFault {
         }
     }
 
-    /// The refusal of a host's address, or want of memory for the name.
+    /// The refusal of a host's address, or out of memory for the name.
     pub fn bad_url(alloc: Global, name: &str) -> MeshFault
         ensures { result ≢ MeshFault.Memory → result ≡ MeshFault.BadUrl name.now }
     {
@@ -82,7 +82,7 @@ impl MeshFault {
         }
     }
 
-    /// The refusal of a name of a host, or want of memory for it.
+    /// The refusal of a name of a host, or out of memory for it.
     pub fn bad_name(alloc: Global, name: &str) -> MeshFault
         ensures { result ≢ MeshFault.Memory → result ≡ MeshFault.BadName name.now }
     {
@@ -92,7 +92,7 @@ impl MeshFault {
         }
     }
 
-    /// The refusal of a task, or want of memory for its name.
+    /// The refusal of a task, or out of memory for its name.
     pub fn bad_task(alloc: Global, name: &str) -> MeshFault
         ensures { result ≢ MeshFault.Memory → result ≡ MeshFault.BadTask name.now }
     {

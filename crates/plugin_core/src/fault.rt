@@ -20,12 +20,12 @@ pub enum SpecFault {
     UnknownTest(Text),
     /// A length or list of this member is out of its bounds.
     BadSpec(Text),
-    /// Want of memory, which may come in place of any answer.
+    /// Out of memory, which may come in place of any answer.
     Memory,
 }
 
 impl SpecFault {
-    /// The refusal of this member's bounds, or want of memory for the name.
+    /// The refusal of this member's bounds, or out of memory for the name.
     pub fn bad_spec(alloc: Global, name: &str) -> SpecFault
         ensures { result ≢ SpecFault.Memory → result ≡ SpecFault.BadSpec name.now }
     {

@@ -166,6 +166,6 @@ pub fn straight_text(alloc: Global, test: &TestSpec) -> Result<Text, Memory>
     let mut out = String::with_capacity(alloc, room(test))?;
     push_test(&mut out, test)?;
     let text = Text::from_string(out);
-    let _ = text.as_str();
+    let _known = text.as_str();
     Ok(text)
 }

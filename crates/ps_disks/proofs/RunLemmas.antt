@@ -12,25 +12,25 @@ use Rattle.ps_disks.specs.declared.disk.DiskCall.{DiskCall}
 use Rattle.ps_disks.specs.declared.history.LoggedCall.{LoggedCall}
 
 -- ---- one call
-pub went_once : (old new : DiskState) → IsNext old new → Went old new
-went_once old new is = record { states = new ∷ []; run = (is, refl) }
+pub calls_advance_once : (old new : DiskState) → IsNext old new → Went old new
+calls_advance_once old new is = record { states = new ∷ []; run = (is, refl) }
 
-pub went_read : (s old new : DiskState) (fails : Bool) → s ≡ old → fails ≡ fails_next s.calls
+pub calls_advance_read : (s old new : DiskState) (fails : Bool) → s ≡ old → fails ≡ fails_next s.calls
     → new ≡ record { history = s.history; calls = called s.calls; until_fault = s.until_fault; faults = if fails then raised s.faults else s.faults; starved = s.starved } → Went old new
-went_read s old new fails is to_fail after =
+calls_advance_read s old new fails is to_fail after =
     subst (λ o. Went o new) is
-    (went_once s new (inl (after ∙ ap (λ b. record { history = s.history; calls = called s.calls; until_fault = s.until_fault; faults = if b then raised s.faults else s.faults; starved = s.starved }) to_fail)))
+    (calls_advance_once s new (inl (after ∙ ap (λ b. record { history = s.history; calls = called s.calls; until_fault = s.until_fault; faults = if b then raised s.faults else s.faults; starved = s.starved }) to_fail)))
 
-pub went_made : {E : Type 0} (call : DiskCall) (old new : DiskState) (result : Result (Unit {0}) E) → Makes call old new result → Went old new
-went_made call old new (Ok u) makes = went_once old new (inr (inl (call, makes.1 ∙ ap (λ b. after_made old call (not b)) (sym makes.0))))
-went_made call old new (Err e) (inl failed) = went_once old new (inr (inl (call, failed.1 ∙ ap (λ b. after_made old call (not b)) (sym failed.0))))
-went_made call old new (Err e) (inr starved) = went_once old new (inr (inr starved))
+pub calls_advance_made : {E : Type 0} (call : DiskCall) (old new : DiskState) (result : Result (Unit {0}) E) → Makes call old new result → Went old new
+calls_advance_made call old new (Ok u) makes = calls_advance_once old new (inr (inl (call, makes.1 ∙ ap (λ b. after_made old call (not b)) (sym makes.0))))
+calls_advance_made call old new (Err e) (inl failed) = calls_advance_once old new (inr (inl (call, failed.1 ∙ ap (λ b. after_made old call (not b)) (sym failed.0))))
+calls_advance_made call old new (Err e) (inr starved) = calls_advance_once old new (inr (inr starved))
 
-pub went_starved : (old new : DiskState) → new ≡ after_starved old → Went old new
-went_starved old new starved = went_once old new (inr (inr starved))
+pub calls_advance_starved : (old new : DiskState) → new ≡ after_starved old → Went old new
+calls_advance_starved old new starved = calls_advance_once old new (inr (inr starved))
 
 -- ---- of any calls
--- memory that was wanting once stays told
+-- memory that was out_of_memory once stays told
 stays_starved : (old new : DiskState) (states : List DiskState) → IsRun old states new → old.starved ≡ true → new.starved ≡ true
 stays_starved old new [] same is = ap (λ s. s.starved) same ∙ is
 stays_starved old new (s ∷ states) (inl read, run) is = stays_starved s new states run (ap (λ d. d.starved) read ∙ is)
@@ -58,7 +58,7 @@ never_falls old new (s ∷ states) run few =
     let one = one_call old s run.0 few in
     omega (arith, one.0, never_falls s new states run.1 one.1)
 
--- where memory was wanting it rose
+-- where memory ran out it rose
 raised_on : (a b c : ℕ) → a ≤ b → raised b ≤ c → raised a ≤ c
 raised_on a b c less up = omega (arith, less, up)
 
@@ -204,15 +204,15 @@ made_are old new calls h =
 
 -- what its calls have left
 pub fed_after : (old new : DiskState) → Went old new → old.calls.failing ≡ [] → new.starved ≡ false → IsAfter old new (made_since old new)
-fed_after old new went none fed =
-    let h = after_run old new went.states went.run none fed in
+fed_after old new calls_advance none fed =
+    let h = after_run old new calls_advance.states calls_advance.run none fed in
     subst (IsAfter old new) (sym (made_are old new h.0 h.1)) h.1
 
 -- ---- why the count rose, and what is so where it didn't
-module _ (old new : DiskState) (call : ℕ) (ready : IsArmed old call) (went : Went old new) where
+module _ (old new : DiskState) (call : ℕ) (ready : IsArmed old call) (calls_advance : Went old new) where
   still_fed : (b : Bool) → new.starved ≡ b → new.faults ≡ old.faults → new.starved ≡ false
   still_fed false is same = is
-  still_fed true is same = absurd (omega (arith, same, ready.few, starving_counts old new went.states went.run (omega (arith, ready.few)) ready.fed is))
+  still_fed true is same = absurd (omega (arith, same, ready.few, starving_counts old new calls_advance.states calls_advance.run (omega (arith, ready.few)) ready.fed is))
 
   none_of : (b : Bool) → failed_in (noted old.until_fault (made_since old new)) ≡ b → IsAfter old new (made_since old new) → new.faults ≡ old.faults → failed_in (noted old.until_fault (made_since old new)) ≡ false
   none_of false is h same = is
@@ -222,7 +222,7 @@ module _ (old new : DiskState) (call : ℕ) (ready : IsArmed old call) (went : W
   spared calm =
       let same : new.faults ≡ old.faults = omega (arith, calm, ready.few) in
       let fed = still_fed new.starved refl same in
-      let h = fed_after old new went ready.reads fed in
+      let h = fed_after old new calls_advance ready.reads fed in
       let all = all_done old.until_fault (made_since old new) (none_of (failed_in (noted old.until_fault (made_since old new))) refl h same) in
       record { ahead = all.0; in_reach = all.1; left = record { reads = h.reads; fed = fed; few = omega (arith, same, ready.few); armed = h.until }; after = h }
 
@@ -233,7 +233,7 @@ module _ (old new : DiskState) (call : ℕ) (ready : IsArmed old call) (went : W
   fault_of : (b : Bool) → new.starved ≡ b → raised old.faults ≤ new.faults → MeetsFault old new
   fault_of true is rose = inl is
   fault_of false is rose =
-      let h = fed_after old new went ready.reads is in
+      let h = fed_after old new calls_advance ready.reads is in
       inr (⊎_elim (λ reached. inr reached) (λ far. inl far) (some_of (failed_in (noted old.until_fault (made_since old new))) refl h rose))
 
   pub meets_fault : Rose (counted old.faults) (counted new.faults) → MeetsFault old new

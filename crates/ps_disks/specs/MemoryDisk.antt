@@ -7,7 +7,7 @@ use Rattle.ps_disks.specs.declared.disk.DiskCall.{DiskCall}
 use Rattle.ps_disks.specs.declared.disk.DiskCall.TheVariants.{Write, Cut, Sync}
 
 -- the bytes and what was done to them; all calls, reads too; how many writes, cuts and syncs come up to the one that is to fail (0: none);
--- the count of faults; whether memory was wanting
+-- the count of faults; whether memory ran out
 pub record DiskState : Type 0 where
   pub history : History
   pub calls : Calls
@@ -69,6 +69,6 @@ Makes call old new (Err e) = ((fails_call old call ≡ true) × (new ≡ after_m
 abbrev pub reopened : DiskState → DiskState
 reopened d = record { history = d.history; calls = d.calls; until_fault = d.until_fault; faults = 0; starved = d.starved }
 
--- the calls, as long as memory was never wanting
+-- the calls, as long as memory never ran out
 abbrev pub told_calls : DiskState → Option (List DiskCall)
 told_calls s = if s.starved then None else Some (map (λ l. l.call) s.history.log)

@@ -26,15 +26,15 @@ pub record Went (old new : DiskState) : Type 0 where
   pub states : List DiskState
   pub run : IsRun old states new
 
-pub went_nowhere : (s : DiskState) → Went s s
-went_nowhere s = record { states = []; run = refl }
+pub calls_advance_nowhere : (s : DiskState) → Went s s
+calls_advance_nowhere s = record { states = []; run = refl }
 
 run_on : (a b c : DiskState) (first second : List DiskState) → IsRun a first b → IsRun b second c → IsRun a (first ++ second) c
 run_on a b c [] second same next = subst (λ s. IsRun s second c) same next
 run_on a b c (s ∷ first) second one next = (one.0, run_on s b c first second one.1 next)
 
-pub went_further : (a b c : DiskState) → Went a b → Went b c → Went a c
-went_further a b c one next = record { states = one.states ++ next.states; run = run_on a b c one.states next.states one.run next.run }
+pub calls_advance_further : (a b c : DiskState) → Went a b → Went b c → Went a c
+calls_advance_further a b c one next = record { states = one.states ++ next.states; run = run_on a b c one.states next.states one.run next.run }
 
 -- ---- one disk, of which no read is to fail
 -- no call found no memory, the count isn't at its greatest value, and of the writes, cuts and syncs this one is to fail (0: none)
@@ -62,7 +62,7 @@ abbrev pub faults_after : ℕ → List LoggedCall → ℕ
 faults_after faults [] = faults
 faults_after faults (l ∷ log) = faults_after (if l.done then faults else raised faults) log
 
--- Where memory wasn't wanting: the calls that it noted, and what they have left.
+-- Where memory wasn't out_of_memory: the calls that it noted, and what they have left.
 pub record IsAfter (old new : DiskState) (calls : List DiskCall) : Type 0 where
   pub start : new.history.start ≡ old.history.start
   pub log : new.history.log ≡ old.history.log ++ noted old.until_fault calls
@@ -77,6 +77,6 @@ pub record IsSpared (old new : DiskState) : Type 0 where
   pub left : IsArmed new (old.until_fault - length (made_since old new))
   pub after : IsAfter old new (made_since old new)
 
--- why they met one: memory was wanting, a write would have ended too far, or the call that was to fail was made
+-- why they met one: memory ran out, a write would have ended too far, or the call that was to fail was made
 abbrev pub MeetsFault : DiskState → DiskState → Type 0
 MeetsFault old new = (new.starved ≡ true) ⊎ ((has_too_far (made_since old new) ≡ true) ⊎ ((1 ≤ old.until_fault) × (old.until_fault ≤ length (made_since old new))))

@@ -47,7 +47,7 @@ pub trait Disk {
     ghost disk_faults: { Self → ℕ };
 
     // The second is the first after some calls in a row, reads too.
-    ghost went: { Self → Self → Type 0 };
+    ghost calls_advance: { Self → Self → Type 0 };
 
     /// Reads bytes from a place on to the front of `buf`, and answers how many. 0 for a buffer that
     /// isn't empty is the end of the file.
@@ -60,7 +60,7 @@ pub trait Disk {
         ensures time { premise → Elapses (moment self.old) (moment self.new) (left_since self.old) (left_since self.new) (may_leave self.new) }
         ensures told { told self.new ≡ told self.old }
         ensures cause { CountsFault (disk_faults self.old) (disk_faults self.new) result }
-        ensures went { went self.old self.new };
+        ensures calls_advance { calls_advance self.old self.new };
 
     /// Writes over what is there, and past the end. A gap before the bytes is filled with zeros, and an
     /// empty piece changes nothing. Fails where the bytes would end past 2^64 - 1.
@@ -73,7 +73,7 @@ pub trait Disk {
         ensures too_far { 2 ^ 64 ≤ at + length bytes.now → IsErr result }
         ensures told { Tells (told self.old) (told self.new) (Write at bytes.now) }
         ensures cause { CountsFault (disk_faults self.old) (disk_faults self.new) result }
-        ensures went { went self.old self.new };
+        ensures calls_advance { calls_advance self.old self.new };
 
     /// Cuts the file to at most `len` bytes. It never gets longer.
     fn cut(&mut self, len: u64) -> Result<(), Failed>
@@ -84,7 +84,7 @@ pub trait Disk {
         ensures time { premise → Elapses (moment self.old) (moment self.new) (left_since self.old) (left_since self.new) (may_leave self.new) }
         ensures told { Tells (told self.old) (told self.new) (Cut len) }
         ensures cause { CountsFault (disk_faults self.old) (disk_faults self.new) result }
-        ensures went { went self.old self.new };
+        ensures calls_advance { calls_advance self.old self.new };
 
     /// After it, a crash leaves what a read gives.
     fn sync(&mut self) -> Result<(), Failed>
@@ -95,7 +95,7 @@ pub trait Disk {
         ensures time { premise → Elapses (moment self.old) (moment self.new) (left_since self.old) (left_since self.new) (may_leave self.new) }
         ensures told { Tells (told self.old) (told self.new) Sync }
         ensures cause { CountsFault (disk_faults self.old) (disk_faults self.new) result }
-        ensures went { went self.old self.new };
+        ensures calls_advance { calls_advance self.old self.new };
 
     // What a read gives is one of the images.
     ghost reads_now: { (disk : Self) → premise → may_leave disk (seen disk) };
@@ -107,9 +107,9 @@ pub trait Disk {
     ghost disk_faults_fit: { (disk : Self) → disk_faults disk < 2 ^ 64 };
 
     // Calls in a row may be none, and others may follow them.
-    ghost went_refl: { (disk : Self) → went disk disk };
+    ghost calls_advance_refl: { (disk : Self) → calls_advance disk disk };
 
-    ghost went_trans: { (a b c : Self) → went a b → went b c → went a c };
+    ghost calls_advance_trans: { (a b c : Self) → calls_advance a b → calls_advance b c → calls_advance a c };
 
     // Since this moment there is no other.
     ghost only_now: { (disk : Self) (c : List ℕ) → premise → left_since disk (moment disk) c → may_leave disk c };

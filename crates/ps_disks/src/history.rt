@@ -82,7 +82,7 @@ impl History {
         self.log.len() as u64
     }
 
-    /// Makes a call, or notes one that failed. Where memory is wanting nothing is changed.
+    /// Makes a call, or notes one that failed. Where memory runs out nothing is changed.
     pub fn add(&mut self, call: DiskCall, done: bool) -> Result<(), Memory>
         requires { IsTrue done → EndsInReach call }
         ensures ok { OnOk result (self.new ≡ with_call self.old call done) }
@@ -119,7 +119,7 @@ impl History {
     }
 }
 
-// Makes a call, and keeps what undoes it until a sync makes sure of it. Where memory is wanting neither is changed.
+// Makes a call, and keeps what undoes it until a sync makes sure of it. Where memory runs out neither is changed.
 fn make_call(
     alloc: Global,
     bytes: &mut Vec<u8>,
@@ -139,7 +139,7 @@ fn make_call(
     Ok(())
 }
 
-// Makes a call that makes sure of nothing, and keeps what undoes it. Where memory is wanting neither is changed.
+// Makes a call that makes sure of nothing, and keeps what undoes it. Where memory runs out neither is changed.
 fn log_call(
     alloc: Global,
     bytes: &mut Vec<u8>,
@@ -195,7 +195,7 @@ fn taken(logged: &LoggedCall, len: usize) -> (usize, usize)
     }
 }
 
-// Where memory is wanting the bytes stay.
+// Where memory runs out the bytes stay.
 fn make(bytes: &mut Vec<u8>, call: &DiskCall) -> Result<(), Memory>
     ensures ok { OnOk result (bytes.new.items ≡ done_by call.now bytes.old.items) }
     ensures err { OnErr result (bytes.new.items ≡ bytes.old.items) }

@@ -210,7 +210,7 @@ impl Disk for MemoryDisk {
     ghost use Rattle.ps_disks.specs.History.{IsImage, LeftSince, bytes_now};
     ghost use Rattle.ps_disks.specs.Images.{bytes_are_image, image_counts, only_image};
     ghost use Rattle.ps_disks.specs.MemoryDisk.{told_calls};
-    ghost use Rattle.ps_disks.specs.Run.{Went, went_further, went_nowhere};
+    ghost use Rattle.ps_disks.specs.Run.{Went, calls_advance_further, calls_advance_nowhere};
 
     ghost premise = { Unit {0} };
 
@@ -226,7 +226,7 @@ impl Disk for MemoryDisk {
 
     ghost disk_faults = { λ d. counted d.faults };
 
-    ghost went = { Went };
+    ghost calls_advance = { Went };
 
     fn read(&mut self, at: u64, buf: &mut [u8]) -> Result<usize, Failed>
         ensures bound { ReadsAtMost result buf.new }
@@ -237,7 +237,7 @@ impl Disk for MemoryDisk {
         ensures time { Elapses (length self.old.history.log) (length self.new.history.log) (LeftSince self.old.history) (LeftSince self.new.history) (IsImage self.new.history) }
         ensures told { told_calls self.new ≡ told_calls self.old }
         ensures cause { CountsFault (counted self.old.faults) (counted self.new.faults) result }
-        ensures went { Went self.old self.new }
+        ensures calls_advance { Went self.old self.new }
 
         // A read that isn't to fail gives as many bytes as fit.
         ensures fails { is_err result ≡ fails_next self.old.calls }
@@ -261,7 +261,7 @@ impl Disk for MemoryDisk {
         ensures too_far { 2 ^ 64 ≤ at + length bytes.now → IsErr result }
         ensures told { Tells (told_calls self.old) (told_calls self.new) (Write at bytes.now) }
         ensures cause { CountsFault (counted self.old.faults) (counted self.new.faults) result }
-        ensures went { Went self.old self.new }
+        ensures calls_advance { Went self.old self.new }
         ensures makes { Makes (Write at bytes.now) self.old self.new result }
     {
         match bytes.to_vec(self.history.alloc()) {
@@ -278,7 +278,7 @@ impl Disk for MemoryDisk {
         ensures time { Elapses (length self.old.history.log) (length self.new.history.log) (LeftSince self.old.history) (LeftSince self.new.history) (IsImage self.new.history) }
         ensures told { Tells (told_calls self.old) (told_calls self.new) (Cut len) }
         ensures cause { CountsFault (counted self.old.faults) (counted self.new.faults) result }
-        ensures went { Went self.old self.new }
+        ensures calls_advance { Went self.old self.new }
         ensures makes { Makes (Cut len) self.old self.new result }
     {
         self.make(DiskCall::Cut(len))
@@ -292,7 +292,7 @@ impl Disk for MemoryDisk {
         ensures time { Elapses (length self.old.history.log) (length self.new.history.log) (LeftSince self.old.history) (LeftSince self.new.history) (IsImage self.new.history) }
         ensures told { Tells (told_calls self.old) (told_calls self.new) Sync }
         ensures cause { CountsFault (counted self.old.faults) (counted self.new.faults) result }
-        ensures went { Went self.old self.new }
+        ensures calls_advance { Went self.old self.new }
         ensures makes { Makes Sync self.old self.new result }
     {
         self.make(DiskCall::Sync)
@@ -304,9 +304,9 @@ impl Disk for MemoryDisk {
 
     ghost disk_faults_fit = { λ d. counted_fits d.faults };
 
-    ghost went_refl = { went_nowhere };
+    ghost calls_advance_refl = { calls_advance_nowhere };
 
-    ghost went_trans = { went_further };
+    ghost calls_advance_trans = { calls_advance_further };
 
     ghost only_now = { λ d c _ left. only_image d.history c left };
 }

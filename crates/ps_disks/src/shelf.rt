@@ -52,7 +52,7 @@ impl Shelf {
         place_of_folder(&self.out, folder).is_some()
     }
 
-    /// Takes the folder's pair, or a new one. Where memory is wanting nothing is changed.
+    /// Takes the folder's pair, or a new one. Where memory runs out nothing is changed.
     pub fn take(&mut self, alloc: Global, folder: &str) -> Result<(MemoryDisk, MemoryDisk), Memory>
         ensures pair { IfOk result (λ pair. pair ≡ opened_pair (find_pair folder.now self.old.pairs)) }
         ensures size { IfOk result (λ pair. AreBounded (IsImage pair.0.history) × AreBounded (IsImage pair.1.history)) }

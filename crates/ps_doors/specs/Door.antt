@@ -76,7 +76,7 @@ abbrev pub accept_of : Calls → List Guest → Accepted StreamState
 accept_of calls [] = Closed
 accept_of calls (guest ∷ more) = if fails_next calls then Failed else Stream guest.0 guest.1
 
--- it may be want of memory in place of a stream
+-- it may be out of memory in place of a stream
 abbrev pub Accepts : Accepted StreamState → Accepted StreamState → Type 0
 Accepts Memory (Stream stream address) = ⊤
 Accepts answer wanted = answer ≡ wanted
@@ -87,7 +87,7 @@ after_giving d (Stream stream address) =
     record { guests = drop 1 d.guests; given = d.given ++ (stream, address) ∷ []; returned = after_going d.returned; calls = d.calls; faults = d.faults }
 after_giving d answer = d
 
--- the first of these, or want of memory
+-- the first of these, or out of memory
 abbrev pub GivesFirst : List Guest → Accepted StreamState → Type 0
 GivesFirst guests (Stream stream address) = guests ≡ (stream, address) ∷ drop 1 guests
 GivesFirst guests Memory = ⊤

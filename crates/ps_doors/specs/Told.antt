@@ -5,7 +5,7 @@ use Rattle.std.specs.Prelude.{◌≡◌, Bool, if◌then◌else◌, List, [], �
 abbrev pub TellsMore : {X : Type 0} → Option (List X) → Option (List X) → X → Type 0
 TellsMore {X} old now more = IfSome now (λ told. (before : List X) × (old ≡ Some before) × (told ≡ before ++ more ∷ []))
 
--- the list, as long as memory was never wanting
+-- the list, as long as memory never ran out
 abbrev pub told_by : {X : Type 0} → Bool → List X → Option (List X)
 told_by starved xs = if starved then None else Some xs
 

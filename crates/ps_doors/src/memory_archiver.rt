@@ -55,7 +55,7 @@ impl MemoryArchiver {
         }
     }
 
-    /// The attempts so far, as long as memory was never wanting.
+    /// The attempts so far, as long as memory never ran out.
     pub fn attempts(&self) -> &[Attempt]
         ensures { result.now ≡ self.now.attempts }
     {
@@ -70,7 +70,7 @@ impl MemoryArchiver {
     }
 }
 
-// One more attempt, or none where memory is wanting.
+// One more attempt, or none where memory runs out.
 fn note(
     attempts: &mut Vec<Attempt>,
     alloc: Global,

@@ -67,7 +67,7 @@ impl MemoryLink {
         }
     }
 
-    /// What was asked so far, as long as memory was never wanting.
+    /// What was asked so far, as long as memory never ran out.
     pub fn asked(&self) -> &[Asked]
         ensures { result.now ≡ self.now.asked }
     {
@@ -123,7 +123,7 @@ fn copy_answer(
     }
 }
 
-// One call more, or none where memory is wanting.
+// One call more, or none where memory runs out.
 fn note(
     asked: &mut Vec<Asked>,
     alloc: Global,

@@ -43,6 +43,6 @@ cut_calls len n =
 abbrev pub sync_call : Bool → FileCall
 sync_call was_cut = if was_cut then SyncAll else SyncData
 
--- the list, as long as memory was never wanting
+-- the list, as long as memory never ran out
 abbrev pub told_by : {X : Type 0} → Bool → List X → Option (List X)
 told_by starved xs = if starved then None else Some xs

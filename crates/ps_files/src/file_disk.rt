@@ -71,7 +71,7 @@ impl<F: FileCalls> Disk for FileDisk<F> {
 
     ghost disk_faults = { λ d. counted d.faults };
 
-    ghost went = { λ _ _. Unit {0} };
+    ghost calls_advance = { λ _ _. Unit {0} };
 
     // One read of the file, and its answer.
     fn read(&mut self, at: u64, buf: &mut [u8]) -> Result<usize, Failed>
@@ -135,9 +135,9 @@ impl<F: FileCalls> Disk for FileDisk<F> {
 
     ghost disk_faults_fit = { λ d. counted_fits d.faults };
 
-    ghost went_refl = { λ _. tt };
+    ghost calls_advance_refl = { λ _. tt };
 
-    ghost went_trans = { λ _ _ _ _ _. tt };
+    ghost calls_advance_trans = { λ _ _ _ _ _. tt };
 
     ghost only_now = { λ _ _ no. absurd no };
 }

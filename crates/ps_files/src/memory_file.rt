@@ -50,12 +50,12 @@ impl MemoryFile {
         }
     }
 
-    /// The calls so far, as long as memory was never wanting.
+    /// The calls so far, as long as memory never ran out.
     pub fn made(&self) -> &[MadeCall] {
         &self.made
     }
 
-    /// The calls so far, moved out; none where memory was wanting.
+    /// The calls so far, moved out; none where memory ran out.
     pub fn into_made(self) -> Option<Items<MadeCall>>
         ensures { result ≡ ⟦<MemoryFile as FileCalls>⟧.made self }
     {

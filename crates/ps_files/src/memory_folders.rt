@@ -81,7 +81,7 @@ impl MemoryFolders {
         }
     }
 
-    /// The steps that were done so far, as long as memory was never wanting.
+    /// The steps that were done so far, as long as memory never ran out.
     pub fn steps(&self) -> &[Step] {
         &self.steps
     }

@@ -35,7 +35,7 @@ HeadFault kind limits front Memory = ⊤
 abbrev pub IsMessageOf : {H M : Type 0} → Kind H M → List ℕ → M → Type 0
 IsMessageOf {H} kind front message = (head : H) × (rest : List ℕ) × kind.Reads front head rest × (message ≡ kind.message head [])
 
--- a whole head is refused, or memory is wanting
+-- a whole head is refused, or memory runs out
 abbrev pub IsRefusedOr : {H M : Type 0} → Kind H M → HttpLimits → List ℕ → HttpFault → Type 0
 IsRefusedOr kind limits front BadHead = IsRefused kind limits front BadHead
 IsRefusedOr kind limits front TooLarge = IsRefused kind limits front TooLarge

@@ -74,7 +74,7 @@ response_fields_text r =
 abbrev pub response_text : Response → List ℕ
 response_text r = status_line r.status ++ (response_fields_text r ++ r.body)
 
--- the reply where memory is wanting, which is 500, and the one where a disk failed
+-- the reply where memory runs out, which is 500, and the one where a disk failed
 abbrev pub fault_response : ℕ → Bool → Response
 fault_response status close = record {
   status = status;

@@ -225,7 +225,7 @@ fn no_disk(close: bool) -> &'static [u8]
     b"HTTP/1.1 503 Service Unavailable\r\nContent-Type: application/json\r\nContent-Length: 16\r\n\r\n{\"error\":\"disk\"}"
 }
 
-/// The reply where memory is wanting (500) or a disk failed (503). It takes no memory.
+/// The reply where memory runs out (500) or a disk failed (503). It takes no memory.
 pub fn fixed_reply(status: u16, close: bool) -> &'static [u8]
     requires { (status ≡ 500) ⊎ (status ≡ 503) }
     ensures { result.now ≡ response_text (fault_response status close) }

@@ -1,4 +1,4 @@
--- What a call answers, where want of memory may come in place of any answer.
+-- What a call answers, where out of memory may come in place of any answer.
 use Rattle.std.specs.Prelude.{◌≡◌, ◌≢◌, Result, Ok, Err}
 
 -- the answer is the wanted one, or the fault m

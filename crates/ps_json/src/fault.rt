@@ -26,12 +26,12 @@ pub enum JsonFault {
     WrongKind(Text),
     /// A member that nobody takes.
     Unknown(Text),
-    /// Want of memory, which may come in place of any answer.
+    /// Out of memory, which may come in place of any answer.
     Memory,
 }
 
 impl JsonFault {
-    /// The refusal of an object without this member, or want of memory for the name.
+    /// The refusal of an object without this member, or out of memory for the name.
     pub fn missing(alloc: Global, name: &str) -> JsonFault
         ensures { result ≢ JsonFault.Memory → result ≡ JsonFault.Missing name.now }
     {
@@ -41,7 +41,7 @@ impl JsonFault {
         }
     }
 
-    /// The refusal of this member's value, or want of memory for the name.
+    /// The refusal of this member's value, or out of memory for the name.
     pub fn wrong_kind(alloc: Global, name: &str) -> JsonFault
         ensures { result ≢ JsonFault.Memory → result ≡ JsonFault.WrongKind name.now }
     {
@@ -51,7 +51,7 @@ impl JsonFault {
         }
     }
 
-    /// The refusal of an object with this member, or want of memory for the name.
+    /// The refusal of an object with this member, or out of memory for the name.
     pub fn unknown(alloc: Global, name: &str) -> JsonFault
         ensures { result ≢ JsonFault.Memory → result ≡ JsonFault.Unknown name.now }
     {

@@ -32,12 +32,12 @@ abbrev pub after_read : {E : Type 0} → SourceState → Result ℕ E → Source
 after_read s (Ok n) = record { left = drop n s.left; calls = called s.calls; faults = s.faults }
 after_read s (Err e) = record { left = s.left; calls = called s.calls; faults = raised s.faults }
 
--- the bytes written, and whether memory was wanting
+-- the bytes written, and whether memory ran out
 pub record WrittenState : Type 0 where
   pub bytes : List ℕ
   pub starved : Bool
 
--- the bytes written, the calls, the count of faults, and whether memory was wanting
+-- the bytes written, the calls, the count of faults, and whether memory ran out
 pub record SinkState : Type 0 where
   pub written : List ℕ
   pub calls : Calls

@@ -1,5 +1,5 @@
 mod LineLemmas
 pub mod PlayLemmas
-mod SeatLemmas
+mod SimulatedLemmas
 mod SettleLemmas
 mod TurnLemmas

@@ -9,13 +9,13 @@ use Rattle.rehearsal_script.specs.declared.script.ScriptLine.TheVariants as line
 use Rattle.rehearsal_model.specs.Moves.{Move, Outcomes, moment_of_line}
 use Rattle.rehearsal_model.specs.Plays.{MayArchive, MayLine}
 use Rattle.rehearsal_report.specs.Line.{booking_text, line_text}
-use Rattle.rehearsal_model.specs.Scenes.Deed.{Does}
-use Rattle.rehearsal_model.specs.Scenes.{Scene, at_last, came_at, deed_of, scene_archived, scene_deed, scene_line}
-use Rattle.rehearsal_model.specs.Telling.{archive_said, came_said, line_said, unavailable}
+use Rattle.rehearsal_model.specs.Simulations.Action.{Does}
+use Rattle.rehearsal_model.specs.Simulations.{Simulation, at_last, outcome_at, action_of, simulation_archived, simulation_after, simulation_line}
+use Rattle.rehearsal_model.specs.Telling.{archive_said, outcome_said, line_said, unavailable}
 
 -- ---- what is there afterwards, at the moment of the line
-module _ (comes : Outcomes) (hosts : List ScriptHost) (b : Scene) where
-  plainly : (l : ScriptLine) → ((at host : ℕ) → l ≡ line.Archive at host → ⊥) → at_last (moment_of_line l) (scene_deed hosts b (deed_of comes b l)) ≡ scene_line comes hosts b l
+module _ (comes : Outcomes) (hosts : List ScriptHost) (b : Simulation) where
+  plainly : (l : ScriptLine) → ((at host : ℕ) → l ≡ line.Archive at host → ⊥) → at_last (moment_of_line l) (simulation_after hosts b (action_of comes b l)) ≡ simulation_line comes hosts b l
   plainly (line.Archive at host) other = absurd (other at host refl)
   plainly (line.Host place) other = refl
   plainly (line.Tools host tools) other = refl
@@ -31,17 +31,17 @@ module _ (comes : Outcomes) (hosts : List ScriptHost) (b : Scene) where
   plainly (line.Repeat at n) other = refl
   plainly (line.Lose n) other = refl
 
-  module _ (l : ScriptLine) (now next : Scene) (next_is : next ≡ at_last (moment_of_line l) now) where
-    pub line_done : ((at host : ℕ) → l ≡ line.Archive at host → ⊥) → now ≡ scene_deed hosts b (deed_of comes b l) → next ≡ scene_line comes hosts b l
+  module _ (l : ScriptLine) (now next : Simulation) (next_is : next ≡ at_last (moment_of_line l) now) where
+    pub line_done : ((at host : ℕ) → l ≡ line.Archive at host → ⊥) → now ≡ simulation_after hosts b (action_of comes b l) → next ≡ simulation_line comes hosts b l
     line_done other done =
-        let then_is : next ≡ at_last (moment_of_line l) (scene_deed hosts b (deed_of comes b l)) = next_is ∙ ap (λ (x : Scene). at_last (moment_of_line l) x) done in
+        let then_is : next ≡ at_last (moment_of_line l) (simulation_after hosts b (action_of comes b l)) = next_is ∙ ap (λ (x : Simulation). at_last (moment_of_line l) x) done in
         then_is ∙ plainly l other
 
     -- one that has a host try an archive
-    pub line_archived : (at host : ℕ) → l ≡ line.Archive at host → at_last at now ≡ scene_archived comes hosts b host at → next ≡ scene_line comes hosts b l
+    pub line_archived : (at host : ℕ) → l ≡ line.Archive at host → at_last at now ≡ simulation_archived comes hosts b host at → next ≡ simulation_line comes hosts b l
     line_archived at host is done =
         let then_is : next ≡ at_last at now = next_is ∙ ap (λ (x : ScriptLine). at_last (moment_of_line x) now) is in
-        let line_is : scene_archived comes hosts b host at ≡ scene_line comes hosts b l = ap (scene_line comes hosts b) (sym is) in
+        let line_is : simulation_archived comes hosts b host at ≡ simulation_line comes hosts b l = ap (simulation_line comes hosts b) (sym is) in
         then_is ∙ (done ∙ line_is)
 
   pub line_may : (l : ScriptLine) (at host : ℕ) → l ≡ line.Archive at host → MayArchive comes hosts b host at → MayLine comes hosts b l
@@ -52,9 +52,9 @@ module _ (comes : Outcomes) (hosts : List ScriptHost) (b : Scene) where
 
   -- ---- a booking: what it does, and what it is told
   pub booking_done : (l : ScriptLine) (at host : ℕ) (class : Class) (priority : ℤ) (start len : ℕ) → l ≡ line.Book at host class priority start len
-      → (i : Input) → i ≡ input.Book class priority start len → scene_deed hosts b (Does (Move.Asks host at i)) ≡ scene_deed hosts b (deed_of comes b l)
-  booking_done l at host class priority start len is i i_is = ap (λ (x : Input). scene_deed hosts b (Does (Move.Asks host at x))) i_is ∙ ap (λ (x : ScriptLine). scene_deed hosts b (deed_of comes b x)) (sym is)
+      → (i : Input) → i ≡ input.Book class priority start len → simulation_after hosts b (Does (Move.Asks host at i)) ≡ simulation_after hosts b (action_of comes b l)
+  booking_done l at host class priority start len is i i_is = ap (λ (x : Input). simulation_after hosts b (Does (Move.Asks host at x))) i_is ∙ ap (λ (x : ScriptLine). simulation_after hosts b (action_of comes b x)) (sym is)
 
   pub booking_said : (l : ScriptLine) (at host : ℕ) (class : Class) (priority : ℤ) (start len : ℕ) → l ≡ line.Book at host class priority start len
-      → (i : Input) → i ≡ input.Book class priority start len → came_said (came_at b host at i) unavailable booking_text ≡ line_said comes hosts b l
-  booking_said l at host class priority start len is i i_is = ap (λ (x : Input). came_said (came_at b host at x) unavailable booking_text) i_is ∙ ap (line_said comes hosts b) (sym is)
+      → (i : Input) → i ≡ input.Book class priority start len → outcome_said (outcome_at b host at i) unavailable booking_text ≡ line_said comes hosts b l
+  booking_said l at host class priority start len is i i_is = ap (λ (x : Input). outcome_said (outcome_at b host at x) unavailable booking_text) i_is ∙ ap (line_said comes hosts b) (sym is)

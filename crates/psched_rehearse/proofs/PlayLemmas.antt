@@ -14,30 +14,30 @@ use Rattle.rehearsal_script.specs.declared.script.ScriptHost.{ScriptHost}
 use Rattle.simulated_machine.specs.Held.{Held}
 use Rattle.world_law.specs.Events.{brings}
 use Rattle.world_law.specs.Laws.{Safe}
-use Rattle.world_law.specs.World.{Letter, Stage}
+use Rattle.world_law.specs.World.{Message, Stage}
 use Rattle.rehearsal_report.specs.Line.{line_text}
 use Rattle.rehearsal_model.specs.Hosts.{first_config}
 use Rattle.rehearsal_model.specs.Moves.{Outcomes, receiver, reply_to}
 use Rattle.rehearsal_model.specs.Plays.{IsPlay, MayLine}
 use Rattle.rehearsal_model.specs.Reaching.{IsKnown, IsScriptPeer, Reaches}
 use Rattle.rehearsal_model.specs.Rehearsal.{Show, seen}
-use Rattle.rehearsal_model.specs.Scenes.{Play, Scene, as_read, first_play, first_scene, Turns, kept_all, nobody_seat, play_line, play_lines, scene_line, scene_lines, seat_at, show_by}
+use Rattle.rehearsal_model.specs.Simulations.{Play, Simulation, as_read, first_play, first_simulation, UnsyncedKept, kept_all, nobody_held, play_line, play_lines, simulation_line, simulation_lines, held_at, show_by}
 use Rattle.rehearsal_model.specs.Seen.{Seen, message, stage_at}
 use Rattle.rehearsal_model.specs.Telling.{line_said, lines_said}
-use Rattle.rehearsal_model.proofs.DeedLemmas.{line_on}
+use Rattle.rehearsal_model.proofs.ActionLemmas.{line_on}
 use Rattle.rehearsal_model.proofs.HostLemmas.{right_first}
 use Rattle.rehearsal_model.proofs.ReachLemmas.{book_lawful, brings_input, comes_known, config_is, receiver_within, replied_so, script_peers}
-use Rattle.rehearsal_model.proofs.SceneLemmas.{stage_chosen}
+use Rattle.rehearsal_model.proofs.SimulationLemmas.{stage_chosen}
 use Rattle.rehearsal_lines.specs.Playing.{IsPlaying}
 
-pub playing : (hosts : List ScriptHost) → AreLawfulHosts hosts → (p : Play) → IsPlay hosts p → IsPlaying hosts p.scene
+pub playing : (hosts : List ScriptHost) → AreLawfulHosts hosts → (p : Play) → IsPlay hosts p → IsPlaying hosts p.simulation
 playing hosts lawful p is =
-    let b : Scene = p.scene in
+    let b : Simulation = p.simulation in
     let s : Show = show_by kept_all p in
     let reach : Reaches hosts s = is.reaches kept_all in
     let sees : seen hosts s ≡ as_read b = is.sees kept_all in
-    let stage : (place : ℕ) → stage_at (seen hosts s) place ≡ (seat_at b place).state = λ place. ap (λ (x : Seen). stage_at x place) sees ∙ stage_chosen kept_all b place in
-    let sent : (n : ℕ) (l : Letter) → message (as_read b) n ≡ Some l → message (seen hosts s) n ≡ Some l = λ n l e. ap (λ (x : Seen). message x n) sees ∙ e in
+    let stage : (place : ℕ) → stage_at (seen hosts s) place ≡ (held_at b place).state = λ place. ap (λ (x : Seen). stage_at x place) sees ∙ stage_chosen kept_all b place in
+    let sent : (n : ℕ) (l : Message) → message (as_read b) n ≡ Some l → message (seen hosts s) n ≡ Some l = λ n l e. ap (λ (x : Seen). message x n) sees ∙ e in
     record {
       places = is.long;
       hosts_are = λ place within. (
@@ -59,51 +59,51 @@ pub right_config : (hosts : List ScriptHost) → AreLawfulHosts hosts → (place
 right_config hosts lawful place h within is = (right_first hosts lawful place h (slice_get-get_or hosts place h within ∙ ap Some (sym is))).config
 
 -- how far a rehearsal has come: worlds are seen so, and with what is left to run all is reported
-pub record HasCome (comes : Outcomes) (hosts : List ScriptHost) (lines left : List Numbered) (old report : List ℕ) (b : Scene) : Type 0 where
+pub record HasCome (comes : Outcomes) (hosts : List ScriptHost) (lines left : List Numbered) (old report : List ℕ) (b : Simulation) : Type 0 where
   pub play : Play
   pub is : IsPlay hosts play
-  pub scene_so : play.scene ≡ b
-  pub reported : old ++ lines_said comes hosts (first_scene hosts) lines ≡ report ++ lines_said comes hosts b left
+  pub simulation_so : play.simulation ≡ b
+  pub reported : old ++ lines_said comes hosts (first_simulation hosts) lines ≡ report ++ lines_said comes hosts b left
   pub ends : play_lines comes hosts (first_play hosts) lines ≡ play_lines comes hosts play left
-  pub scenes : scene_lines comes hosts (first_scene hosts) lines ≡ scene_lines comes hosts b left
+  pub simulations : simulation_lines comes hosts (first_simulation hosts) lines ≡ simulation_lines comes hosts b left
 
 -- one line more
-module _ (comes : Outcomes) (hosts : List ScriptHost) (lawful : AreLawfulHosts hosts) (lines left : List Numbered) (old report : List ℕ) (b : Scene) (l : Numbered) where
+module _ (comes : Outcomes) (hosts : List ScriptHost) (lawful : AreLawfulHosts hosts) (lines left : List Numbered) (old report : List ℕ) (b : Simulation) (l : Numbered) where
   pub one_more : HasCome comes hosts lines (l ∷ left) old report b → IsLawfulLine (length hosts) l.line → MayLine comes hosts b l.line
       → (report_after : List ℕ) → report_after ≡ report ++ line_text l.number (line_said comes hosts b l.line)
-      → (b_after : Scene) → b_after ≡ scene_line comes hosts b l.line
+      → (b_after : Simulation) → b_after ≡ simulation_line comes hosts b l.line
       → HasCome comes hosts lines left old report_after b_after
   one_more come law may report_after says b_after sees =
       let p : Play = come.play in
       record {
         play = play_line comes hosts p l.line;
-        is = line_on comes hosts lawful p come.is l.line law (subst (λ (x : Scene). MayLine comes hosts x l.line) (sym come.scene_so) may);
-        scene_so = ap (λ (x : Scene). scene_line comes hosts x l.line) come.scene_so ∙ sym sees;
+        is = line_on comes hosts lawful p come.is l.line law (subst (λ (x : Simulation). MayLine comes hosts x l.line) (sym come.simulation_so) may);
+        simulation_so = ap (λ (x : Simulation). simulation_line comes hosts x l.line) come.simulation_so ∙ sym sees;
         reported =
             come.reported
-            ∙ (sym (append_assoc report (line_text l.number (line_said comes hosts b l.line)) (lines_said comes hosts (scene_line comes hosts b l.line) left))
-            ∙ (ap (λ x. x ++ lines_said comes hosts (scene_line comes hosts b l.line) left) (sym says)
+            ∙ (sym (append_assoc report (line_text l.number (line_said comes hosts b l.line)) (lines_said comes hosts (simulation_line comes hosts b l.line) left))
+            ∙ (ap (λ x. x ++ lines_said comes hosts (simulation_line comes hosts b l.line) left) (sym says)
             ∙ ap (λ x. report_after ++ lines_said comes hosts x left) (sym sees)));
         ends = come.ends;
-        scenes = come.scenes ∙ ap (λ x. scene_lines comes hosts x left) (sym sees);
+        simulations = come.simulations ∙ ap (λ x. simulation_lines comes hosts x left) (sym sees);
       }
 
 -- where none is left
 abbrev HasConfig : Held Stage → Type 0
 HasConfig h = IsConfig h.state.config
 
-module _ (comes : Outcomes) (hosts : List ScriptHost) (lawful : AreLawfulHosts hosts) (lines : List Numbered) (old report : List ℕ) (b : Scene) (come : HasCome comes hosts lines [] old report b) where
-  pub all_told : report ≡ old ++ lines_said comes hosts (first_scene hosts) lines
+module _ (comes : Outcomes) (hosts : List ScriptHost) (lawful : AreLawfulHosts hosts) (lines : List Numbered) (old report : List ℕ) (b : Simulation) (come : HasCome comes hosts lines [] old report b) where
+  pub all_told : report ≡ old ++ lines_said comes hosts (first_simulation hosts) lines
   all_told = sym (come.reported ∙ append-nil report)
 
-  pub worlds_safe : ((p : Play) (turns : Turns) → AreLawfulHosts hosts → IsPlay hosts p → Safe (p.worlds turns)) → (turns : Turns) → Safe ((play_lines comes hosts (first_play hosts) lines).worlds turns)
+  pub worlds_safe : ((p : Play) (turns : UnsyncedKept) → AreLawfulHosts hosts → IsPlay hosts p → Safe (p.worlds turns)) → (turns : UnsyncedKept) → Safe ((play_lines comes hosts (first_play hosts) lines).worlds turns)
   worlds_safe law turns = subst (λ (p : Play). Safe (p.worlds turns)) (sym come.ends) (law come.play turns lawful come.is)
 
   is_playing : IsPlaying hosts b
-  is_playing = subst (IsPlaying hosts) come.scene_so (playing hosts lawful come.play come.is)
+  is_playing = subst (IsPlaying hosts) come.simulation_so (playing hosts lawful come.play come.is)
 
-  pub all_configs : All (λ (h : Held Stage). IsConfig h.state.config) b.seats
-  all_configs = All-from_get_or HasConfig b.seats nobody_seat (λ place within. (is_playing.hosts_are place within).0)
+  pub all_configs : All (λ (h : Held Stage). IsConfig h.state.config) b.held_hosts
+  all_configs = All-from_get_or HasConfig b.held_hosts nobody_held (λ place within. (is_playing.hosts_are place within).0)
 
   pub last_low : b.last ≤ greatest_moment
   last_low = is_playing.last

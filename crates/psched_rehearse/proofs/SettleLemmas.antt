@@ -5,8 +5,8 @@ use Rattle.host_model.specs.declared.input.Input.TheVariants as input
 use Rattle.host_model.specs.declared.view.Page.TheVariants as page
 use Rattle.simulated_machine.specs.Held.{Held, armed_at}
 use Rattle.world_law.specs.World.{Stage}
-use Rattle.rehearsal_model.specs.Seats.{done, stepped}
-use Rattle.rehearsal_model.proofs.CalmLemmas.{stepped_done}
+use Rattle.rehearsal_model.specs.Simulated.{done, stepped}
+use Rattle.rehearsal_model.proofs.UnarmedLemmas.{stepped_done}
 
 abbrev look : Input
 look = input.View page.Home

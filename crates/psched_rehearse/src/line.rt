@@ -8,7 +8,7 @@ ghost use Rattle.rehearsal_model.specs.Moves.{Move.Arms, Move.Retools, Move.Turn
 ghost use Rattle.rehearsal_model.specs.Plays.{MayLine};
 ghost use Rattle.rehearsal_model.specs.Reaching.{IsScriptPeer};
 ghost use Rattle.rehearsal_model.specs.Rehearsal.{retooled};
-ghost use Rattle.rehearsal_model.specs.Scenes.{Deed.Does, Deed.Fails, config_of, deed_of, scene_deed, scene_line};
+ghost use Rattle.rehearsal_model.specs.Simulations.{Action.Does, Action.Fails, config_of, action_of, simulation_after, simulation_line};
 ghost use Rattle.rehearsal_model.specs.Telling.{line_said, turn_said};
 ghost use Rattle.rehearsal_lines.specs.Ready.{IsReady};
 ghost use Rattle.rehearsal_lines.specs.Playing.{AreLawful, IsPlaying, is_archive, is_asked, is_at_path, is_of_message};
@@ -18,18 +18,18 @@ use ps_time::items::Items;
 use ps_time::memory::Memory;
 use ps_time::moment::Moment;
 use ps_time::text::Text;
-use rehearsal_script::script::{Numbered, ScriptHost, ScriptLine, Stop};
 use rehearsal_lines::archive::archive;
 use rehearsal_lines::arrive::{deliver, lose, repeat};
 use rehearsal_lines::ask::{CRASHED, DISK_FAULT, book, booking, limit};
 use rehearsal_lines::request::{delete, get, post};
-use rehearsal_lines::state::came::Came;
+use rehearsal_lines::state::outcome::StepOutcome;
 use rehearsal_lines::state::rehearsal::Rehearsal;
-use rehearsal_lines::state::tell::add_letters;
+use rehearsal_lines::state::tell::add_messages;
 use rehearsal_lines::state::turn::turn;
 use rehearsal_report::line::{add_ok, add_said};
 use rehearsal_report::message::begin_turn;
 use rehearsal_report::report::ReportText;
+use rehearsal_script::script::{Numbered, ScriptHost, ScriptLine, Stop};
 use std::alloc::Global;
 
 fn retool(
@@ -40,10 +40,10 @@ fn retool(
     line: u64,
     report: &mut ReportText,
 ) -> Result<(), Memory>
-    requires place { place < length now.old.seats }
+    requires place { place < length now.old.held_hosts }
     requires config { IsConfig (retooled tools.now (config_of now.old place)) }
     ensures report { OnOk result (report.new ≡ report.old ++ line_text line (codes "ok")) }
-    ensures scene { (hosts : List ScriptHost) → OnOk result (now.new ≡ scene_deed hosts now.old (Does (Retools place tools.now))) }
+    ensures simulation { (hosts : List ScriptHost) → OnOk result (now.new ≡ simulation_after hosts now.old (Does (Retools place tools.now))) }
 {
     let tools = tools.copy(alloc)?;
     now.retool(alloc, place, tools)?;
@@ -59,7 +59,7 @@ fn arm(
     report: &mut ReportText,
 ) -> Result<(), Memory>
     ensures report { OnOk result (report.new ≡ report.old ++ line_text line (codes "armed")) }
-    ensures scene { (hosts : List ScriptHost) → OnOk result (now.new ≡ scene_deed hosts now.old (Does (Arms place stop))) }
+    ensures simulation { (hosts : List ScriptHost) → OnOk result (now.new ≡ simulation_after hosts now.old (Does (Arms place stop))) }
 {
     now.arm(place, stop)?;
     add_said(report, line, "armed")
@@ -73,9 +73,9 @@ fn fail(
     line: u64,
     report: &mut ReportText,
 ) -> Result<(), Memory>
-    requires { place < length now.old.seats }
+    requires { place < length now.old.held_hosts }
     ensures report { OnOk result (report.new ≡ report.old ++ line_text line (codes "armed")) }
-    ensures scene { (hosts : List ScriptHost) → OnOk result (now.new ≡ scene_deed hosts now.old (Fails place call)) }
+    ensures simulation { (hosts : List ScriptHost) → OnOk result (now.new ≡ simulation_after hosts now.old (Fails place call)) }
 {
     now.fail_at(place, call);
     add_said(report, line, "armed")
@@ -94,19 +94,19 @@ fn take_turn(
     requires ready { IsReady now.old place clock }
     requires peers { All IsScriptPeer (config_of now.old place).peers }
     ensures report { OnOk result (report.new ≡ report.old ++ line_text line (turn_said hosts.now now.old place clock)) }
-    ensures scene { OnOk result (now.new ≡ scene_deed hosts.now now.old (Does (Turns place clock))) }
+    ensures simulation { OnOk result (now.new ≡ simulation_after hosts.now now.old (Does (Turns place clock))) }
 {
     let before = now.messages().len();
     let broken = now.count_broken();
     match turn(alloc, now, place, clock)? {
-        Came::Answered(reply) => {
+        StepOutcome::Answered(reply) => {
             let begun = begin_turn(report, line, &reply);
             drop(reply);
             begun?;
-            add_letters(report, hosts, now.messages(), before, broken)
+            add_messages(report, hosts, now.messages(), before, broken)
         }
-        Came::Faulted => add_said(report, line, DISK_FAULT),
-        Came::Crashed => add_said(report, line, CRASHED),
+        StepOutcome::Faulted => add_said(report, line, DISK_FAULT),
+        StepOutcome::Crashed => add_said(report, line, CRASHED),
     }
 }
 
@@ -119,10 +119,10 @@ fn run_at_path(
     report: &mut ReportText,
 ) -> Result<(), Memory>
     requires kind { is_at_path event.now ≡ true }
-    requires lawful { IsLawfulLine (length now.old.seats) event.now }
+    requires lawful { IsLawfulLine (length now.old.held_hosts) event.now }
     requires hosts { AreLawful now.old }
     ensures report { (comes : Outcomes) (hosts : List ScriptHost) → OnOk result (report.new ≡ report.old ++ line_text line (line_said comes hosts now.old event.now)) }
-    ensures scene { (comes : Outcomes) (hosts : List ScriptHost) → OnOk result (now.new ≡ scene_deed hosts now.old (deed_of comes now.old event.now)) }
+    ensures simulation { (comes : Outcomes) (hosts : List ScriptHost) → OnOk result (now.new ≡ simulation_after hosts now.old (action_of comes now.old event.now)) }
     ensures may { (comes : Outcomes) (hosts : List ScriptHost) → OnOk result (MayLine comes hosts now.old event.now) }
 {
     match event {
@@ -152,10 +152,10 @@ fn run_asked(
     report: &mut ReportText,
 ) -> Result<(), Memory>
     requires kind { is_asked event.now ≡ true }
-    requires lawful { IsLawfulLine (length now.old.seats) event.now }
+    requires lawful { IsLawfulLine (length now.old.held_hosts) event.now }
     requires hosts { AreLawful now.old }
     ensures report { (comes : Outcomes) (hosts : List ScriptHost) → OnOk result (report.new ≡ report.old ++ line_text line (line_said comes hosts now.old event.now)) }
-    ensures scene { (comes : Outcomes) (hosts : List ScriptHost) → OnOk result (now.new ≡ scene_deed hosts now.old (deed_of comes now.old event.now)) }
+    ensures simulation { (comes : Outcomes) (hosts : List ScriptHost) → OnOk result (now.new ≡ simulation_after hosts now.old (action_of comes now.old event.now)) }
     ensures may { (comes : Outcomes) (hosts : List ScriptHost) → OnOk result (MayLine comes hosts now.old event.now) }
 {
     match event {
@@ -196,7 +196,7 @@ fn run_message(
     requires playing { IsPlaying hosts.now now.old }
     requires lawful { IsLawfulLine (length hosts.now) event.now }
     ensures report { (comes : Outcomes) → OnOk result (report.new ≡ report.old ++ line_text line (line_said comes hosts.now now.old event.now)) }
-    ensures scene { (comes : Outcomes) → OnOk result (now.new ≡ scene_deed hosts.now now.old (deed_of comes now.old event.now)) }
+    ensures simulation { (comes : Outcomes) → OnOk result (now.new ≡ simulation_after hosts.now now.old (action_of comes now.old event.now)) }
     ensures may { (comes : Outcomes) → MayLine comes hosts.now now.old event.now }
 {
     match event {
@@ -224,7 +224,7 @@ fn run_event(
     requires playing { IsPlaying hosts.now now.old }
     requires lawful { IsLawfulLine (length hosts.now) event.now }
     ensures report { (comes : Outcomes) → OnOk result (report.new ≡ report.old ++ line_text line (line_said comes hosts.now now.old event.now)) }
-    ensures scene { (comes : Outcomes) → OnOk result (now.new ≡ scene_deed hosts.now now.old (deed_of comes now.old event.now)) }
+    ensures simulation { (comes : Outcomes) → OnOk result (now.new ≡ simulation_after hosts.now now.old (action_of comes now.old event.now)) }
     ensures may { (comes : Outcomes) → OnOk result (MayLine comes hosts.now now.old event.now) }
 {
     match event {
@@ -255,7 +255,7 @@ pub fn run_line<A: Archivers>(
     requires playing { IsPlaying hosts.now now.old }
     requires lawful { IsLawfulLine (length hosts.now) numbered.now.line }
     ensures report { OnOk result (report.new ≡ report.old ++ line_text numbered.now.number (line_said (A.comes archivers.old) hosts.now now.old numbered.now.line)) }
-    ensures scene { OnOk result (now.new ≡ scene_line (A.comes archivers.old) hosts.now now.old numbered.now.line) }
+    ensures simulation { OnOk result (now.new ≡ simulation_line (A.comes archivers.old) hosts.now now.old numbered.now.line) }
     ensures may { OnOk result (MayLine (A.comes archivers.old) hosts.now now.old numbered.now.line) }
     ensures stays { A.comes archivers.new ≡ A.comes archivers.old }
 {

@@ -6,8 +6,8 @@ ghost use Rattle.rehearsal_script.specs.Lawful.{AreLawfulHosts, IsLawful};
 ghost use Rattle.world_law.specs.Laws.{Safe};
 ghost use Rattle.rehearsal_model.specs.Hosts.{first_config};
 ghost use Rattle.rehearsal_model.specs.Rehearsal.{stage_table};
-ghost use Rattle.rehearsal_model.specs.Scenes.{Turns, first_scene, last_scene, world_of};
-ghost use Rattle.rehearsal_model.specs.Seats.{opened_anew};
+ghost use Rattle.rehearsal_model.specs.Simulations.{UnsyncedKept, first_simulation, last_simulation, world_of};
+ghost use Rattle.rehearsal_model.specs.Simulated.{opened_anew};
 ghost use Rattle.rehearsal_model.specs.Telling.{lines_said, report_of};
 ghost use Rattle.rehearsal_lines.specs.Kept.{AreKeptOn};
 
@@ -19,27 +19,27 @@ use ps_disks::memory_disk::MemoryDisk;
 use ps_time::items::Items;
 use ps_time::memory::Memory;
 use ps_time::moment::Moment;
-use rehearsal_script::script::{Script, ScriptHost};
-use rehearsal_model::law::{law_config, law_message, law_played};
 use rehearsal_lines::state::hosts::first_config;
 use rehearsal_lines::state::rehearsal::Rehearsal;
-use rehearsal_lines::state::seat::Seat;
+use rehearsal_lines::state::simulated::SimulatedHost;
+use rehearsal_model::law::{law_config, law_message, law_played};
 use rehearsal_report::report::ReportText;
 use rehearsal_report::table::add_table;
+use rehearsal_script::script::{Script, ScriptHost};
 use std::alloc::Global;
 use std::mem::forget;
 
 /// The hosts of a script, opened at moment 0.
-pub fn open_hosts(alloc: Global, hosts: &[ScriptHost]) -> Result<Vec<Seat>, Memory>
+pub fn open_hosts(alloc: Global, hosts: &[ScriptHost]) -> Result<Vec<SimulatedHost>, Memory>
     requires { AreLawfulHosts hosts.now }
-    ensures { IfOk result (λ seats. seats.items ≡ map (λ host. opened_anew (first_config hosts.now host)) hosts.now) }
+    ensures { IfOk result (λ held_hosts. held_hosts.items ≡ map (λ host. opened_anew (first_config hosts.now host)) hosts.now) }
 {
-    let mut seats = Vec::new(alloc);
+    let mut held_hosts = Vec::new(alloc);
     for host in hosts {
         let config = first_config(alloc, hosts, host)?;
-        seats.push(Seat::open(alloc, config)?)?;
+        held_hosts.push(SimulatedHost::open(alloc, config)?)?;
     }
-    Ok(seats)
+    Ok(held_hosts)
 }
 
 fn run_lines<A: Archivers>(
@@ -50,11 +50,11 @@ fn run_lines<A: Archivers>(
     report: &mut ReportText,
 ) -> Result<(), Memory>
     requires lawful { IsLawful script.now }
-    requires first { now.old ≡ first_scene script.now.hosts }
-    ensures report { OnOk result (report.new ≡ report.old ++ lines_said (A.comes archivers.old) script.now.hosts (first_scene script.now.hosts) script.now.lines) }
-    ensures scene { OnOk result (now.new ≡ last_scene (A.comes archivers.old) script.now) }
-    ensures safe { (turns : Turns) → OnOk result (Safe (world_of (A.comes archivers.old) script.now turns)) }
-    ensures configs { OnOk result (All (λ seat. IsConfig seat.state.config) now.new.seats) }
+    requires first { now.old ≡ first_simulation script.now.hosts }
+    ensures report { OnOk result (report.new ≡ report.old ++ lines_said (A.comes archivers.old) script.now.hosts (first_simulation script.now.hosts) script.now.lines) }
+    ensures simulation { OnOk result (now.new ≡ last_simulation (A.comes archivers.old) script.now) }
+    ensures safe { (turns : UnsyncedKept) → OnOk result (Safe (world_of (A.comes archivers.old) script.now turns)) }
+    ensures configs { OnOk result (All (λ held_host. IsConfig held_host.state.config) now.new.held_hosts) }
     ensures moment { OnOk result (now.new.last ≤ MAX_MOMENT) }
     ensures stays { A.comes archivers.new ≡ A.comes archivers.old }
 {
@@ -69,62 +69,73 @@ fn run_lines<A: Archivers>(
 }
 
 // The host once it knows what stands. After a fault of a disk it finds that out by looking at its first page.
-fn settle(alloc: Global, seat: Seat, clock: Moment) -> Result<Seat, Memory>
-    requires config { IsConfig seat.state.config }
+fn settle(alloc: Global, held_host: SimulatedHost, clock: Moment) -> Result<SimulatedHost, Memory>
+    requires config { IsConfig held_host.state.config }
     requires clock { clock ≤ MAX_MOMENT }
     ensures ready { IfOk result (λ settled. settled.ready ≡ true) }
-    ensures state { IfOk result (λ settled. settled.state ≡ seat.state) }
+    ensures state { IfOk result (λ settled. settled.state ≡ held_host.state) }
 {
-    if seat.is_ready() {
-        return Ok(seat);
+    if held_host.is_ready() {
+        return Ok(held_host);
     }
-    let mut seat = seat;
-    seat.fail_at(0);
-    let reply = seat.act(alloc, clock, Input::View(Page::Home))?;
+    let mut held_host = held_host;
+    held_host.fail_at(0);
+    let reply = held_host.act(alloc, clock, Input::View(Page::Home))?;
     drop(reply);
-    Ok(seat)
+    Ok(held_host)
 }
 
 fn add_host_table(
     alloc: Global,
-    seat: &Seat,
+    held_host: &SimulatedHost,
     moment: Moment,
     report: &mut ReportText,
 ) -> Result<(), Memory>
-    requires ready { seat.now.ready ≡ true }
+    requires ready { held_host.now.ready ≡ true }
     requires moment { moment ≤ MAX_MOMENT }
-    ensures { OnOk result (report.new ≡ report.old ++ stage_table moment seat.now.state) }
+    ensures { OnOk result (report.new ≡ report.old ++ stage_table moment held_host.now.state) }
 {
-    let name = seat.config().name.as_str();
-    add_table(alloc, report, name, seat.book().rows().in_order(), moment)
+    let name = held_host.config().name.as_str();
+    add_table(
+        alloc,
+        report,
+        name,
+        held_host.book().rows().in_order(),
+        moment,
+    )
 }
 
 // The host, once its table at a moment, in seconds since 1970 UTC, is in the report.
-fn tell(alloc: Global, seat: Seat, moment: Moment, report: &mut ReportText) -> Result<Seat, Memory>
-    requires config { IsConfig seat.state.config }
+fn tell(
+    alloc: Global,
+    held_host: SimulatedHost,
+    moment: Moment,
+    report: &mut ReportText,
+) -> Result<SimulatedHost, Memory>
+    requires config { IsConfig held_host.state.config }
     requires moment { moment ≤ MAX_MOMENT }
-    ensures report { OnOk result (report.new ≡ report.old ++ stage_table moment seat.state) }
-    ensures state { IfOk result (λ told. told.state ≡ seat.state) }
+    ensures report { OnOk result (report.new ≡ report.old ++ stage_table moment held_host.state) }
+    ensures state { IfOk result (λ told. told.state ≡ held_host.state) }
 {
-    let seat = settle(alloc, seat, moment)?;
-    add_host_table(alloc, &seat, moment, report)?;
-    Ok(seat)
+    let held_host = settle(alloc, held_host, moment)?;
+    add_host_table(alloc, &held_host, moment, report)?;
+    Ok(held_host)
 }
 
 fn tell_all(
     alloc: Global,
-    seats: Vec<Seat>,
+    held_hosts: Vec<SimulatedHost>,
     moment: Moment,
     report: &mut ReportText,
-) -> Result<Vec<Seat>, Memory>
-    requires configs { All (λ seat. IsConfig seat.state.config) seats.items }
+) -> Result<Vec<SimulatedHost>, Memory>
+    requires configs { All (λ held_host. IsConfig held_host.state.config) held_hosts.items }
     requires moment { moment ≤ MAX_MOMENT }
-    ensures report { OnOk result (report.new ≡ report.old ++ flat_map (λ seat. stage_table moment seat.state) seats.items) }
-    ensures states { IfOk result (λ told. map (λ seat. seat.state) told.items ≡ map (λ seat. seat.state) seats.items) }
+    ensures report { OnOk result (report.new ≡ report.old ++ flat_map (λ held_host. stage_table moment held_host.state) held_hosts.items) }
+    ensures states { IfOk result (λ told. map (λ held_host. held_host.state) told.items ≡ map (λ held_host. held_host.state) held_hosts.items) }
 {
     let mut told = Vec::new(alloc);
-    for seat in seats {
-        told.push(tell(alloc, seat, moment, report)?)?;
+    for held_host in held_hosts {
+        told.push(tell(alloc, held_host, moment, report)?)?;
     }
     Ok(told)
 }
@@ -134,20 +145,20 @@ fn run_through<A: Archivers>(
     alloc: Global,
     script: &Script,
     archivers: &mut A,
-) -> Result<(ReportText, Vec<Seat>), Memory>
+) -> Result<(ReportText, Vec<SimulatedHost>), Memory>
     requires { IsLawful script.now }
     ensures report { IfOk result (λ made. made.0 ≡ report_of (A.comes archivers.old) script.now) }
-    ensures states { IfOk result (λ made. map (λ seat. seat.state) made.1.items ≡ map (λ seat. seat.state) (last_scene (A.comes archivers.old) script.now).seats) }
-    ensures safe { (turns : Turns) → OnOk result (Safe (world_of (A.comes archivers.old) script.now turns)) }
+    ensures states { IfOk result (λ made. map (λ held_host. held_host.state) made.1.items ≡ map (λ held_host. held_host.state) (last_simulation (A.comes archivers.old) script.now).held_hosts) }
+    ensures safe { (turns : UnsyncedKept) → OnOk result (Safe (world_of (A.comes archivers.old) script.now turns)) }
     ensures stays { A.comes archivers.new ≡ A.comes archivers.old }
 {
-    let seats = open_hosts(alloc, script.hosts.as_slice())?;
-    let mut now = Rehearsal::new(alloc, seats)?;
+    let held_hosts = open_hosts(alloc, script.hosts.as_slice())?;
+    let mut now = Rehearsal::new(alloc, held_hosts)?;
     let mut report = ReportText::new(alloc);
     run_lines(alloc, script, archivers, &mut now, &mut report)?;
     let moment = now.last();
-    let seats = tell_all(alloc, now.into_seats(), moment, &mut report)?;
-    Ok((report, seats))
+    let held_hosts = tell_all(alloc, now.into_held_hosts(), moment, &mut report)?;
+    Ok((report, held_hosts))
 }
 
 /// The disks of a host, in their order.
@@ -161,12 +172,12 @@ pub struct Rehearsed {
     pub disks: Vec<Disks>,
 }
 
-fn disks_of(alloc: Global, seats: Vec<Seat>) -> Result<Vec<Disks>, Memory>
-    ensures { IfOk result (λ disks. AreKeptOn seats.items disks.items) }
+fn disks_of(alloc: Global, held_hosts: Vec<SimulatedHost>) -> Result<Vec<Disks>, Memory>
+    ensures { IfOk result (λ disks. AreKeptOn held_hosts.items disks.items) }
 {
     let mut disks = Vec::new(alloc);
-    for seat in seats {
-        disks.push(seat.into_disks()?)?;
+    for held_host in held_hosts {
+        disks.push(held_host.into_disks()?)?;
     }
     Ok(disks)
 }
@@ -181,13 +192,13 @@ pub fn run_script<A: Archivers>(
     requires { IsLawful script.now }
     ensures report { IfOk result (λ made. made.report ≡ report_of (A.comes archivers.old) script.now) }
     // What each host did is kept.
-    ensures kept { IfOk result (λ made. AreKeptOn (last_scene (A.comes archivers.old) script.now).seats made.disks.items) }
+    ensures kept { IfOk result (λ made. AreKeptOn (last_simulation (A.comes archivers.old) script.now).held_hosts made.disks.items) }
     // Whichever way it turns out what faults of disks left.
-    ensures safe { (turns : Turns) → OnOk result (Safe (world_of (A.comes archivers.old) script.now turns)) }
+    ensures safe { (turns : UnsyncedKept) → OnOk result (Safe (world_of (A.comes archivers.old) script.now turns)) }
     ensures stays { A.comes archivers.new ≡ A.comes archivers.old }
 {
-    let (report, seats) = run_through(alloc, script, archivers)?;
-    let disks = disks_of(alloc, seats)?;
+    let (report, held_hosts) = run_through(alloc, script, archivers)?;
+    let disks = disks_of(alloc, held_hosts)?;
     Ok(Rehearsed {
         report: report.into_bytes(),
         disks,
@@ -202,10 +213,10 @@ pub fn rehearse<A: Archivers>(
 ) -> Result<Items<u8>, Memory>
     requires { IsLawful script.now }
     ensures report { IfOk result (λ report. report ≡ report_of (A.comes archivers.old) script.now) }
-    ensures safe { (turns : Turns) → OnOk result (Safe (world_of (A.comes archivers.old) script.now turns)) }
+    ensures safe { (turns : UnsyncedKept) → OnOk result (Safe (world_of (A.comes archivers.old) script.now turns)) }
     ensures stays { A.comes archivers.new ≡ A.comes archivers.old }
 {
-    let (report, seats) = run_through(alloc, script, archivers)?;
-    forget(seats);
+    let (report, held_hosts) = run_through(alloc, script, archivers)?;
+    forget(held_hosts);
     Ok(report.into_bytes())
 }

@@ -8,7 +8,7 @@ use Rattle.world_law.specs.World.{World}
 use Rattle.limit_apply.specs.Limits.{Config}
 use Rattle.rehearsal_script.specs.declared.script.Script.{Script}
 use Rattle.rehearsal_model.specs.Moves.{Outcomes}
-use Rattle.rehearsal_model.specs.Scenes.{Turns, world_of}
+use Rattle.rehearsal_model.specs.Simulations.{UnsyncedKept, world_of}
 use Rattle.rehearsal_model.specs.Telling.{report_of}
 use Rattle.rehearsal_script.specs.Script.{script_of}
 use Rattle.rehearsal_generate.specs.Summary.{summary_of}
@@ -46,8 +46,8 @@ abbrev pub Comes : Outcomes → Option Command → Option (List ℕ) → ℕ →
 Comes comes command held before now outcome = IsGiven comes command held outcome ⊎ IsReadFault command before now outcome
 
 -- each world keeps the laws, whichever way it turns out what faults of disks left
-abbrev pub AreSafe : (Turns → World) → Type 0
-AreSafe worlds = (turns : Turns) → Safe (worlds turns)
+abbrev pub AreSafe : (UnsyncedKept → World) → Type 0
+AreSafe worlds = (turns : UnsyncedKept) → Safe (worlds turns)
 
 -- the input was read to its end and is a script whose worlds keep the laws
 pub record Rehearsed (comes : Outcomes) (held left : Option (List ℕ)) : Type 0 where

@@ -13,14 +13,14 @@ use crate::command::{Command, read_command};
 use crate::limits::validate_bytes;
 use crate::outcome::Outcome;
 use archivers::by_name::Archivers;
-use rehearsal_generate::generate::generate;
-use rehearsal_generate::rehearse::rehearse;
 use ps_ports::all::{read_all, write_all};
 use ps_ports::fault::AllFault;
 use ps_ports::sink::Sink;
 use ps_ports::source::Source;
 use ps_time::memory::Memory;
 use ps_time::text::Text;
+use rehearsal_generate::generate::generate;
+use rehearsal_generate::rehearse::rehearse;
 use rehearsal_script::read::read_script;
 use rehearsal_script::script::ScriptFault;
 use std::alloc::Global;
@@ -31,7 +31,7 @@ const MAX_INPUT: u64 = 67_108_864;
 // The status where the sink failed.
 const WRITE_FAULT: u8 = 4;
 
-/// The status where memory was wanting.
+/// The status where memory ran out.
 pub const OUT_OF_MEMORY: u8 = 10;
 
 fn rehearse_bytes<A: Archivers>(
@@ -174,7 +174,7 @@ pub fn psched<S: Source, K: Sink, A: Archivers>(
     // A part of the front of the text that was due went out.
     ensures prefix { result ≡ 4 → CutShort (A.comes archivers.old) (asked words.now) (S.left source.old) (S.read_faults source.old) (S.read_faults source.new) (K.written sink.old) (K.written sink.new) }
 
-    // Want of memory, in a command that reads or in `generate` alone. Nothing was written.
+    // Out of memory, in a command that reads or in `generate` alone. Nothing was written.
     ensures memory { 4 < result → result ≡ 10 }
     ensures memory_wanted { result ≡ 10 → wants_memory words.now ≡ true }
     ensures memory_unsaid { result ≡ 10 → sink.new ≡ sink.old }

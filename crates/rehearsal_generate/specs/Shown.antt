@@ -2,24 +2,24 @@
 use Rattle.std.specs.Prelude.{◌≡◌, All, List, length}
 use Rattle.rehearsal_script.specs.Lawful.{AreLawfulHosts}
 use Rattle.rehearsal_script.specs.declared.script.ScriptHost.{ScriptHost}
-use Rattle.rehearsal_model.specs.Plays.{IsCalm, IsPlay}
-use Rattle.rehearsal_model.specs.Scenes.{Play, Scene}
+use Rattle.rehearsal_model.specs.Plays.{IsUnarmed, IsPlay}
+use Rattle.rehearsal_model.specs.Simulations.{Play, Simulation}
 use Rattle.rehearsal_generate.specs.declared.tally.Tally.{Tally}
 
 -- this is seen of a play of the hosts, of which no call of a disk is to fail
-pub record IsSceneOf (hosts : List ScriptHost) (p : Play) (b : Scene) : Type 0 where
+pub record IsSimulationOf (hosts : List ScriptHost) (p : Play) (b : Simulation) : Type 0 where
   pub is : IsPlay hosts p
-  pub scene_so : p.scene ≡ b
-  pub calm : All IsCalm b.seats
+  pub simulation_so : p.simulation ≡ b
+  pub unarmed : All IsUnarmed b.held_hosts
 
 -- eight hosts that a script may declare; this is seen of a play of them
-pub record IsShown (hosts : List ScriptHost) (b : Scene) : Type 0 where
+pub record IsShown (hosts : List ScriptHost) (b : Simulation) : Type 0 where
   pub lawful : AreLawfulHosts hosts
   pub eight : length hosts ≡ 8
   pub play : Play
-  pub seen : IsSceneOf hosts play b
+  pub seen : IsSimulationOf hosts play b
 
 -- the work over the play itself, and over what is seen of it
-pub record Alike (hosts : List ScriptHost) (st : Play × Tally) (bt : Scene × Tally) : Type 0 where
-  pub seen : IsSceneOf hosts st.0 bt.0
+pub record Alike (hosts : List ScriptHost) (st : Play × Tally) (bt : Simulation × Tally) : Type 0 where
+  pub seen : IsSimulationOf hosts st.0 bt.0
   pub tally : st.1 ≡ bt.1

@@ -1,11 +1,11 @@
--- Generated work: the deeds that the draws lead to, over whatever does them and can be looked at.
+-- Generated work: the actions that the draws lead to, over whatever does them and can be looked at.
 use Rattle.std.specs.Prelude.{◌+◌, ◌*◌, ◌++◌, ◌∷◌, Bool, List, [], codes, false, map, suc, true, zero, ℕ}
 use Rattle.std.specs.Fmt.{decimal}
 use Rattle.rehearsal_script.specs.declared.script.ScriptHost.{ScriptHost}
 use Rattle.world_law.specs.World.{World}
 use Rattle.rehearsal_model.specs.Moves.{Move, asking}
 use Rattle.rehearsal_model.specs.Requests.{post}
-use Rattle.rehearsal_model.specs.Scenes.{Deed, Play, Scene, Turns, config_of, first_play, played, scene_played}
+use Rattle.rehearsal_model.specs.Simulations.{Action, Play, Simulation, UnsyncedKept, config_of, first_play, played, simulation_played}
 use Rattle.rehearsal_generate.specs.Draws.{drawn, is_crash, is_loss, next_seed}
 use Rattle.rehearsal_generate.specs.Posts.{body_of, partner_of, post_of, seed_after_post}
 use Rattle.rehearsal_generate.specs.declared.post.Post.{Post}
@@ -21,30 +21,30 @@ host_numbers = 1 ∷ 2 ∷ 3 ∷ 4 ∷ 5 ∷ 6 ∷ 7 ∷ 8 ∷ []
 unfoldable pub work_hosts : List ScriptHost
 work_hosts = map host_of host_numbers
 
--- ---- what does the deeds
--- what is seen of it, and what it is after a deed at a moment
+-- ---- what does the actions
+-- what is seen of it, and what it is after a action at a moment
 pub record Player (S : Type 0) : Type 0 where
-  pub look : S → Scene
-  pub make : S → ℕ → Deed → S
+  pub look : S → Simulation
+  pub make : S → ℕ → Action → S
 
 -- the hosts with all that ever was
 abbrev pub plays : List ScriptHost → Player Play
-plays hosts = record { look = λ p. p.scene; make = played hosts }
+plays hosts = record { look = λ p. p.simulation; make = played hosts }
 
 -- what is seen of them alone, which is enough
-abbrev pub shows : List ScriptHost → Player Scene
-shows hosts = record { look = λ b. b; make = scene_played hosts }
+abbrev pub shows : List ScriptHost → Player Simulation
+shows hosts = record { look = λ b. b; make = simulation_played hosts }
 
 -- ---- a message
 -- the host at the place crashes, and is opened again
 abbrev pub crashed : {S : Type 0} → Player S → Bool → ℕ → ℕ → S → S
 crashed p false place clock s = s
-crashed p true place clock s = p.make s clock (Deed.Reopens place clock)
+crashed p true place clock s = p.make s clock (Action.Reopens place clock)
 
 -- the message is lost or arrives
 abbrev pub met : {S : Type 0} → Player S → Bool → ℕ → ℕ → S → S
-met p false number clock s = p.make s clock (Deed.Does (Move.Arrives number clock))
-met p true number clock s = p.make s clock (Deed.Does (Move.Lost number))
+met p false number clock s = p.make s clock (Action.Does (Move.Arrives number clock))
+met p true number clock s = p.make s clock (Action.Does (Move.Lost number))
 
 -- one more, where the test holds
 abbrev pub noted : Bool → ℕ → List ℕ → List ℕ
@@ -74,7 +74,7 @@ flown p place clock st = walked p place clock (p.look st.0).flying st
 -- ---- a second
 -- the turns of the host at the place and of its partner
 abbrev pub turned : {S : Type 0} → Player S → ℕ → ℕ → S → S
-turned p place clock s = p.make (p.make s clock (Deed.Does (Move.Turns place clock))) clock (Deed.Does (Move.Turns (partner_of place) clock))
+turned p place clock s = p.make (p.make s clock (Action.Does (Move.Turns place clock))) clock (Action.Does (Move.Turns (partner_of place) clock))
 
 -- the replies that arise are in flight when the orders have arrived; they bring no more messages
 unfoldable pub second : {S : Type 0} → Player S → ℕ → ℕ → S × Tally → S × Tally
@@ -94,11 +94,11 @@ abbrev pub moment_of_post : ℕ → ℕ
 moment_of_post i = first_moment + 10 * i
 
 -- somebody on the host itself posts a task
-abbrev pub posting : Scene → ℕ → Post → Move
+abbrev pub posting : Simulation → ℕ → Post → Move
 posting b clock q = asking q.place clock (post (config_of b q.place) (codes "127.0.0.1") (body_of q) clock)
 
 unfoldable pub posted : {S : Type 0} → Player S → ℕ → Post → S → S
-posted p clock q s = p.make s clock (Deed.Does (posting (p.look s) clock q))
+posted p clock q s = p.make s clock (Action.Does (posting (p.look s) clock q))
 
 -- and six seconds go by
 abbrev pub lived : {S : Type 0} → Player S → ℕ → Post → S → Tally → S × Tally
@@ -120,6 +120,6 @@ worked p (suc n) s = job p n (worked p n s)
 unfoldable pub work : ℕ → Play × Tally
 work count = worked (plays work_hosts) count (first_play work_hosts)
 
--- its world, as what is loose turns out
-abbrev pub work_of : ℕ → Turns → World
+-- its world, as what is unsynced turns out
+abbrev pub work_of : ℕ → UnsyncedKept → World
 work_of count = (work count).0.worlds

@@ -1,7 +1,7 @@
 //! Generated work, from the first post to the summary.
 ghost use Rattle.std.specs.Prelude.{◌≡◌, ◌≤◌, IfOk, OnOk};
 ghost use Rattle.world_law.specs.Laws.{Safe};
-ghost use Rattle.rehearsal_model.specs.Scenes.{Turns};
+ghost use Rattle.rehearsal_model.specs.Simulations.{UnsyncedKept};
 ghost use Rattle.rehearsal_generate.specs.Summary.{summary_of};
 ghost use Rattle.rehearsal_generate.specs.Work.{work_of};
 
@@ -22,14 +22,14 @@ use std::alloc::Global;
 pub fn generate(alloc: Global, count: u32) -> Result<Text, Memory>
     requires { count ≤ 2000 }
     ensures summary { IfOk result (λ text. text ≡ summary_of count) }
-    ensures safe { (turns : Turns) → OnOk result (Safe (work_of count turns)) }
+    ensures safe { (turns : UnsyncedKept) → OnOk result (Safe (work_of count turns)) }
 {
     law_hosts();
     law_played();
     let hosts = work_hosts(alloc)?;
     let all = hosts.as_slice();
-    let seats = open_hosts(alloc, all)?;
-    let mut now = Rehearsal::new(alloc, seats)?;
+    let held_hosts = open_hosts(alloc, all)?;
+    let mut now = Rehearsal::new(alloc, held_hosts)?;
     let mut tally = Tally::new(alloc);
     run_posts(alloc, all, &mut now, &mut tally, count)?;
     summarize(alloc, count, &now, &tally)

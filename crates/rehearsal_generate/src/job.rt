@@ -2,7 +2,7 @@
 ghost use Rattle.std.specs.Prelude.{◌≡◌, ◌<◌, ◌≤◌, ◌+◌, OnOk};
 ghost use Rattle.ps_time.specs.declared.moment.TheConstants.{MAX_MOMENT};
 ghost use Rattle.rehearsal_model.specs.Plays.{MayMake};
-ghost use Rattle.rehearsal_model.specs.Scenes.{first_play, first_scene};
+ghost use Rattle.rehearsal_model.specs.Simulations.{first_play, first_simulation};
 ghost use Rattle.rehearsal_generate.specs.Posts.{post_of};
 ghost use Rattle.rehearsal_generate.specs.Shown.{Alike, IsShown};
 ghost use Rattle.rehearsal_generate.specs.Work.{first_tally, job, moment_of_post, plays, posting, second, seconds, shows, turned, work_hosts, worked};
@@ -107,7 +107,7 @@ pub fn run_posts(
     count: u32,
 ) -> Result<(), Memory>
     requires hosts { hosts.now ≡ work_hosts }
-    requires now { now.old ≡ first_scene hosts.now }
+    requires now { now.old ≡ first_simulation hosts.now }
     requires tally { tally.old ≡ first_tally }
     requires count { count ≤ 2000 }
     ensures { OnOk result (Alike hosts.now (worked (plays hosts.now) count (first_play hosts.now)) (now.new, tally.new)) }

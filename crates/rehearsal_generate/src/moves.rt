@@ -8,7 +8,7 @@ ghost use Rattle.rehearsal_model.specs.Moves.{Move.Arrives, Move.Lost, Move.Turn
 ghost use Rattle.rehearsal_model.specs.Plays.{MayMake};
 ghost use Rattle.rehearsal_model.specs.Reaching.{IsScriptPeer};
 ghost use Rattle.rehearsal_model.specs.Requests.{post as reading};
-ghost use Rattle.rehearsal_model.specs.Scenes.{Deed.Does, Deed.Reopens, config_of, scene_deed, scene_played};
+ghost use Rattle.rehearsal_model.specs.Simulations.{Action.Does, Action.Reopens, config_of, simulation_after, simulation_played};
 ghost use Rattle.psched_rehearse.specs.Ready.{IsReady};
 ghost use Rattle.rehearsal_generate.specs.Posts.{body_of};
 ghost use Rattle.rehearsal_generate.specs.Work.{posted, posting, shows};
@@ -33,10 +33,10 @@ pub fn take_turn(
 ) -> Result<(), Memory>
     requires ready { IsReady now.old place clock }
     requires peers { All IsScriptPeer (config_of now.old place).peers }
-    ensures { (hosts : List ScriptHost) → OnOk result (now.new ≡ scene_played hosts now.old clock (Does (Turns place clock))) }
+    ensures { (hosts : List ScriptHost) → OnOk result (now.new ≡ simulation_played hosts now.old clock (Does (Turns place clock))) }
 {
-    let came = turn(alloc, now, place, clock)?;
-    drop(came);
+    let outcome = turn(alloc, now, place, clock)?;
+    drop(outcome);
     now.advance(clock);
     Ok(())
 }
@@ -44,7 +44,7 @@ pub fn take_turn(
 /// The host at a place crashes, and is opened again.
 pub fn crash(alloc: Global, now: &mut Rehearsal, place: usize, clock: Moment) -> Result<(), Memory>
     requires { IsReady now.old place clock }
-    ensures { (hosts : List ScriptHost) → OnOk result (now.new ≡ scene_played hosts now.old clock (Reopens place clock)) }
+    ensures { (hosts : List ScriptHost) → OnOk result (now.new ≡ simulation_played hosts now.old clock (Reopens place clock)) }
 {
     now.reopen(alloc, place, clock)?;
     now.advance(clock);
@@ -53,7 +53,7 @@ pub fn crash(alloc: Global, now: &mut Rehearsal, place: usize, clock: Moment) ->
 
 /// The message at a place among those of the hosts, from 1 on, is lost.
 pub fn lose(now: &mut Rehearsal, number: u64, clock: Moment)
-    ensures { (hosts : List ScriptHost) → now.new ≡ scene_played hosts now.old clock (Does (Lost number)) }
+    ensures { (hosts : List ScriptHost) → now.new ≡ simulation_played hosts now.old clock (Does (Lost number)) }
 {
     now.land(number);
     now.advance(clock);
@@ -69,7 +69,7 @@ pub fn arrive(
 ) -> Result<(), Memory>
     requires playing { IsPlaying hosts.now now.old }
     requires clock { clock ≤ MAX_MOMENT }
-    ensures { OnOk result (now.new ≡ scene_played hosts.now now.old clock (Does (Arrives number clock))) }
+    ensures { OnOk result (now.new ≡ simulation_played hosts.now now.old clock (Does (Arrives number clock))) }
 {
     let _arrival = receive(alloc, hosts, now, number, clock)?;
     now.advance(clock);
@@ -86,13 +86,13 @@ fn ask_unless_refused(
 ) -> Result<(), Memory>
     requires ready { IsReady now.old place clock }
     requires input { IfOk asked (IsInput (config_of now.old place)) }
-    ensures scene { (hosts : List ScriptHost) → OnOk result (now.new ≡ scene_deed hosts now.old (Does (asking place clock asked))) }
+    ensures simulation { (hosts : List ScriptHost) → OnOk result (now.new ≡ simulation_after hosts now.old (Does (asking place clock asked))) }
     ensures may { MayMake now.old (asking place clock asked) }
 {
     match asked {
         Ok(input) => {
-            let came = ask(alloc, now, place, clock, input)?;
-            drop(came);
+            let outcome = ask(alloc, now, place, clock, input)?;
+            drop(outcome);
             Ok(())
         }
         Err(response) => {
@@ -115,7 +115,7 @@ fn read_text(
     ensures value { IfOk result (λ asked. asked ≡ reading (config_of now.now place) address.now body.now clock) }
     ensures input { IfOk result (λ asked. IfOk asked (IsInput (config_of now.now place))) }
 {
-    requested::post(alloc, now.seat(place).config(), address, body, clock)
+    requested::post(alloc, now.held_host(place).config(), address, body, clock)
 }
 
 // What a task that is posted to a host comes to there.
@@ -133,7 +133,7 @@ fn read_post(alloc: Global, now: &Rehearsal, post: &Post, clock: Moment) -> Resu
 fn ask_for(alloc: Global, now: &mut Rehearsal, post: &Post, clock: Moment) -> Result<(), Memory>
     requires ready { IsReady now.old post.now.place clock }
     requires place { post.now.place < 8 }
-    ensures scene { (hosts : List ScriptHost) → OnOk result (now.new ≡ scene_deed hosts now.old (Does (posting now.old clock post.now))) }
+    ensures simulation { (hosts : List ScriptHost) → OnOk result (now.new ≡ simulation_after hosts now.old (Does (posting now.old clock post.now))) }
     ensures may { OnOk result (MayMake now.old (posting now.old clock post.now)) }
 {
     let asked = read_post(alloc, now, post, clock)?;
@@ -145,7 +145,7 @@ fn ask_for(alloc: Global, now: &mut Rehearsal, post: &Post, clock: Moment) -> Re
 pub fn post(alloc: Global, now: &mut Rehearsal, post: &Post, clock: Moment) -> Result<(), Memory>
     requires ready { IsReady now.old post.now.place clock }
     requires place { post.now.place < 8 }
-    ensures scene { (hosts : List ScriptHost) → OnOk result (now.new ≡ posted (shows hosts) clock post.now now.old) }
+    ensures simulation { (hosts : List ScriptHost) → OnOk result (now.new ≡ posted (shows hosts) clock post.now now.old) }
     ensures may { OnOk result (MayMake now.old (posting now.old clock post.now)) }
 {
     ask_for(alloc, now, post, clock)?;

@@ -3,7 +3,7 @@ ghost use Rattle.std.specs.Prelude.{◌≡◌, ◌++◌, ◌≤◌, All, IfOk, O
 ghost use Rattle.std.specs.String.{string_bytes};
 ghost use Rattle.ps_time.specs.declared.moment.TheConstants.{MAX_MOMENT};
 ghost use Rattle.run_states.specs.Life.{HasMoments, settled_rows, state_of};
-ghost use Rattle.rehearsal_model.specs.Plays.{IsCalm};
+ghost use Rattle.rehearsal_model.specs.Plays.{IsUnarmed};
 ghost use Rattle.rehearsal_generate.specs.Summary.{count_line, count_named, counts_text, stage_states, state_line, states_of, states_text, states_told, summary_text};
 
 use crate::tally::Tally;
@@ -11,7 +11,7 @@ use ps_time::memory::Memory;
 use ps_time::moment::Moment;
 use ps_time::text::Text;
 use psched_rehearse::state::rehearsal::Rehearsal;
-use psched_rehearse::state::seat::Seat;
+use psched_rehearse::state::simulated::SimulatedHost;
 use rehearsal_report::table::settled_state;
 use run_states::lent::LentRows;
 use run_states::state::State;
@@ -49,24 +49,28 @@ fn add_states(states: &mut Vec<State>, rows: LentRows<'_>, moment: Moment) -> Re
     Ok(())
 }
 
-fn add_seat(states: &mut Vec<State>, seat: &Seat, moment: Moment) -> Result<(), Memory>
-    requires ready { seat.now.ready ≡ true }
+fn add_held_host(
+    states: &mut Vec<State>,
+    held_host: &SimulatedHost,
+    moment: Moment,
+) -> Result<(), Memory>
+    requires ready { held_host.now.ready ≡ true }
     requires moment { moment ≤ MAX_MOMENT }
-    ensures { OnOk result (states.new.items ≡ states.old.items ++ stage_states moment seat.now.state) }
+    ensures { OnOk result (states.new.items ≡ states.old.items ++ stage_states moment held_host.now.state) }
 {
-    add_states(states, seat.book().rows().in_order(), moment)
+    add_states(states, held_host.book().rows().in_order(), moment)
 }
 
 // The states of all hosts' runs, at the last moment.
 fn states_of(alloc: Global, now: &Rehearsal) -> Result<Vec<State>, Memory>
-    requires calm { All IsCalm now.now.seats }
+    requires unarmed { All IsUnarmed now.now.held_hosts }
     requires moment { now.now.last ≤ MAX_MOMENT }
     ensures { IfOk result (λ states. states.items ≡ states_of now.now) }
 {
     let moment = now.last();
     let mut states = Vec::new(alloc);
-    for seat in now.seats() {
-        add_seat(&mut states, seat, moment)?;
+    for held_host in now.held_hosts() {
+        add_held_host(&mut states, held_host, moment)?;
     }
     Ok(states)
 }
@@ -121,7 +125,7 @@ fn add_state_counts(text: &mut String, states: &[State]) -> Result<(), Memory>
 
 /// What is told of the work of so many posts.
 pub fn summarize(alloc: Global, count: u32, now: &Rehearsal, tally: &Tally) -> Result<Text, Memory>
-    requires calm { All IsCalm now.now.seats }
+    requires unarmed { All IsUnarmed now.now.held_hosts }
     requires moment { now.now.last ≤ MAX_MOMENT }
     ensures { IfOk result (λ text. text ≡ summary_text count now.now tally.now) }
 {

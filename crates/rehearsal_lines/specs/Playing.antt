@@ -4,7 +4,7 @@ use Rattle.ps_time.specs.Numbers.{greatest_moment}
 use Rattle.host_model.specs.Conditions.{IsConfig, IsInput}
 use Rattle.host_model.specs.Lawful.{Lawful}
 use Rattle.world_law.specs.Events.{brings}
-use Rattle.world_law.specs.World.{Letter}
+use Rattle.world_law.specs.World.{Message}
 use Rattle.api_peer.specs.Replied.{IsReplyTo}
 use Rattle.api_peer.specs.Widths.{HasWidths}
 use Rattle.rehearsal_script.specs.declared.script.ScriptHost.{ScriptHost}
@@ -12,24 +12,24 @@ use Rattle.rehearsal_script.specs.declared.script.ScriptLine.{ScriptLine}
 use Rattle.rehearsal_script.specs.declared.script.ScriptLine.TheVariants as line
 use Rattle.rehearsal_model.specs.Moves.{receiver, reply_to}
 use Rattle.rehearsal_model.specs.Reaching.{IsKnown, IsScriptPeer}
-use Rattle.rehearsal_model.specs.Scenes.{Scene, as_read, book_of, config_of}
+use Rattle.rehearsal_model.specs.Simulations.{Simulation, as_read, book_of, config_of}
 use Rattle.rehearsal_model.specs.Seen.{message}
 
 -- the host at each place has a configuration that a host may have, and a lawful book
-abbrev pub AreLawful : Scene → Type 0
-AreLawful b = (place : ℕ) → place < length b.seats → IsConfig (config_of b place) × Lawful (config_of b place).number (book_of b place)
+abbrev pub AreLawful : Simulation → Type 0
+AreLawful b = (place : ℕ) → place < length b.held_hosts → IsConfig (config_of b place) × Lawful (config_of b place).number (book_of b place)
 
--- a seat for each host, which is lawful; each message that was sent is for one of the hosts, and asks what that host may be asked
-pub record IsPlaying (hosts : List ScriptHost) (b : Scene) : Type 0 where
-  pub places : length b.seats ≡ length hosts
+-- a host for each host, which is lawful; each message that was sent is for one of the hosts, and asks what that host may be asked
+pub record IsPlaying (hosts : List ScriptHost) (b : Simulation) : Type 0 where
+  pub places : length b.held_hosts ≡ length hosts
   pub hosts_are : AreLawful b
-  pub receivers : (n : ℕ) (l : Letter) → message (as_read b) n ≡ Some l → receiver hosts l < length hosts
-  pub asks : (n : ℕ) (l : Letter) → message (as_read b) n ≡ Some l → IsInput (config_of b (receiver hosts l)) (brings l l.reply)
+  pub receivers : (n : ℕ) (l : Message) → message (as_read b) n ≡ Some l → receiver hosts l < length hosts
+  pub asks : (n : ℕ) (l : Message) → message (as_read b) n ≡ Some l → IsInput (config_of b (receiver hosts l)) (brings l l.reply)
   -- an order comes to a host that knows whose it is
-  pub known : (n : ℕ) (l : Letter) → message (as_read b) n ≡ Some l → l.reply ≡ None → IsKnown (config_of b (receiver hosts l)) l
+  pub known : (n : ℕ) (l : Message) → message (as_read b) n ≡ Some l → l.reply ≡ None → IsKnown (config_of b (receiver hosts l)) l
   -- what is replied to it is a reply to that order
-  pub replies : (n : ℕ) (l : Letter) (clock : ℕ) → message (as_read b) n ≡ Some l → l.reply ≡ None → clock ≤ greatest_moment → HasWidths (reply_to hosts (as_read b) clock l) → IsReplyTo l.order.body (reply_to hosts (as_read b) clock l)
-  pub peers : (place : ℕ) → place < length b.seats → All IsScriptPeer (config_of b place).peers
+  pub replies : (n : ℕ) (l : Message) (clock : ℕ) → message (as_read b) n ≡ Some l → l.reply ≡ None → clock ≤ greatest_moment → HasWidths (reply_to hosts (as_read b) clock l) → IsReplyTo l.order.body (reply_to hosts (as_read b) clock l)
+  pub peers : (place : ℕ) → place < length b.held_hosts → All IsScriptPeer (config_of b place).peers
   pub last : b.last ≤ greatest_moment
 
 -- a line that speaks of what stands at a path

@@ -8,8 +8,8 @@ ghost use Rattle.ps_doors.specs.declared.archiver.Tried.TheVariants.{Memory as N
 ghost use Rattle.rehearsal_report.specs.Line.{archive_text, line_text};
 ghost use Rattle.rehearsal_model.specs.Moves.{Move.Tries, attempt, tried_as};
 ghost use Rattle.rehearsal_model.specs.Plays.{MayArchive, MayTry};
-ghost use Rattle.rehearsal_model.specs.Scenes.{Deed.Does, at_last, book_of, came_at, config_of, scene_archived, scene_deed, seat_at, try_at};
-ghost use Rattle.rehearsal_model.specs.Telling.{archive_said, came_said, disk_fault, tried_said};
+ghost use Rattle.rehearsal_model.specs.Simulations.{Action.Does, at_last, book_of, outcome_at, config_of, simulation_archived, simulation_after, held_at, try_at};
+ghost use Rattle.rehearsal_model.specs.Telling.{archive_said, outcome_said, disk_fault, tried_said};
 ghost use Rattle.rehearsal_state.specs.Ready.{IsReady};
 ghost use Rattle.rehearsal_lines.specs.Archiving.{told_of, tried_by};
 
@@ -21,13 +21,13 @@ use host_model::view::Page;
 use ps_doors::archiver::Tried;
 use ps_time::memory::Memory;
 use ps_time::moment::Moment;
+use rehearsal_report::line::{add_archive, add_said};
+use rehearsal_report::report::ReportText;
 use rehearsal_state::archives::first_due;
 use rehearsal_state::attempt::attempt_of;
 use rehearsal_state::book::HostBook;
-use rehearsal_state::came::Came;
+use rehearsal_state::outcome::StepOutcome;
 use rehearsal_state::rehearsal::Rehearsal;
-use rehearsal_report::line::{add_archive, add_said};
-use rehearsal_report::report::ReportText;
 use std::alloc::Global;
 
 /// The attempt at the first archive that is due, if one is.
@@ -83,12 +83,12 @@ fn make_first<A: Archivers>(
     clock: Moment,
 ) -> Result<Option<Input>, Memory>
     requires ready { IsReady now.now place clock }
-    requires sure { (seat_at now.now place).ready ≡ true }
+    requires sure { (held_at now.now place).ready ≡ true }
     ensures told { IfOk result (λ o. o ≡ tried_by (A.comes archivers.old) (attempt (book_of now.now place) clock)) }
     ensures input { (config : Config) → IfOk result (λ o. IfSome o (IsInput config)) }
     ensures stays { A.comes archivers.new ≡ A.comes archivers.old }
 {
-    match first_attempt(alloc, now.seat(place).book(), clock)? {
+    match first_attempt(alloc, now.held_host(place).book(), clock)? {
         Some(due) => {
             let input = make_attempt(alloc, archivers, &due);
             drop(due);
@@ -110,17 +110,17 @@ fn tell(
 ) -> Result<(), Memory>
     requires ready { IsReady now.old place clock }
     requires input { IsInput (config_of now.old place) input }
-    ensures report { OnOk result (report.new ≡ report.old ++ line_text line (came_said (came_at now.old place clock input) disk_fault archive_text)) }
-    ensures scene { (hosts : List ScriptHost) → OnOk result (now.new ≡ scene_deed hosts now.old (Does (Tries place clock input))) }
+    ensures report { OnOk result (report.new ≡ report.old ++ line_text line (outcome_said (outcome_at now.old place clock input) disk_fault archive_text)) }
+    ensures simulation { (hosts : List ScriptHost) → OnOk result (now.new ≡ simulation_after hosts now.old (Does (Tries place clock input))) }
 {
     match now.step(alloc, place, clock, input)? {
-        Came::Answered(reply) => {
+        StepOutcome::Answered(reply) => {
             let added = add_archive(report, line, &reply);
             drop(reply);
             added
         }
-        Came::Faulted => add_said(report, line, DISK_FAULT),
-        Came::Crashed => add_said(report, line, CRASHED),
+        StepOutcome::Faulted => add_said(report, line, DISK_FAULT),
+        StepOutcome::Crashed => add_said(report, line, CRASHED),
     }
 }
 
@@ -135,9 +135,9 @@ fn try_first<A: Archivers>(
     report: &mut ReportText,
 ) -> Result<(), Memory>
     requires ready { IsReady now.old place clock }
-    requires sure { (seat_at now.old place).ready ≡ true }
+    requires sure { (held_at now.old place).ready ≡ true }
     ensures report { OnOk result (report.new ≡ report.old ++ line_text line (tried_said (A.comes archivers.old) now.old place clock)) }
-    ensures scene { (hosts : List ScriptHost) → OnOk result (now.new ≡ scene_deed hosts now.old (try_at (A.comes archivers.old) now.old place clock)) }
+    ensures simulation { (hosts : List ScriptHost) → OnOk result (now.new ≡ simulation_after hosts now.old (try_at (A.comes archivers.old) now.old place clock)) }
     ensures may { OnOk result (MayTry (A.comes archivers.old) now.old place clock) }
     ensures stays { A.comes archivers.new ≡ A.comes archivers.old }
 {
@@ -160,21 +160,21 @@ pub fn archive<A: Archivers>(
 ) -> Result<(), Memory>
     requires { IsReady now.old place clock }
     ensures report { (hosts : List ScriptHost) → OnOk result (report.new ≡ report.old ++ line_text line (archive_said (A.comes archivers.old) hosts now.old place clock)) }
-    ensures scene { (hosts : List ScriptHost) → OnOk result (at_last clock now.new ≡ scene_archived (A.comes archivers.old) hosts now.old place clock) }
+    ensures simulation { (hosts : List ScriptHost) → OnOk result (at_last clock now.new ≡ simulation_archived (A.comes archivers.old) hosts now.old place clock) }
     ensures may { (hosts : List ScriptHost) → OnOk result (MayArchive (A.comes archivers.old) hosts now.old place clock) }
     ensures stays { A.comes archivers.new ≡ A.comes archivers.old }
 {
-    if now.seat(place).is_ready() {
+    if now.held_host(place).is_ready() {
         return try_first(alloc, archivers, now, place, clock, line, report);
     }
     match now.step(alloc, place, clock, Input::View(Page::Home))? {
-        Came::Answered(reply) => {
+        StepOutcome::Answered(reply) => {
             drop(reply);
-            let _ = now.seat(place).book().rows();
+            let _known = now.held_host(place).book().rows();
             now.advance(clock);
             try_first(alloc, archivers, now, place, clock, line, report)
         }
-        Came::Faulted => add_said(report, line, DISK_FAULT),
-        Came::Crashed => add_said(report, line, CRASHED),
+        StepOutcome::Faulted => add_said(report, line, DISK_FAULT),
+        StepOutcome::Crashed => add_said(report, line, CRASHED),
     }
 }

@@ -5,17 +5,17 @@ ghost use Rattle.ps_time.specs.declared.moment.TheConstants.{MAX_MOMENT};
 ghost use Rattle.host_model.specs.declared.reply.Reply.{Reply as AReply};
 ghost use Rattle.rehearsal_script.specs.declared.script.ScriptHost.{ScriptHost};
 ghost use Rattle.world_law.specs.Events.{brings};
-ghost use Rattle.world_law.specs.World.{Letter};
+ghost use Rattle.world_law.specs.World.{Message};
 ghost use Rattle.rehearsal_report.specs.Line.{line_text, sent_text};
 ghost use Rattle.api_peer.specs.Replied.{IsReplyTo};
 ghost use Rattle.api_reply.specs.Bounds.{IsReplyShown};
 ghost use Rattle.rehearsal_model.specs.Hosts.{name_numbered};
 ghost use Rattle.rehearsal_model.specs.Moves.{Move.Arrives, Move.Lost, Move.Rests, receiver};
-ghost use Rattle.rehearsal_model.specs.Scenes.{Deed.Does, Deed.Hears, as_read, came_at, flies, has_come, letter_number, scene_deed, unless_broken};
+ghost use Rattle.rehearsal_model.specs.Simulations.{Action.Does, Action.Hears, as_read, outcome_at, flies, has_come, message_position, simulation_after, unless_broken};
 ghost use Rattle.rehearsal_model.specs.Seen.{landed, message};
 ghost use Rattle.rehearsal_model.specs.Telling.{arrival_said, message_said};
-ghost use Rattle.rehearsal_model.specs.declared.came.Came.TheVariants.{Answered as AsAnswered};
-ghost use Rattle.rehearsal_state.specs.Moved.{with_letters, with_step};
+ghost use Rattle.rehearsal_model.specs.declared.outcome.StepOutcome.TheVariants.{Answered as AsAnswered};
+ghost use Rattle.rehearsal_state.specs.Moved.{with_messages, with_step};
 ghost use Rattle.rehearsal_lines.specs.Arriving.{arrival_of};
 ghost use Rattle.rehearsal_lines.specs.Playing.{IsPlaying};
 
@@ -25,14 +25,14 @@ use api_reply::respond::reply_status;
 use host_model::reply::Reply;
 use ps_time::memory::Memory;
 use ps_time::moment::Moment;
-use rehearsal_script::script::ScriptHost;
-use rehearsal_state::came::Came;
-use rehearsal_state::hosts::{name_of, place_of};
-use rehearsal_state::rehearsal::Rehearsal;
-use rehearsal_state::tell::add_letters;
 use rehearsal_report::line::add_said;
 use rehearsal_report::message::{add_sent, begin_status, end_line};
 use rehearsal_report::report::ReportText;
+use rehearsal_script::script::ScriptHost;
+use rehearsal_state::hosts::{name_of, place_of};
+use rehearsal_state::outcome::StepOutcome;
+use rehearsal_state::rehearsal::Rehearsal;
+use rehearsal_state::tell::add_messages;
 use std::alloc::Global;
 
 /// What came of a message that arrived.
@@ -57,20 +57,20 @@ fn bring(
     alloc: Global,
     hosts: &[ScriptHost],
     now: &mut Rehearsal,
-    letter: u64,
+    position: u64,
     clock: Moment,
-) -> Result<Came, Memory>
+) -> Result<StepOutcome, Memory>
     requires playing { IsPlaying hosts.now now.old }
-    requires sent { letter - 1 < length now.old.letters }
+    requires sent { position - 1 < length now.old.messages }
     requires clock { clock ≤ MAX_MOMENT }
-    ensures came { (l : Letter) → message (as_read now.old) letter ≡ Some l → IfOk result (λ came. came ≡ came_at now.old (receiver hosts.now l) clock (brings l l.reply)) }
-    ensures shown { IfOk result (λ came. (reply : AReply) → came ≡ AsAnswered reply → IsReplyShown reply) }
-    ensures scene { (l : Letter) → message (as_read now.old) letter ≡ Some l
-        → OnOk result (now.new ≡ with_step (record now.old { flying = landed letter now.old.flying }) (receiver hosts.now l) clock (brings l l.reply)) }
+    ensures outcome { (l : Message) → message (as_read now.old) position ≡ Some l → IfOk result (λ outcome. outcome ≡ outcome_at now.old (receiver hosts.now l) clock (brings l l.reply)) }
+    ensures shown { IfOk result (λ outcome. (reply : AReply) → outcome ≡ AsAnswered reply → IsReplyShown reply) }
+    ensures simulation { (l : Message) → message (as_read now.old) position ≡ Some l
+        → OnOk result (now.new ≡ with_step (record now.old { flying = landed position now.old.flying }) (receiver hosts.now l) clock (brings l l.reply)) }
 {
-    let place = place_of(hosts, now.letter(letter).goes_to());
-    let input = now.brings(alloc, letter, place, clock)?;
-    now.land(letter);
+    let place = place_of(hosts, now.message_at(position).goes_to());
+    let input = now.brings(alloc, position, place, clock)?;
+    now.land(position);
     step_shown(alloc, now, place, clock, input)
 }
 
@@ -78,18 +78,18 @@ fn bring(
 fn send_back(
     alloc: Global,
     now: &mut Rehearsal,
-    letter: u64,
+    position: u64,
     place: usize,
     reply: Reply,
 ) -> Result<(), Memory>
-    requires sent { letter - 1 < length now.old.letters }
-    requires place { place < length now.old.seats }
+    requires sent { position - 1 < length now.old.messages }
+    requires place { place < length now.old.held_hosts }
     requires shown { IsReplyShown reply }
-    requires told { (l : Letter) → message (as_read now.old) letter ≡ Some l → IsReplyTo l.order.body reply }
-    ensures { (l : Letter) → message (as_read now.old) letter ≡ Some l → OnOk result (now.new ≡ with_letters now.old (record l { reply = Some reply } ∷ [])) }
+    requires told { (l : Message) → message (as_read now.old) position ≡ Some l → IsReplyTo l.order.body reply }
+    ensures { (l : Message) → message (as_read now.old) position ≡ Some l → OnOk result (now.new ≡ with_messages now.old (record l { reply = Some reply } ∷ [])) }
 {
-    let config = now.seat(place).config();
-    let sent = now.letter(letter).answered(alloc, config, reply)?;
+    let config = now.held_host(place).config();
+    let sent = now.message_at(position).answered(alloc, config, reply)?;
     now.send(sent)
 }
 
@@ -98,29 +98,29 @@ fn take_order(
     alloc: Global,
     hosts: &[ScriptHost],
     now: &mut Rehearsal,
-    letter: u64,
+    position: u64,
     clock: Moment,
 ) -> Result<Arrival, Memory>
     requires playing { IsPlaying hosts.now now.old }
-    requires sent { letter - 1 < length now.old.letters }
+    requires sent { position - 1 < length now.old.messages }
     requires clock { clock ≤ MAX_MOMENT }
-    requires order { (l : Letter) → message (as_read now.old) letter ≡ Some l → l.reply ≡ None }
-    ensures arrival { IfOk result (λ arrival. arrival ≡ arrival_of hosts.now now.old clock (message (as_read now.old) letter)) }
-    ensures scene { OnOk result (now.new ≡ scene_deed hosts.now now.old (Does (Arrives letter clock))) }
+    requires order { (l : Message) → message (as_read now.old) position ≡ Some l → l.reply ≡ None }
+    ensures arrival { IfOk result (λ arrival. arrival ≡ arrival_of hosts.now now.old clock (message (as_read now.old) position)) }
+    ensures simulation { OnOk result (now.new ≡ simulation_after hosts.now now.old (Does (Arrives position clock))) }
 {
-    let message = now.letter(letter);
+    let message = now.message_at(position);
     let (asker, asked) = (message.asker, message.asked);
     let place = place_of(hosts, message.goes_to());
-    match bring(alloc, hosts, now, letter, clock)? {
-        Came::Crashed => Ok(Arrival::Crashed),
-        Came::Faulted => {
+    match bring(alloc, hosts, now, position, clock)? {
+        StepOutcome::Crashed => Ok(Arrival::Crashed),
+        StepOutcome::Faulted => {
             now.send_broken()?;
             Ok(Arrival::Unanswered { asker, asked })
         }
-        Came::Answered(reply) => {
+        StepOutcome::Answered(reply) => {
             reply_widths(&reply);
             let status = reply_status(&reply);
-            send_back(alloc, now, letter, place, reply)?;
+            send_back(alloc, now, position, place, reply)?;
             Ok(Arrival::Replied(status))
         }
     }
@@ -131,21 +131,21 @@ fn take_reply(
     alloc: Global,
     hosts: &[ScriptHost],
     now: &mut Rehearsal,
-    letter: u64,
+    position: u64,
     clock: Moment,
 ) -> Result<Arrival, Memory>
     requires playing { IsPlaying hosts.now now.old }
-    requires sent { letter - 1 < length now.old.letters }
+    requires sent { position - 1 < length now.old.messages }
     requires clock { clock ≤ MAX_MOMENT }
-    requires reply { (l : Letter) → message (as_read now.old) letter ≡ Some l → (told : AReply) × (l.reply ≡ Some told) }
-    ensures arrival { IfOk result (λ arrival. arrival ≡ arrival_of hosts.now now.old clock (message (as_read now.old) letter)) }
-    ensures scene { OnOk result (now.new ≡ scene_deed hosts.now now.old (Does (Arrives letter clock))) }
+    requires reply { (l : Message) → message (as_read now.old) position ≡ Some l → (told : AReply) × (l.reply ≡ Some told) }
+    ensures arrival { IfOk result (λ arrival. arrival ≡ arrival_of hosts.now now.old clock (message (as_read now.old) position)) }
+    ensures simulation { OnOk result (now.new ≡ simulation_after hosts.now now.old (Does (Arrives position clock))) }
 {
-    let _letter = now.letter(letter);
-    match bring(alloc, hosts, now, letter, clock)? {
-        Came::Crashed => Ok(Arrival::Crashed),
-        Came::Faulted => Ok(Arrival::Faulted),
-        Came::Answered(reply) => {
+    let _message = now.message_at(position);
+    match bring(alloc, hosts, now, position, clock)? {
+        StepOutcome::Crashed => Ok(Arrival::Crashed),
+        StepOutcome::Faulted => Ok(Arrival::Faulted),
+        StepOutcome::Answered(reply) => {
             drop(reply);
             Ok(Arrival::Heard)
         }
@@ -158,22 +158,22 @@ pub fn receive(
     alloc: Global,
     hosts: &[ScriptHost],
     now: &mut Rehearsal,
-    letter: u64,
+    position: u64,
     clock: Moment,
 ) -> Result<Arrival, Memory>
     requires playing { IsPlaying hosts.now now.old }
     requires clock { clock ≤ MAX_MOMENT }
-    ensures arrival { IfOk result (λ arrival. arrival ≡ arrival_of hosts.now now.old clock (message (as_read now.old) letter)) }
-    ensures scene { OnOk result (now.new ≡ scene_deed hosts.now now.old (Does (Arrives letter clock))) }
+    ensures arrival { IfOk result (λ arrival. arrival ≡ arrival_of hosts.now now.old clock (message (as_read now.old) position)) }
+    ensures simulation { OnOk result (now.new ≡ simulation_after hosts.now now.old (Does (Arrives position clock))) }
 {
-    match now.message(letter) {
+    match now.message(position) {
         None => {
-            now.land(letter);
+            now.land(position);
             Ok(Arrival::Missing)
         }
         Some(message) => match &message.reply {
-            None => take_order(alloc, hosts, now, letter, clock),
-            Some(_) => take_reply(alloc, hosts, now, letter, clock),
+            None => take_order(alloc, hosts, now, position, clock),
+            Some(_) => take_reply(alloc, hosts, now, position, clock),
         },
     }
 }
@@ -201,20 +201,20 @@ pub fn arrive(
     alloc: Global,
     hosts: &[ScriptHost],
     now: &mut Rehearsal,
-    letter: u64,
+    position: u64,
     clock: Moment,
     line: u64,
     report: &mut ReportText,
 ) -> Result<(), Memory>
     requires playing { IsPlaying hosts.now now.old }
     requires clock { clock ≤ MAX_MOMENT }
-    ensures report { OnOk result (report.new ≡ report.old ++ line_text line (arrival_said hosts.now now.old clock (message (as_read now.old) letter))) }
-    ensures scene { OnOk result (now.new ≡ scene_deed hosts.now now.old (Does (Arrives letter clock))) }
+    ensures report { OnOk result (report.new ≡ report.old ++ line_text line (arrival_said hosts.now now.old clock (message (as_read now.old) position))) }
+    ensures simulation { OnOk result (now.new ≡ simulation_after hosts.now now.old (Does (Arrives position clock))) }
 {
     let before = now.messages().len();
     let broken = now.count_broken();
     let number = now.next_number();
-    match receive(alloc, hosts, now, letter, clock)? {
+    match receive(alloc, hosts, now, position, clock)? {
         Arrival::Missing => add_said(report, line, "not in flight"),
         Arrival::Crashed => add_said(report, line, CRASHED),
         Arrival::Unanswered { asker, asked } => {
@@ -223,7 +223,7 @@ pub fn arrive(
         Arrival::Faulted => add_said(report, line, DISK_FAULT),
         Arrival::Replied(status) => {
             begin_status(report, line, status)?;
-            add_letters(report, hosts, now.messages(), before, broken)
+            add_messages(report, hosts, now.messages(), before, broken)
         }
         Arrival::Heard => add_said(report, line, "heard"),
     }
@@ -242,7 +242,7 @@ pub fn deliver(
     requires playing { IsPlaying hosts.now now.old }
     requires clock { clock ≤ MAX_MOMENT }
     ensures report { OnOk result (report.new ≡ report.old ++ line_text line (if flies now.old number then message_said hosts.now now.old clock number else codes "not in flight")) }
-    ensures scene { OnOk result (now.new ≡ scene_deed hosts.now now.old (if flies now.old number then unless_broken now.old number (Hears number) (Does (Arrives (letter_number now.old number) clock)) else Does Rests)) }
+    ensures simulation { OnOk result (now.new ≡ simulation_after hosts.now now.old (if flies now.old number then unless_broken now.old number (Hears number) (Does (Arrives (message_position now.old number) clock)) else Does Rests)) }
 {
     if !now.flies(number) {
         return add_said(report, line, "not in flight");
@@ -251,8 +251,8 @@ pub fn deliver(
         now.hear(number);
         return add_said(report, line, "heard");
     }
-    let letter = now.letter_number(number);
-    arrive(alloc, hosts, now, letter, clock, line, report)
+    let position = now.message_position(number);
+    arrive(alloc, hosts, now, position, clock, line, report)
 }
 
 /// The message of this number arrives again, where it arrived or was lost.
@@ -268,7 +268,7 @@ pub fn repeat(
     requires playing { IsPlaying hosts.now now.old }
     requires clock { clock ≤ MAX_MOMENT }
     ensures report { OnOk result (report.new ≡ report.old ++ line_text line (if has_come now.old number then message_said hosts.now now.old clock number else codes "not in flight")) }
-    ensures scene { OnOk result (now.new ≡ scene_deed hosts.now now.old (if has_come now.old number then unless_broken now.old number (Does Rests) (Does (Arrives (letter_number now.old number) clock)) else Does Rests)) }
+    ensures simulation { OnOk result (now.new ≡ simulation_after hosts.now now.old (if has_come now.old number then unless_broken now.old number (Does Rests) (Does (Arrives (message_position now.old number) clock)) else Does Rests)) }
 {
     if !now.has_come(number) {
         return add_said(report, line, "not in flight");
@@ -276,8 +276,8 @@ pub fn repeat(
     if now.is_broken(number) {
         return add_said(report, line, "heard");
     }
-    let letter = now.letter_number(number);
-    arrive(alloc, hosts, now, letter, clock, line, report)
+    let position = now.message_position(number);
+    arrive(alloc, hosts, now, position, clock, line, report)
 }
 
 /// The message of this number is lost, where it is in flight.
@@ -288,7 +288,7 @@ pub fn lose(
     report: &mut ReportText,
 ) -> Result<(), Memory>
     ensures report { OnOk result (report.new ≡ report.old ++ line_text line (if flies now.old number then codes "lost" else codes "not in flight")) }
-    ensures scene { (hosts : List ScriptHost) → OnOk result (now.new ≡ scene_deed hosts now.old (if flies now.old number then unless_broken now.old number (Hears number) (Does (Lost (letter_number now.old number))) else Does Rests)) }
+    ensures simulation { (hosts : List ScriptHost) → OnOk result (now.new ≡ simulation_after hosts now.old (if flies now.old number then unless_broken now.old number (Hears number) (Does (Lost (message_position now.old number))) else Does Rests)) }
 {
     if !now.flies(number) {
         return add_said(report, line, "not in flight");
@@ -297,6 +297,6 @@ pub fn lose(
         now.hear(number);
         return add_said(report, line, "lost");
     }
-    now.land(now.letter_number(number));
+    now.land(now.message_position(number));
     add_said(report, line, "lost")
 }

@@ -8,9 +8,9 @@ ghost use Rattle.limit_apply.specs.Read.{IsKept};
 ghost use Rattle.rehearsal_script.specs.declared.script.ScriptHost.{ScriptHost};
 ghost use Rattle.rehearsal_report.specs.Line.{booking_text, limits_text, line_text};
 ghost use Rattle.rehearsal_model.specs.Moves.{Move.Asks};
-ghost use Rattle.rehearsal_model.specs.Scenes.{Deed.Does, came_at, config_of, scene_deed};
-ghost use Rattle.rehearsal_model.specs.Telling.{came_said, unavailable};
-ghost use Rattle.rehearsal_model.specs.declared.came.Came.TheVariants.{Answered as AsAnswered};
+ghost use Rattle.rehearsal_model.specs.Simulations.{Action.Does, outcome_at, config_of, simulation_after};
+ghost use Rattle.rehearsal_model.specs.Telling.{outcome_said, unavailable};
+ghost use Rattle.rehearsal_model.specs.declared.outcome.StepOutcome.TheVariants.{Answered as AsAnswered};
 ghost use Rattle.rehearsal_state.specs.Moved.{with_step};
 ghost use Rattle.rehearsal_state.specs.Ready.{IsReady};
 
@@ -20,10 +20,10 @@ use limit_apply::limits::Limits;
 use ps_time::class::Class;
 use ps_time::memory::Memory;
 use ps_time::moment::{Length, Moment};
-use rehearsal_state::came::Came;
-use rehearsal_state::rehearsal::Rehearsal;
 use rehearsal_report::line::{add_booking, add_limits, add_said};
 use rehearsal_report::report::ReportText;
+use rehearsal_state::outcome::StepOutcome;
+use rehearsal_state::rehearsal::Rehearsal;
 use std::alloc::Global;
 
 /// What is told where a step stopped.
@@ -42,12 +42,12 @@ pub(crate) fn step_shown(
     place: usize,
     clock: Moment,
     input: Input,
-) -> Result<Came, Memory>
+) -> Result<StepOutcome, Memory>
     requires ready { IsReady now.old place clock }
     requires input { IsInput (config_of now.old place) input }
-    ensures came { IfOk result (λ came. came ≡ came_at now.old place clock input) }
-    ensures shown { IfOk result (λ came. (reply : Reply) → came ≡ AsAnswered reply → IsReplyShown reply) }
-    ensures scene { OnOk result (now.new ≡ with_step now.old place clock input) }
+    ensures outcome { IfOk result (λ outcome. outcome ≡ outcome_at now.old place clock input) }
+    ensures shown { IfOk result (λ outcome. (reply : Reply) → outcome ≡ AsAnswered reply → IsReplyShown reply) }
+    ensures simulation { OnOk result (now.new ≡ with_step now.old place clock input) }
 {
     law_reply();
     now.step(alloc, place, clock, input)
@@ -60,17 +60,17 @@ pub fn ask(
     place: usize,
     clock: Moment,
     input: Input,
-) -> Result<Came, Memory>
+) -> Result<StepOutcome, Memory>
     requires ready { IsReady now.old place clock }
     requires input { IsInput (config_of now.old place) input }
-    ensures came { IfOk result (λ came. came ≡ came_at now.old place clock input) }
-    ensures shown { IfOk result (λ came. (reply : Reply) → came ≡ AsAnswered reply → IsReplyShown reply) }
-    ensures there { IfOk result (λ came. (reply : Reply) → came ≡ AsAnswered reply → place < length now.new.seats) }
-    ensures config { IfOk result (λ came. (reply : Reply) → came ≡ AsAnswered reply → config_of now.new place ≡ config_of now.old place) }
-    ensures scene { (hosts : List ScriptHost) → OnOk result (now.new ≡ scene_deed hosts now.old (Does (Asks place clock input))) }
+    ensures outcome { IfOk result (λ outcome. outcome ≡ outcome_at now.old place clock input) }
+    ensures shown { IfOk result (λ outcome. (reply : Reply) → outcome ≡ AsAnswered reply → IsReplyShown reply) }
+    ensures there { IfOk result (λ outcome. (reply : Reply) → outcome ≡ AsAnswered reply → place < length now.new.held_hosts) }
+    ensures config { IfOk result (λ outcome. (reply : Reply) → outcome ≡ AsAnswered reply → config_of now.new place ≡ config_of now.old place) }
+    ensures simulation { (hosts : List ScriptHost) → OnOk result (now.new ≡ simulation_after hosts now.old (Does (Asks place clock input))) }
 {
-    let came = step_shown(alloc, now, place, clock, input)?;
-    Ok(came)
+    let outcome = step_shown(alloc, now, place, clock, input)?;
+    Ok(outcome)
 }
 
 /// What a host is asked where a run is to be booked, from a start in seconds since 1970 UTC, so many seconds long.
@@ -97,17 +97,17 @@ pub fn book(
 ) -> Result<(), Memory>
     requires ready { IsReady now.old place clock }
     requires input { IsInput (config_of now.old place) input }
-    ensures report { OnOk result (report.new ≡ report.old ++ line_text line (came_said (came_at now.old place clock input) unavailable booking_text)) }
-    ensures scene { (hosts : List ScriptHost) → OnOk result (now.new ≡ scene_deed hosts now.old (Does (Asks place clock input))) }
+    ensures report { OnOk result (report.new ≡ report.old ++ line_text line (outcome_said (outcome_at now.old place clock input) unavailable booking_text)) }
+    ensures simulation { (hosts : List ScriptHost) → OnOk result (now.new ≡ simulation_after hosts now.old (Does (Asks place clock input))) }
 {
     match ask(alloc, now, place, clock, input)? {
-        Came::Answered(reply) => {
+        StepOutcome::Answered(reply) => {
             let added = add_booking(report, line, &reply);
             drop(reply);
             added
         }
-        Came::Faulted => add_said(report, line, UNAVAILABLE),
-        Came::Crashed => add_said(report, line, CRASHED),
+        StepOutcome::Faulted => add_said(report, line, UNAVAILABLE),
+        StepOutcome::Crashed => add_said(report, line, CRASHED),
     }
 }
 
@@ -122,18 +122,18 @@ pub fn limit(
 ) -> Result<(), Memory>
     requires ready { IsReady now.old place now.old.last }
     requires kept { IsKept limits.now }
-    ensures report { OnOk result (report.new ≡ report.old ++ line_text line (came_said (came_at now.old place now.old.last (AsLimits limits.now)) unavailable limits_text)) }
-    ensures scene { (hosts : List ScriptHost) → OnOk result (now.new ≡ scene_deed hosts now.old (Does (Asks place now.old.last (AsLimits limits.now)))) }
+    ensures report { OnOk result (report.new ≡ report.old ++ line_text line (outcome_said (outcome_at now.old place now.old.last (AsLimits limits.now)) unavailable limits_text)) }
+    ensures simulation { (hosts : List ScriptHost) → OnOk result (now.new ≡ simulation_after hosts now.old (Does (Asks place now.old.last (AsLimits limits.now)))) }
 {
     let input = Input::Limits(limits.copy(alloc)?);
     let clock = now.last();
     match ask(alloc, now, place, clock, input)? {
-        Came::Answered(reply) => {
+        StepOutcome::Answered(reply) => {
             let added = add_limits(report, line, &reply);
             drop(reply);
             added
         }
-        Came::Faulted => add_said(report, line, UNAVAILABLE),
-        Came::Crashed => add_said(report, line, CRASHED),
+        StepOutcome::Faulted => add_said(report, line, UNAVAILABLE),
+        StepOutcome::Crashed => add_said(report, line, CRASHED),
     }
 }

@@ -6,20 +6,20 @@ ghost use Rattle.rehearsal_report.specs.Line.{line_text};
 ghost use Rattle.rehearsal_model.specs.Moves.{Move.Asks, asking};
 ghost use Rattle.rehearsal_model.specs.Plays.{MayMake};
 ghost use Rattle.rehearsal_model.specs.Requests.{delete as deleting, get as getting, post as posting};
-ghost use Rattle.rehearsal_model.specs.Scenes.{Deed.Does, config_of, scene_deed};
+ghost use Rattle.rehearsal_model.specs.Simulations.{Action.Does, config_of, simulation_after};
 ghost use Rattle.rehearsal_model.specs.Telling.{request_said};
 ghost use Rattle.rehearsal_state.specs.Ready.{IsReady};
 
 use crate::ask::{CRASHED, UNAVAILABLE, ask};
+use crate::requested::{self, Asked};
 use api_reply::respond::respond;
 use host_model::input::Input;
 use ps_time::memory::Memory;
 use ps_time::moment::Moment;
-use crate::requested::{self, Asked};
-use rehearsal_state::came::Came;
-use rehearsal_state::rehearsal::Rehearsal;
 use rehearsal_report::line::{add_response, add_said};
 use rehearsal_report::report::ReportText;
+use rehearsal_state::outcome::StepOutcome;
+use rehearsal_state::rehearsal::Rehearsal;
 use std::alloc::Global;
 
 /// The host at a place is asked what a request asks, and what comes of that is reported.
@@ -35,19 +35,19 @@ fn answer(
     requires ready { IsReady now.old place clock }
     requires input { IsInput (config_of now.old place) input }
     ensures report { OnOk result (report.new ≡ report.old ++ line_text line (request_said now.old place clock (AsOk input))) }
-    ensures scene { (hosts : List ScriptHost) → OnOk result (now.new ≡ scene_deed hosts now.old (Does (Asks place clock input))) }
+    ensures simulation { (hosts : List ScriptHost) → OnOk result (now.new ≡ simulation_after hosts now.old (Does (Asks place clock input))) }
 {
     match ask(alloc, now, place, clock, input)? {
-        Came::Answered(reply) => {
-            let response = respond(alloc, now.seat(place).config(), &reply, clock);
+        StepOutcome::Answered(reply) => {
+            let response = respond(alloc, now.held_host(place).config(), &reply, clock);
             drop(reply);
             let response = response?;
             let added = add_response(report, line, &response);
             drop(response);
             added
         }
-        Came::Faulted => add_said(report, line, UNAVAILABLE),
-        Came::Crashed => add_said(report, line, CRASHED),
+        StepOutcome::Faulted => add_said(report, line, UNAVAILABLE),
+        StepOutcome::Crashed => add_said(report, line, CRASHED),
     }
 }
 
@@ -64,7 +64,7 @@ fn answer_request(
     requires ready { IsReady now.old place clock }
     requires input { IfOk asked (IsInput (config_of now.old place)) }
     ensures report { OnOk result (report.new ≡ report.old ++ line_text line (request_said now.old place clock asked)) }
-    ensures scene { (hosts : List ScriptHost) → OnOk result (now.new ≡ scene_deed hosts now.old (Does (asking place clock asked))) }
+    ensures simulation { (hosts : List ScriptHost) → OnOk result (now.new ≡ simulation_after hosts now.old (Does (asking place clock asked))) }
     ensures may { MayMake now.old (asking place clock asked) }
 {
     match asked {
@@ -90,10 +90,10 @@ pub fn post(
 ) -> Result<(), Memory>
     requires { IsReady now.old place clock }
     ensures report { OnOk result (report.new ≡ report.old ++ line_text line (request_said now.old place clock (posting (config_of now.old place) address.now body.now clock))) }
-    ensures scene { (hosts : List ScriptHost) → OnOk result (now.new ≡ scene_deed hosts now.old (Does (asking place clock (posting (config_of now.old place) address.now body.now clock)))) }
+    ensures simulation { (hosts : List ScriptHost) → OnOk result (now.new ≡ simulation_after hosts now.old (Does (asking place clock (posting (config_of now.old place) address.now body.now clock)))) }
     ensures may { OnOk result (MayMake now.old (asking place clock (posting (config_of now.old place) address.now body.now clock))) }
 {
-    let asked = requested::post(alloc, now.seat(place).config(), address, body, clock)?;
+    let asked = requested::post(alloc, now.held_host(place).config(), address, body, clock)?;
     answer_request(alloc, now, place, clock, asked, line, report)
 }
 
@@ -109,10 +109,10 @@ pub fn get(
 ) -> Result<(), Memory>
     requires { IsReady now.old place clock }
     ensures report { OnOk result (report.new ≡ report.old ++ line_text line (request_said now.old place clock (getting (config_of now.old place) path.now clock))) }
-    ensures scene { (hosts : List ScriptHost) → OnOk result (now.new ≡ scene_deed hosts now.old (Does (asking place clock (getting (config_of now.old place) path.now clock)))) }
+    ensures simulation { (hosts : List ScriptHost) → OnOk result (now.new ≡ simulation_after hosts now.old (Does (asking place clock (getting (config_of now.old place) path.now clock)))) }
     ensures may { OnOk result (MayMake now.old (asking place clock (getting (config_of now.old place) path.now clock))) }
 {
-    let asked = requested::get(alloc, now.seat(place).config(), path, clock)?;
+    let asked = requested::get(alloc, now.held_host(place).config(), path, clock)?;
     answer_request(alloc, now, place, clock, asked, line, report)
 }
 
@@ -129,9 +129,9 @@ pub fn delete(
 ) -> Result<(), Memory>
     requires { IsReady now.old place clock }
     ensures report { OnOk result (report.new ≡ report.old ++ line_text line (request_said now.old place clock (deleting (config_of now.old place) address.now path.now clock))) }
-    ensures scene { (hosts : List ScriptHost) → OnOk result (now.new ≡ scene_deed hosts now.old (Does (asking place clock (deleting (config_of now.old place) address.now path.now clock)))) }
+    ensures simulation { (hosts : List ScriptHost) → OnOk result (now.new ≡ simulation_after hosts now.old (Does (asking place clock (deleting (config_of now.old place) address.now path.now clock)))) }
     ensures may { OnOk result (MayMake now.old (asking place clock (deleting (config_of now.old place) address.now path.now clock))) }
 {
-    let asked = requested::delete(alloc, now.seat(place).config(), address, path, clock)?;
+    let asked = requested::delete(alloc, now.held_host(place).config(), address, path, clock)?;
     answer_request(alloc, now, place, clock, asked, line, report)
 }

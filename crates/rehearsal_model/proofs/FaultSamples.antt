@@ -21,8 +21,8 @@ use Rattle.rehearsal_script.specs.declared.script.ScriptHost.{ScriptHost}
 use Rattle.rehearsal_script.specs.declared.script.ScriptLine.{ScriptLine}
 use Rattle.rehearsal_script.specs.declared.script.ScriptLine.TheVariants as line
 use Rattle.rehearsal_script.specs.declared.script.Stop.{Stop}
-use Rattle.rehearsal_model.specs.Scenes.{Deed, Scene, first_scene, scene_line, scene_lines, scene_played}
-use Rattle.rehearsal_model.specs.Seats.{record_length, snapshot_length}
+use Rattle.rehearsal_model.specs.Simulations.{Action, Simulation, first_simulation, simulation_line, simulation_lines, simulation_played}
+use Rattle.rehearsal_model.specs.Simulated.{record_length, snapshot_length}
 use Rattle.rehearsal_model.specs.Telling.{line_said, lines_said}
 
 abbrev hosts : List ScriptHost
@@ -32,11 +32,11 @@ abbrev booking : ScriptLine
 booking = line.Book 0 0 Exclusive (pos 0) 100 10
 
 -- once the call of this number is to fail
-abbrev failing : ℕ → Scene
-failing call = scene_played hosts (first_scene hosts) 0 (Deed.Fails 0 call)
+abbrev failing : ℕ → Simulation
+failing call = simulation_played hosts (first_simulation hosts) 0 (Action.Fails 0 call)
 
-abbrev booked : ℕ → Scene
-booked call = scene_line plain hosts (failing call) booking
+abbrev booked : ℕ → Simulation
+booked call = simulation_line plain hosts (failing call) booking
 
 -- the third call fails: the gate of the record isn't open, and the next step books
 third : (line_said plain hosts (failing 3) booking ≡ codes "503 {\"error\":\"disk\"}") × (line_said plain hosts (booked 3) booking ≡ codes "accepted 00010000-0000-8001-8000-000000010000")
@@ -88,16 +88,16 @@ both = (refl, refl, refl)
 abbrev two : List ScriptHost
 two = record { name = codes "a"; number = 1 } ∷ record { name = codes "b"; number = 2 } ∷ []
 
-abbrev proposing : Scene
+abbrev proposing : Simulation
 proposing =
-    scene_lines plain two (first_scene two) (numbered 1 (
+    simulation_lines plain two (first_simulation two) (numbered 1 (
     line.Post 1000 0 (codes "10.0.0.9") (codes "{\"test\":{\"type\":\"idlemany\",\"spec\":{\"duration\":\"PT10S\",\"hosts\":[\"a\",\"b\"]}}}") ∷ line.Turn 1001 0 ∷ line.Deliver 1001 1 ∷ line.Deliver 1001 2 ∷ line.Turn 1002 0 ∷ []))
 
 abbrev heard : List ScriptLine
 heard = line.Deliver 1003 3 ∷ line.Repeat 1003 3 ∷ line.Deliver 1003 4 ∷ line.Repeat 1003 4 ∷ line.Turn 1004 0 ∷ line.Deliver 1004 5 ∷ line.Deliver 1004 6 ∷ []
 
 hearing :
-    lines_said plain two (scene_played two proposing 0 (Deed.Fails 1 4)) (numbered 1 heard)
+    lines_said plain two (simulation_played two proposing 0 (Action.Fails 1 4)) (numbered 1 heard)
     ≡ codes "1 503 4=b>a:reply\n2 200 5=b>a:reply\n3 heard\n4 heard\n5 changes 0\n6 heard\n7 not in flight\n"
 unfolding is_utf8 chars encode digits uuid_on_literals serde_json_on_literals escape_byte length_of amount_of days_at count_at clock_at seconds_at leading_number begins_as fraction_at length_text_of first_from run_text task_text moment_data second_data moment_text_of day_text_of date_of_day month_after year_after record_length snapshot_length
 hearing = refl

@@ -8,7 +8,7 @@ use Rattle.host_model.specs.Book.{empty_book}
 use Rattle.host_model.proofs.LawfulBook.{empty_lawful}
 use Rattle.host_model.specs.declared.input.Input.TheVariants as input
 use Rattle.world_law.specs.Events.{Event, Event.Reopen, MayRun, Right, run, step_stage}
-use Rattle.world_law.specs.World.{Letter, Stage, World, push, start}
+use Rattle.world_law.specs.World.{Message, Stage, World, push, start}
 use Rattle.world_law.proofs.Worlds.{now_same}
 use Rattle.api_peer.proofs.OrderlyChanges.{empty_orderly}
 use Rattle.api_peer.proofs.OrderlySteps.{step_orderly}
@@ -53,9 +53,9 @@ module _ (hosts : List ScriptHost) where
       both [] other ok = tt
       both (g ∷ gs) other ok = (ap (λ (x : Stage). x.book) (other_now w h.number (opened w h) g.number (λ same. other.0 (sym same))) ∙ ok.0, both gs other.1 ok.1)
 
-  no_letters : (hs : List ScriptHost) (w : World) → (run (opens hs) w).letters ≡ w.letters
-  no_letters [] w = refl
-  no_letters (h ∷ hs) w = no_letters hs (push w h.number (opened w h))
+  no_messages : (hs : List ScriptHost) (w : World) → (run (opens hs) w).messages ≡ w.messages
+  no_messages [] w = refl
+  no_messages (h ∷ hs) w = no_messages hs (push w h.number (opened w h))
 
   may_open : (hs : List ScriptHost) (w : World) → AllByRecursion (λ (h : ScriptHost). Right w.names h.number (first_config hosts h)) hs → MayRun w (opens hs)
   may_open [] w right = tt
@@ -72,13 +72,13 @@ module _ (hosts : List ScriptHost) where
     stages_first : present hosts (first_world hosts) ≡ map (opened_stage hosts) hosts
     stages_first = opened_all hosts (differ hosts lawful) empty (fresh hosts)
 
-    letters_first : (first_world hosts).letters ≡ []
-    letters_first = no_letters hosts empty
+    messages_first : (first_world hosts).messages ≡ []
+    messages_first = no_messages hosts empty
 
     pub first_is : seen hosts (first_show hosts) ≡ first_seen hosts
     first_is =
-        ap (λ x. record { stages = x; letters = reverse (first_world hosts).letters; flying = []; last = 0; stops = [] }) stages_first
-        ∙ ap (λ (x : List Letter). record { stages = map (opened_stage hosts) hosts; letters = reverse x; flying = []; last = 0; stops = [] }) letters_first
+        ap (λ x. record { stages = x; messages = reverse (first_world hosts).messages; flying = []; last = 0; stops = [] }) stages_first
+        ∙ ap (λ (x : List Message). record { stages = map (opened_stage hosts) hosts; messages = reverse x; flying = []; last = 0; stops = [] }) messages_first
 
     configs_first : (place : ℕ) (h : ScriptHost) → StandsAt hosts place h → IsAsFirst hosts h (stage_in (present hosts (first_world hosts)) place).config
     configs_first place h at =
@@ -102,7 +102,7 @@ module _ (hosts : List ScriptHost) where
       orderly = All-same IsOrderlyStage (present hosts (first_world hosts)) (map (opened_stage hosts) hosts) stages_first (All-map IsOrderlyStage (opened_stage hosts) hosts (λ k d lt. opened_orderly (get_or hosts k d)));
       told = All-same IsToldStage (present hosts (first_world hosts)) (map (opened_stage hosts) hosts) stages_first
           (All-map IsToldStage (opened_stage hosts) hosts (λ k d lt. opened_told k (get_or hosts k d) (slice_get-get_or hosts k d lt)));
-      letters = All-same (IsBetween hosts) (first_world hosts).letters [] letters_first (All-nil (IsBetween hosts));
+      messages = All-same (IsBetween hosts) (first_world hosts).messages [] messages_first (All-nil (IsBetween hosts));
       flying = All-nil (λ n. IsTrue (is_sent (seen hosts (first_show hosts)) n));
       last = omega arith;
     }

@@ -1,6 +1,6 @@
 pub mod AskLemmas
-pub mod CalmLemmas
-pub mod DeedLemmas
+pub mod UnarmedLemmas
+pub mod ActionLemmas
 mod FaultSamples
 pub mod FirstLemmas
 pub mod HostLemmas
@@ -11,7 +11,7 @@ pub mod MoveLemmas
 pub mod PlayLemmas
 pub mod ReachLemmas
 mod Samples
-pub mod SceneLemmas
+pub mod SimulationLemmas
 pub mod SeenLemmas
 pub mod TurnLemmas
 pub mod WorldLemmas

@@ -23,7 +23,7 @@ use Rattle.host_model.specs.declared.reply.Reply.{Reply}
 use Rattle.host_model.specs.Orders.{orders}
 use Rattle.host_model.proofs.StepFollows.{step_lawful}
 use Rattle.world_law.specs.Events.{Cause, Event, MayRun, brings, is_inner, run}
-use Rattle.world_law.specs.World.{Letter, Stage, World, input_of, start}
+use Rattle.world_law.specs.World.{Message, Stage, World, input_of, start}
 use Rattle.api_peer.specs.Meant.{KeepsBounds}
 use Rattle.api_peer.specs.Orderly.{IsSized}
 use Rattle.api_peer.proofs.OrderLemmas.{orders_bound}
@@ -41,7 +41,7 @@ use Rattle.rehearsal_model.specs.Rehearsal.{Show, events_of, moved, retooled, se
 use Rattle.rehearsal_model.specs.Seen.{Seen, acted, book_at, config_at, is_sent, message, nobody, stage_at}
 use Rattle.rehearsal_model.proofs.HostLemmas.{StandsAt, differ, host_at, is_host, name_known, same_number}
 use Rattle.rehearsal_model.proofs.ListLemmas.{aged_is, all_reverse}
-use Rattle.rehearsal_model.proofs.MoveLemmas.{HasCause, IsMove, cut_config, goes_known, known, letters_moved, may_moved, stages_moved}
+use Rattle.rehearsal_model.proofs.MoveLemmas.{HasCause, IsMove, cut_config, goes_known, known, messages_moved, may_moved, stages_moved}
 use Rattle.rehearsal_model.proofs.ReachLemmas.{book_lawful, brings_input, config_is, receiver_within, told_at}
 use Rattle.rehearsal_model.proofs.SeenLemmas.{present, stage_in}
 use Rattle.rehearsal_model.proofs.TurnLemmas.{peer_number, sent_all}
@@ -60,7 +60,7 @@ set_configs hosts xs long each place new here k h at = elim (cases_eq k place) [
 ]
 
 -- ---- numbers of messages
-numbers_all : (P : ℕ → Type 0) (n : ℕ) (ls : List Letter) → ((k : ℕ) → n ≤ k → k < n + length ls → P k) → All P (numbers_from n ls)
+numbers_all : (P : ℕ → Type 0) (n : ℕ) (ls : List Message) → ((k : ℕ) → n ≤ k → k < n + length ls → P k) → All P (numbers_from n ls)
 numbers_all P n [] each = All-nil P
 numbers_all P n (l ∷ ls) each = All-cons P n (numbers_from (n + 1) ls) (each n (omega arith) (omega arith)) (numbers_all P (n + 1) ls (λ k low high. each k (omega (arith, low)) (omega (arith, high))))
 
@@ -86,7 +86,7 @@ asked_sized n k order.Cancel = tt
 asked_sized n k (order.Material text) = tt
 asked_sized n k order.Result = tt
 
-brings_sized : (l : Letter) (r : Option Reply) → IsSized (brings l r)
+brings_sized : (l : Message) (r : Option Reply) → IsSized (brings l r)
 brings_sized l None = asked_sized l.asker l.order.key l.order.body
 brings_sized l (Some said) = tt
 
@@ -98,27 +98,27 @@ apart_all m (p ∷ ps) none =
     All-cons (λ (q : Peer). m ≢ q.number) p ps (λ same. both_ways (p.number == m) parts.0 (same_number p.number m (sym same))) (apart_all m ps parts.1)
 
 -- ---- a move
-abbrev seen_with : List Stage → List Letter → List ℕ → ℕ → List (ℕ × Stop) → Seen
-seen_with stages letters flying last stops = record { stages = stages; letters = letters; flying = flying; last = last; stops = stops }
+abbrev seen_with : List Stage → List Message → List ℕ → ℕ → List (ℕ × Stop) → Seen
+seen_with stages messages flying last stops = record { stages = stages; messages = messages; flying = flying; last = last; stops = stops }
 
 module _ (hosts : List ScriptHost) (lawful : AreLawfulHosts hosts) (s : Show) (reach : Reaches hosts s) where
   abbrev b : Seen
   b = seen hosts s
 
-  abbrev Known : Letter → Type 0
+  abbrev Known : Message → Type 0
   Known l = IsBetween hosts l
 
   abbrev world_after : Move → World
   world_after move = run (events_of hosts s move) s.world
 
-  letters_seen : (move : Move) → IsMove hosts b move → reverse (world_after move).letters ≡ b.letters ++ joining hosts b move
-  letters_seen move is =
-      ap reverse (letters_moved hosts lawful s reach move is) ∙ reverse-append (reverse (joining hosts b move)) s.world.letters ∙ ap (λ xs. reverse s.world.letters ++ xs) (reverse-reverse (joining hosts b move))
+  messages_seen : (move : Move) → IsMove hosts b move → reverse (world_after move).messages ≡ b.messages ++ joining hosts b move
+  messages_seen move is =
+      ap reverse (messages_moved hosts lawful s reach move is) ∙ reverse-append (reverse (joining hosts b move)) s.world.messages ∙ ap (λ xs. reverse s.world.messages ++ xs) (reverse-reverse (joining hosts b move))
 
   pub seen_moved : (m : ℕ) (move : Move) → IsMove hosts b move → seen hosts (moved hosts s m move) ≡ moved_seen hosts b m move
   seen_moved m move is =
-      ap (λ x. seen_with x (reverse (world_after move).letters) (flying_after hosts b move) (max s.last m) (stops_after b move)) (stages_moved hosts lawful s reach move is)
-      ∙ ap (λ x. seen_with (stages_after hosts b move) x (flying_after hosts b move) (max s.last m) (stops_after b move)) (letters_seen move is)
+      ap (λ x. seen_with x (reverse (world_after move).messages) (flying_after hosts b move) (max s.last m) (stops_after b move)) (stages_moved hosts lawful s reach move is)
+      ∙ ap (λ x. seen_with (stages_after hosts b move) x (flying_after hosts b move) (max s.last m) (stops_after b move)) (messages_seen move is)
 
   -- ---- configurations
   long : length b.stages ≡ length hosts
@@ -127,7 +127,7 @@ module _ (hosts : List ScriptHost) (lawful : AreLawfulHosts hosts) (s : Show) (r
   configs_at : (place : ℕ) (new : Stage) → new.config ≡ config_at b place → ConfigsOf hosts (set b.stages place new)
   configs_at place new same = set_configs hosts b.stages long reach.configs place new (λ h at. subst (IsAsFirst hosts h) (sym same) (reach.configs place h at))
 
-  configs_arrived : (clock : ℕ) (o : Option Letter) → ConfigsOf hosts (arrived_at hosts b clock o)
+  configs_arrived : (clock : ℕ) (o : Option Message) → ConfigsOf hosts (arrived_at hosts b clock o)
   configs_arrived clock None = reach.configs
   configs_arrived clock (Some l) = configs_at (receiver hosts l) (acted (stage_at b (receiver hosts l)) clock (brings l l.reply)) refl
 
@@ -162,7 +162,7 @@ module _ (hosts : List ScriptHost) (lawful : AreLawfulHosts hosts) (s : Show) (r
   stepped_orderly : (place clock : ℕ) (i : Input) → place < length hosts → IsSized i → All IsOrderlyStage (set b.stages place (acted (stage_at b place) clock i))
   stepped_orderly place clock i within sized = orderly_at place (acted (stage_at b place) clock i) (acted_orderly (stage_at b place) clock i sized (stage_orderly place within))
 
-  arrived_orderly : (clock : ℕ) (o : Option Letter) → ((l : Letter) → o ≡ Some l → Known l) → All IsOrderlyStage (arrived_at hosts b clock o)
+  arrived_orderly : (clock : ℕ) (o : Option Message) → ((l : Message) → o ≡ Some l → Known l) → All IsOrderlyStage (arrived_at hosts b clock o)
   arrived_orderly clock None each = reach.orderly
   arrived_orderly clock (Some l) each =
       stepped_orderly (receiver hosts l) clock (brings l l.reply) (goes_known hosts l (each l refl).asker (each l refl).asked l.reply) (brings_sized l l.reply)
@@ -170,7 +170,7 @@ module _ (hosts : List ScriptHost) (lawful : AreLawfulHosts hosts) (s : Show) (r
   cause_sized : (place : ℕ) (cause : Cause) (i : Input) → HasCause hosts b place cause i → IsSized i
   cause_sized place (Cause.ByClient j) i has = subst IsSized (sym has.0) has.2
   cause_sized place (Cause.ByInner j) i has = subst IsSized (sym has.0) (inner_sized j has.1)
-  cause_sized place (Cause.ByLetter j) i has = subst IsSized (sym has.3) (brings_sized has.0 has.0.reply)
+  cause_sized place (Cause.ByMessage j) i has = subst IsSized (sym has.3) (brings_sized has.0 has.0.reply)
   cause_sized place (Cause.ByOpening c) i has = absurd has
 
   orderly_moved : (move : Move) → IsMove hosts b move → All IsOrderlyStage (stages_after hosts b move)
@@ -180,7 +180,7 @@ module _ (hosts : List ScriptHost) (lawful : AreLawfulHosts hosts) (s : Show) (r
   orderly_moved (Move.Turns place clock) is = stepped_orderly place clock input.Turn is.0 tt
   orderly_moved (Move.Retools place tools) is = orderly_at place (record { config = retooled tools (config_at b place); book = book_at b place }) (stage_orderly place is.0)
   orderly_moved (Move.Reopens place clock) is = stepped_orderly place clock input.Open is.0 tt
-  orderly_moved (Move.Arrives n clock) is = arrived_orderly clock (message b n) (λ l e. known hosts lawful s reach (n - 1) l (sym (aged_is s.world.letters (n - 1)) ∙ e))
+  orderly_moved (Move.Arrives n clock) is = arrived_orderly clock (message b n) (λ l e. known hosts lawful s reach (n - 1) l (sym (aged_is s.world.messages (n - 1)) ∙ e))
   orderly_moved (Move.Lost n) is = reach.orderly
   orderly_moved (Move.Arms place stop) is = reach.orderly
   orderly_moved (Move.Crashes c) is =
@@ -201,17 +201,17 @@ module _ (hosts : List ScriptHost) (lawful : AreLawfulHosts hosts) (s : Show) (r
   stepped_told place clock i within low asked =
       told_set place (acted (stage_at b place) clock i) (step_told (config_at b place) (book_at b place) clock i (may_step place clock i within low asked) (told_at hosts lawful s reach place within))
 
-  arrived_told : (n clock : ℕ) (o : Option Letter) → clock ≤ greatest_moment → message b n ≡ o → All IsToldStage (arrived_at hosts b clock o)
+  arrived_told : (n clock : ℕ) (o : Option Message) → clock ≤ greatest_moment → message b n ≡ o → All IsToldStage (arrived_at hosts b clock o)
   arrived_told n clock None low e = reach.told
   arrived_told n clock (Some l) low e = stepped_told (receiver hosts l) clock (brings l l.reply) (receiver_within hosts lawful s reach n l e) low (brings_input hosts lawful s reach n l e)
 
   cause_asked : (place : ℕ) (cause : Cause) (i : Input) → HasCause hosts b place cause i → MayAsk (config_at b place) cause → IsInput (config_at b place) i
   cause_asked place (Cause.ByClient j) i has may = subst (IsInput (config_at b place)) (sym has.0) may
   cause_asked place (Cause.ByInner j) i has may = subst (IsInput (config_at b place)) (sym has.0) may
-  cause_asked place (Cause.ByLetter j) i has may =
-      let l : Letter = has.0 in
+  cause_asked place (Cause.ByMessage j) i has may =
+      let l : Message = has.0 in
       let back : j + 1 - 1 ≡ j = omega arith in
-      let sent : message b (j + 1) ≡ Some l = ap (slice_get b.letters) back ∙ has.1 in
+      let sent : message b (j + 1) ≡ Some l = ap (slice_get b.messages) back ∙ has.1 in
       subst (λ p. IsInput (config_at b p) i) (sym has.2) (subst (IsInput (config_at b (receiver hosts l))) (sym has.3) (brings_input hosts lawful s reach (j + 1) l sent))
   cause_asked place (Cause.ByOpening c) i has may = absurd has
 
@@ -246,7 +246,7 @@ module _ (hosts : List ScriptHost) (lawful : AreLawfulHosts hosts) (s : Show) (r
   told_moved (Move.Breaks c kept) is may =
       told_set c.place (cut_stage kept (stage_at b c.place) c.clock c.asked) (broken_told kept c.place c.clock c.asked is.0 is.1 (cause_asked c.place c.cause c.asked is.2 may))
 
-  -- ---- letters
+  -- ---- messages
   module _ (place : ℕ) (within : place < length hosts) where
     abbrev h : ScriptHost
     h = (host_at hosts place within).0
@@ -292,11 +292,11 @@ module _ (hosts : List ScriptHost) (lawful : AreLawfulHosts hosts) (s : Show) (r
         record { asker = asker_known; asked = other.0; apart = other.1; bounds = keeps })
         (filter (is_untold b) listed) (All-filter (is_untold b) Bound listed (turned_bounds clock low))
 
-  replied_known : (clock : ℕ) (l : Letter) → Known l → (r : Option Reply) → All Known (replied hosts b clock l r)
+  replied_known : (clock : ℕ) (l : Message) → Known l → (r : Option Reply) → All Known (replied hosts b clock l r)
   replied_known clock l ok None = All-cons Known (record l { reply = Some _ }) [] (record { asker = ok.asker; asked = ok.asked; apart = ok.apart; bounds = ok.bounds }) (All-nil Known)
   replied_known clock l ok (Some said) = All-nil Known
 
-  replies_known : (clock : ℕ) (o : Option Letter) → ((l : Letter) → o ≡ Some l → Known l) → All Known (replies hosts b clock o)
+  replies_known : (clock : ℕ) (o : Option Message) → ((l : Message) → o ≡ Some l → Known l) → All Known (replies hosts b clock o)
   replies_known clock None each = All-nil Known
   replies_known clock (Some l) each = replied_known clock l (each l refl) l.reply
 
@@ -307,20 +307,20 @@ module _ (hosts : List ScriptHost) (lawful : AreLawfulHosts hosts) (s : Show) (r
   joined_known (Move.Turns place clock) is = sent_known place is.0 clock is.1
   joined_known (Move.Retools place tools) is = All-nil Known
   joined_known (Move.Reopens place clock) is = All-nil Known
-  joined_known (Move.Arrives n clock) is = replies_known clock (message b n) (λ l e. known hosts lawful s reach (n - 1) l (sym (aged_is s.world.letters (n - 1)) ∙ e))
+  joined_known (Move.Arrives n clock) is = replies_known clock (message b n) (λ l e. known hosts lawful s reach (n - 1) l (sym (aged_is s.world.messages (n - 1)) ∙ e))
   joined_known (Move.Lost n) is = All-nil Known
   joined_known (Move.Arms place stop) is = All-nil Known
   joined_known (Move.Crashes c) is = All-nil Known
   joined_known (Move.Breaks c kept) is = All-nil Known
 
-  letters_all : (move : Move) → IsMove hosts b move → All Known (world_after move).letters
-  letters_all move is =
-      All-same Known (world_after move).letters (reverse (joining hosts b move) ++ s.world.letters) (letters_moved hosts lawful s reach move is)
-      (All-append Known (reverse (joining hosts b move)) s.world.letters (all_reverse Known (joining hosts b move) (joined_known move is)) reach.letters)
+  messages_all : (move : Move) → IsMove hosts b move → All Known (world_after move).messages
+  messages_all move is =
+      All-same Known (world_after move).messages (reverse (joining hosts b move) ++ s.world.messages) (messages_moved hosts lawful s reach move is)
+      (All-append Known (reverse (joining hosts b move)) s.world.messages (all_reverse Known (joining hosts b move) (joined_known move is)) reach.messages)
 
   -- ---- messages in flight
-  counted : (move : Move) → IsMove hosts b move → length (reverse (world_after move).letters) ≡ length b.letters + length (joining hosts b move)
-  counted move is = ap length (letters_seen move is) ∙ length-append b.letters (joining hosts b move)
+  counted : (move : Move) → IsMove hosts b move → length (reverse (world_after move).messages) ≡ length b.messages + length (joining hosts b move)
+  counted move is = ap length (messages_seen move is) ∙ length-append b.messages (joining hosts b move)
 
   landed_all : (P : ℕ → Type 0) → All P s.flying → (o : Option ℕ) → All P (landed_with o s.flying)
   landed_all P all None = all
@@ -341,9 +341,9 @@ module _ (hosts : List ScriptHost) (lawful : AreLawfulHosts hosts) (s : Show) (r
 
   flying_moved : (m : ℕ) (move : Move) → IsMove hosts b move → All (λ n. IsTrue (is_sent (seen hosts (moved hosts s m move)) n)) (flying_after hosts b move)
   flying_moved m move is =
-      let js : List Letter = joining hosts b move in
-      let count : ℕ = length b.letters in
-      let more : ℕ = length (reverse (world_after move).letters) in
+      let js : List Message = joining hosts b move in
+      let count : ℕ = length b.messages in
+      let more : ℕ = length (reverse (world_after move).messages) in
       let sum : more ≡ count + length js = counted move is in
       All-append (λ n. IsTrue (is_sent (seen hosts (moved hosts s m move)) n)) (still_flying b move) (numbers_from (count + 1) js)
       (All-weaker (λ n. IsTrue (is_sent b n)) (λ n. IsTrue (nat_le 1 n && nat_le n more)) (λ n sent. is_within n count more (omega (arith, sum)) sent) (still_flying b move) (flying_all (λ n. IsTrue (is_sent b n)) reach.flying move))
@@ -362,7 +362,7 @@ module _ (hosts : List ScriptHost) (lawful : AreLawfulHosts hosts) (s : Show) (r
         configs = subst (ConfigsOf hosts) (sym (stages_moved hosts lawful s reach move is)) (configs_moved move);
         orderly = All-same IsOrderlyStage (present hosts (world_after move)) (stages_after hosts b move) (stages_moved hosts lawful s reach move is) (orderly_moved move is);
         told = All-same IsToldStage (present hosts (world_after move)) (stages_after hosts b move) (stages_moved hosts lawful s reach move is) (told_moved move is may);
-        letters = letters_all move is;
+        messages = messages_all move is;
         flying = flying_moved m move is;
         last = omega (arith, last, low);
       }

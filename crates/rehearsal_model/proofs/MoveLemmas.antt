@@ -17,7 +17,7 @@ use Rattle.host_model.specs.declared.lead.Due.{Due}
 use Rattle.host_model.specs.declared.reply.Reply.{Reply}
 use Rattle.host_model.proofs.StepFollows.{step_follows}
 use Rattle.world_law.specs.Events.{Cause, Event, MayHappen, MayRun, Right, answered, arrived, brings, brought_to, config_by, cut, delivered, goes_to, happens, idle_stage, input_by, is_client, is_inner, reply_now, run, step_stage, stepped}
-use Rattle.world_law.specs.World.{Letter, Stage, World, aged, push, stages, start}
+use Rattle.world_law.specs.World.{Message, Stage, World, aged, push, stages, start}
 use Rattle.api_peer.specs.Orderly.{IsSized}
 use Rattle.world_law.proofs.Lawfulness.{right_now}
 use Rattle.world_law.proofs.Stages.{aged_last}
@@ -37,7 +37,7 @@ use Rattle.rehearsal_model.proofs.HostLemmas.{differ, host_at, number_is, right_
 use Rattle.rehearsal_model.proofs.KnownLemmas.{known_inv}
 use Rattle.rehearsal_model.proofs.ListLemmas.{aged_is, all_aged}
 use Rattle.rehearsal_model.proofs.SeenLemmas.{present, pushed_at, stage_numbered, step_seen}
-use Rattle.rehearsal_model.proofs.TurnLemmas.{tells_may, turn_told, with_letters}
+use Rattle.rehearsal_model.proofs.TurnLemmas.{tells_may, turn_told, with_messages}
 use Rattle.rehearsal_model.proofs.WorldLemmas.{run_named}
 
 -- ---- moves of lines
@@ -45,7 +45,7 @@ use Rattle.rehearsal_model.proofs.WorldLemmas.{run_named}
 abbrev pub HasCause : List ScriptHost → Seen → ℕ → Cause → Input → Type 0
 HasCause hosts b place (Cause.ByClient i) asked = (asked ≡ i) × (is_client i ≡ true) × IsSized i
 HasCause hosts b place (Cause.ByInner i) asked = (asked ≡ i) × (is_inner i ≡ true)
-HasCause hosts b place (Cause.ByLetter j) asked = (l : Letter) × (slice_get b.letters j ≡ Some l) × (place ≡ receiver hosts l) × (asked ≡ brings l l.reply)
+HasCause hosts b place (Cause.ByMessage j) asked = (l : Message) × (slice_get b.messages j ≡ Some l) × (place ≡ receiver hosts l) × (asked ≡ brings l l.reply)
 HasCause hosts b place (Cause.ByOpening c) asked = ⊥
 
 -- a move is about a host of the script, at a moment, and asks what may be asked there
@@ -93,7 +93,7 @@ pub cut_config : (kept : Bool) (s : Stage) (clock : ℕ) (i : Input) → (cut_st
 cut_config true s clock i = refl
 cut_config false s clock i = refl
 
-pub goes_known : (hosts : List ScriptHost) (l : Letter) → IsHost hosts l.asker → IsHost hosts l.asked → (r : Option Reply) → IsHost hosts (goes_to l r)
+pub goes_known : (hosts : List ScriptHost) (l : Message) → IsHost hosts l.asker → IsHost hosts l.asked → (r : Option Reply) → IsHost hosts (goes_to l r)
 goes_known hosts l asker asked None = asked
 goes_known hosts l asker asked (Some said) = asker
 
@@ -104,11 +104,11 @@ module _ (hosts : List ScriptHost) (lawful : AreLawfulHosts hosts) (s : Show) (r
   abbrev b : Seen
   b = seen hosts s
 
-  abbrev Known : Letter → Type 0
+  abbrev Known : Message → Type 0
   Known l = IsBetween hosts l
 
-  pub known : (j : ℕ) (l : Letter) → aged w.letters j ≡ Some l → Known l
-  known j l e = all_aged (IsBetween hosts) w.letters j l reach.letters e
+  pub known : (j : ℕ) (l : Message) → aged w.messages j ≡ Some l → Known l
+  known j l e = all_aged (IsBetween hosts) w.messages j l reach.messages e
 
   -- ---- the host at a place
   module _ (place : ℕ) (within : place < length hosts) where
@@ -130,14 +130,14 @@ module _ (hosts : List ScriptHost) (lawful : AreLawfulHosts hosts) (s : Show) (r
     asked_stages : (clock : ℕ) (i : Input) → is_client i ≡ true → present hosts (cond (is_client i) (answered w n clock i) w) ≡ stepped_at b place clock i
     asked_stages clock i client = ap (λ t. present hosts (cond t (answered w n clock i) w)) client ∙ step_here clock i
 
-    asked_letters : (clock : ℕ) (i : Input) → is_client i ≡ true → (cond (is_client i) (answered w n clock i) w).letters ≡ w.letters
-    asked_letters clock i client = ap (λ t. (cond t (answered w n clock i) w).letters) client
+    asked_messages : (clock : ℕ) (i : Input) → is_client i ≡ true → (cond (is_client i) (answered w n clock i) w).messages ≡ w.messages
+    asked_messages clock i client = ap (λ t. (cond t (answered w n clock i) w).messages) client
 
     tried_stages : (clock : ℕ) (i : Input) → is_inner i ≡ true → present hosts (cond (is_inner i) (stepped w n clock i) w) ≡ stepped_at b place clock i
     tried_stages clock i inner = ap (λ t. present hosts (cond t (stepped w n clock i) w)) inner ∙ step_here clock i
 
-    tried_letters : (clock : ℕ) (i : Input) → is_inner i ≡ true → (cond (is_inner i) (stepped w n clock i) w).letters ≡ w.letters
-    tried_letters clock i inner = ap (λ t. (cond t (stepped w n clock i) w).letters) inner
+    tried_messages : (clock : ℕ) (i : Input) → is_inner i ≡ true → (cond (is_inner i) (stepped w n clock i) w).messages ≡ w.messages
+    tried_messages clock i inner = ap (λ t. (cond t (stepped w n clock i) w).messages) inner
 
     pub bounds_here : (i : Input) → IsInput (config_at b place) i → IsInput (w.hosts n).now.config i
     bounds_here i is = subst (λ x. IsInput x.config i) stage_here is
@@ -152,7 +152,7 @@ module _ (hosts : List ScriptHost) (lawful : AreLawfulHosts hosts) (s : Show) (r
           let new : Stage = acted (w.hosts n).now clock input.Turn in
           subst (λ xs. aged xs (length (stages w n)) ≡ Some new) (sym (stages_same w n new)) (aged_last new (stages w n)) ∙ ap (λ x. Some (acted x clock input.Turn)) (sym stage_here)
 
-      turned : run (events_of hosts s (Move.Turns place clock)) w ≡ with_letters (stepped w n clock input.Turn) (reverse (sent_at b place clock) ++ w.letters)
+      turned : run (events_of hosts s (Move.Turns place clock)) w ≡ with_messages (stepped w n clock input.Turn) (reverse (sent_at b place clock) ++ w.messages)
       turned = turn_told b (stepped w n clock input.Turn) n (suc (length (w.hosts n).before)) clock turned_stage turned_there (ap (λ c. c.number) (reach.configs place h (host_at hosts place within).1).1 ∙ number)
 
     -- ---- other tools
@@ -175,36 +175,36 @@ module _ (hosts : List ScriptHost) (lawful : AreLawfulHosts hosts) (s : Show) (r
     config_right = subst (λ x. Right w.names n x.config) (sym stage_here) (right_now step_follows w (known_inv hosts lawful s reach).orderly n)
 
   -- ---- a message that arrives
-  module _ (clock : ℕ) (l : Letter) where
+  module _ (clock : ℕ) (l : Message) where
     arrived_stages : (r : Option Reply) → IsHost hosts (goes_to l r) → present hosts (arrived w clock l r) ≡ stepped_at b (place_numbered hosts (goes_to l r)) clock (brings l r)
     arrived_stages None is = let x = stands hosts l.asked is in step_seen hosts (differ hosts lawful) w (place_numbered hosts l.asked) x.0 x.1 l.asked x.2 clock (brings l None)
     arrived_stages (Some said) is = let x = stands hosts l.asker is in step_seen hosts (differ hosts lawful) w (place_numbered hosts l.asker) x.0 x.1 l.asker x.2 clock (brings l (Some said))
 
-    arrived_letters : (r : Option Reply) → l.reply ≡ r → IsHost hosts (goes_to l r) → (arrived w clock l r).letters ≡ reverse (replied hosts b clock l r) ++ w.letters
-    arrived_letters None e is =
+    arrived_messages : (r : Option Reply) → l.reply ≡ r → IsHost hosts (goes_to l r) → (arrived w clock l r).messages ≡ reverse (replied hosts b clock l r) ++ w.messages
+    arrived_messages None e is =
         let x = stands hosts l.asked is in
         let stage : stage_at b (place_numbered hosts l.asked) ≡ (w.hosts l.asked).now = stage_numbered hosts (differ hosts lawful) w (place_numbered hosts l.asked) x.0 x.1 l.asked x.2 in
         let same : reply_now w l.asked clock (brings l None) ≡ reply_to hosts b clock l =
         ap (λ y. step_reply y.config y.book clock (brings l None)) (sym stage) ∙ ap (λ y. reply_at b (place_numbered hosts (goes_to l y)) clock (brings l y)) (sym e) in
-        ap (λ said. record l { reply = Some said } ∷ w.letters) same
-    arrived_letters (Some said) e is = refl
+        ap (λ said. record l { reply = Some said } ∷ w.messages) same
+    arrived_messages (Some said) e is = refl
 
-  delivered_stages : (clock : ℕ) (o : Option Letter) → ((l : Letter) → o ≡ Some l → Known l) → present hosts (delivered w clock o) ≡ arrived_at hosts b clock o
+  delivered_stages : (clock : ℕ) (o : Option Message) → ((l : Message) → o ≡ Some l → Known l) → present hosts (delivered w clock o) ≡ arrived_at hosts b clock o
   delivered_stages clock None each = refl
   delivered_stages clock (Some l) each = arrived_stages clock l l.reply (goes_known hosts l (each l refl).asker (each l refl).asked l.reply)
 
-  delivered_letters : (clock : ℕ) (o : Option Letter) → ((l : Letter) → o ≡ Some l → Known l) → (delivered w clock o).letters ≡ reverse (replies hosts b clock o) ++ w.letters
-  delivered_letters clock None each = refl
-  delivered_letters clock (Some l) each = arrived_letters clock l l.reply refl (goes_known hosts l (each l refl).asker (each l refl).asked l.reply)
+  delivered_messages : (clock : ℕ) (o : Option Message) → ((l : Message) → o ≡ Some l → Known l) → (delivered w clock o).messages ≡ reverse (replies hosts b clock o) ++ w.messages
+  delivered_messages clock None each = refl
+  delivered_messages clock (Some l) each = arrived_messages clock l l.reply refl (goes_known hosts l (each l refl).asker (each l refl).asked l.reply)
 
   -- ---- a step that stops
   -- what a cause has the host act on, and under which configuration
   cause_input : (place : ℕ) → place < length hosts → (cause : Cause) (i : Input) → HasCause hosts b place cause i → input_by w (number_at hosts place) cause ≡ Some i
   cause_input place within (Cause.ByClient j) i has = ap (λ t. cond t (Some j) None) has.1 ∙ ap Some (sym has.0)
   cause_input place within (Cause.ByInner j) i has = ap (λ t. cond t (Some j) None) has.1 ∙ ap Some (sym has.0)
-  cause_input place within (Cause.ByLetter j) i has =
-      let l : Letter = has.0 in
-      let sent : aged w.letters j ≡ Some l = sym (aged_is w.letters j) ∙ has.1 in
+  cause_input place within (Cause.ByMessage j) i has =
+      let l : Message = has.0 in
+      let sent : aged w.messages j ≡ Some l = sym (aged_is w.messages j) ∙ has.1 in
       let x = stands hosts (goes_to l l.reply) (subst (λ p. p < length hosts) has.2 within) in
       let number : goes_to l l.reply ≡ number_at hosts place = sym (ap (number_at hosts) has.2 ∙ (number_is hosts (receiver hosts l) x.0 x.1 ∙ x.2)) in
       ap (brought_to (number_at hosts place)) sent
@@ -215,7 +215,7 @@ module _ (hosts : List ScriptHost) (lawful : AreLawfulHosts hosts) (s : Show) (r
   cause_config : (place : ℕ) (n : ℕ) (cause : Cause) (i : Input) → HasCause hosts b place cause i → config_by w n cause ≡ (w.hosts n).now.config
   cause_config place n (Cause.ByClient j) i has = refl
   cause_config place n (Cause.ByInner j) i has = refl
-  cause_config place n (Cause.ByLetter j) i has = refl
+  cause_config place n (Cause.ByMessage j) i has = refl
   cause_config place n (Cause.ByOpening c) i has = absurd has
 
   -- the step is kept, or it isn't
@@ -223,10 +223,10 @@ module _ (hosts : List ScriptHost) (lawful : AreLawfulHosts hosts) (s : Show) (r
   cut_is n clock i true = refl
   cut_is n clock i false = refl
 
-  cut_letters : (n clock : ℕ) (c : Config) (o : Option Input) (kept : Bool) → (cut w n clock c o kept).letters ≡ w.letters
-  cut_letters n clock c None kept = refl
-  cut_letters n clock c (Some i) true = refl
-  cut_letters n clock c (Some i) false = refl
+  cut_messages : (n clock : ℕ) (c : Config) (o : Option Input) (kept : Bool) → (cut w n clock c o kept).messages ≡ w.messages
+  cut_messages n clock c None kept = refl
+  cut_messages n clock c (Some i) true = refl
+  cut_messages n clock c (Some i) false = refl
 
   module _ (c : Crash) (is : IsMove hosts b (Move.Crashes c)) (kept : Bool) where
     abbrev m : ℕ
@@ -249,13 +249,13 @@ module _ (hosts : List ScriptHost) (lawful : AreLawfulHosts hosts) (s : Show) (r
         ∙ (pushed_at hosts (differ hosts lawful) w c.place x.0 x.1 m (number c.place is.0) left
         ∙ ap (λ (y : Stage). set b.stages c.place (cut_stage kept y c.clock c.asked)) (sym (stage_here c.place is.0)))
 
-    broken_letters : (happens w (Event.Cut m c.clock c.cause kept)).letters ≡ w.letters
-    broken_letters = cut_letters m c.clock (config_by w m c.cause) (input_by w m c.cause) kept
+    broken_messages : (happens w (Event.Cut m c.clock c.cause kept)).messages ≡ w.messages
+    broken_messages = cut_messages m c.clock (config_by w m c.cause) (input_by w m c.cause) kept
 
     cut_may : (cause : Cause) → HasCause hosts b c.place cause c.asked → MayAsk (config_at b c.place) cause → MayHappen w (Event.Cut m c.clock cause kept)
     cut_may (Cause.ByClient i) has may = (is.1, bounds_here c.place is.0 i may)
     cut_may (Cause.ByInner i) has may = (is.1, bounds_here c.place is.0 i may)
-    cut_may (Cause.ByLetter j) has may = is.1
+    cut_may (Cause.ByMessage j) has may = is.1
     cut_may (Cause.ByOpening d) has may = absurd has
 
   -- and the host is opened again
@@ -289,8 +289,8 @@ module _ (hosts : List ScriptHost) (lawful : AreLawfulHosts hosts) (s : Show) (r
         ∙ (set-set b.stages c.place halted opened
         ∙ ap (set b.stages c.place) opened_is)))
 
-    crashed_letters : (run (events_of hosts s (Move.Crashes c)) w).letters ≡ w.letters
-    crashed_letters = broken_letters c is kept
+    crashed_messages : (run (events_of hosts s (Move.Crashes c)) w).messages ≡ w.messages
+    crashed_messages = broken_messages c is kept
 
     crash_may : MayMove b (Move.Crashes c) → MayRun w (events_of hosts s (Move.Crashes c))
     crash_may may =
@@ -305,24 +305,24 @@ module _ (hosts : List ScriptHost) (lawful : AreLawfulHosts hosts) (s : Show) (r
   stages_moved (Move.Turns place clock) is = ap (present hosts) (turned place is.0 clock) ∙ step_here place is.0 clock input.Turn
   stages_moved (Move.Retools place tools) is = retooled_stages place is.0 tools
   stages_moved (Move.Reopens place clock) is = reopened_stages place is.0 clock
-  stages_moved (Move.Arrives n clock) is = delivered_stages clock (aged w.letters (n - 1)) (known (n - 1)) ∙ ap (arrived_at hosts b clock) (sym (aged_is w.letters (n - 1)))
+  stages_moved (Move.Arrives n clock) is = delivered_stages clock (aged w.messages (n - 1)) (known (n - 1)) ∙ ap (arrived_at hosts b clock) (sym (aged_is w.messages (n - 1)))
   stages_moved (Move.Lost n) is = refl
   stages_moved (Move.Arms place stop) is = refl
   stages_moved (Move.Crashes c) is = crashed_stages c is
   stages_moved (Move.Breaks c kept) is = broken_stages c is kept
 
-  pub letters_moved : (move : Move) → IsMove hosts b move → (run (events_of hosts s move) w).letters ≡ reverse (joining hosts b move) ++ w.letters
-  letters_moved Move.Rests is = refl
-  letters_moved (Move.Asks place clock i) is = asked_letters place is.0 clock i is.2
-  letters_moved (Move.Tries place clock i) is = tried_letters place is.0 clock i is.2
-  letters_moved (Move.Turns place clock) is = ap (λ v. v.letters) (turned place is.0 clock)
-  letters_moved (Move.Retools place tools) is = refl
-  letters_moved (Move.Reopens place clock) is = refl
-  letters_moved (Move.Arrives n clock) is = delivered_letters clock (aged w.letters (n - 1)) (known (n - 1)) ∙ ap (λ o. reverse (replies hosts b clock o) ++ w.letters) (sym (aged_is w.letters (n - 1)))
-  letters_moved (Move.Lost n) is = refl
-  letters_moved (Move.Arms place stop) is = refl
-  letters_moved (Move.Crashes c) is = crashed_letters c is
-  letters_moved (Move.Breaks c kept) is = broken_letters c is kept
+  pub messages_moved : (move : Move) → IsMove hosts b move → (run (events_of hosts s move) w).messages ≡ reverse (joining hosts b move) ++ w.messages
+  messages_moved Move.Rests is = refl
+  messages_moved (Move.Asks place clock i) is = asked_messages place is.0 clock i is.2
+  messages_moved (Move.Tries place clock i) is = tried_messages place is.0 clock i is.2
+  messages_moved (Move.Turns place clock) is = ap (λ v. v.messages) (turned place is.0 clock)
+  messages_moved (Move.Retools place tools) is = refl
+  messages_moved (Move.Reopens place clock) is = refl
+  messages_moved (Move.Arrives n clock) is = delivered_messages clock (aged w.messages (n - 1)) (known (n - 1)) ∙ ap (λ o. reverse (replies hosts b clock o) ++ w.messages) (sym (aged_is w.messages (n - 1)))
+  messages_moved (Move.Lost n) is = refl
+  messages_moved (Move.Arms place stop) is = refl
+  messages_moved (Move.Crashes c) is = crashed_messages c is
+  messages_moved (Move.Breaks c kept) is = broken_messages c is kept
 
   -- its events may happen
   pub may_moved : (move : Move) → IsMove hosts b move → MayMove b move → MayRun w (events_of hosts s move)

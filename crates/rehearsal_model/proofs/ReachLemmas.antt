@@ -16,11 +16,11 @@ use Rattle.host_model.specs.declared.reply.Reply.{Reply}
 use Rattle.host_model.proofs.StepFollows.{step_follows}
 use Rattle.world_law.specs.Events.{brings, goes_to}
 use Rattle.world_law.specs.Laws.{Once, Safe, SaysDiffers}
-use Rattle.world_law.specs.World.{Letter, Stage, aged, input_of}
+use Rattle.world_law.specs.World.{Message, Stage, aged, input_of}
 use Rattle.world_law.proofs.Agreeing.{once_law, safe_law}
-use Rattle.world_law.proofs.Invariant.{Inv, LetterOk}
+use Rattle.world_law.proofs.Invariant.{Inv, MessageOk}
 use Rattle.world_law.proofs.Lawfulness.{lawful_now, right_now}
-use Rattle.world_law.proofs.Letters.{order_in}
+use Rattle.world_law.proofs.Messages.{order_in}
 use Rattle.api_peer.specs.Replied.{IsReplyTo}
 use Rattle.api_peer.specs.Told.{AreTold}
 use Rattle.api_peer.specs.Widths.{HasWidths}
@@ -89,12 +89,12 @@ module _ (hosts : List ScriptHost) (lawful : AreLawfulHosts hosts) (s : Show) (r
       (All-map IsScriptPeer peer_of (others_of hosts x.0.number) (All-filter (λ g. not (g.number == x.0.number)) (λ g. IsScriptPeer (peer_of g)) hosts
       (All-weaker IsLawfulHost (λ g. IsScriptPeer (peer_of g)) (λ g ok. record { key = refl; authority = ok.name }) hosts lawful.hosts)))
 
-  module _ (n : ℕ) (l : Letter) (e : message b n ≡ Some l) where
-    sent_as : aged s.world.letters (n - 1) ≡ Some l
-    sent_as = sym (aged_is s.world.letters (n - 1)) ∙ e
+  module _ (n : ℕ) (l : Message) (e : message b n ≡ Some l) where
+    sent_as : aged s.world.messages (n - 1) ≡ Some l
+    sent_as = sym (aged_is s.world.messages (n - 1)) ∙ e
 
-    letter : LetterOk s.world l
-    letter = inv.letters (n - 1) l sent_as
+    sent_message : MessageOk s.world l
+    sent_message = inv.messages (n - 1) l sent_as
 
     between : IsBetween hosts l
     between = known hosts lawful s reach (n - 1) l sent_as
@@ -106,8 +106,8 @@ module _ (hosts : List ScriptHost) (lawful : AreLawfulHosts hosts) (s : Show) (r
     receiver_within = goes l.reply
 
     brought : (r : Option Reply) → l.reply ≡ r → IsInput (s.world.hosts (goes_to l r)).now.config (brings l r)
-    brought None is = order_in s.world inv l.asker l.order.key l.order.body letter.bound (s.world.hosts l.asked).now.config l.asked (right_now step_follows s.world inv.orderly l.asked)
-    brought (Some said) is = letter.heard said is
+    brought None is = order_in s.world inv l.asker l.order.key l.order.body sent_message.bound (s.world.hosts l.asked).now.config l.asked (right_now step_follows s.world inv.orderly l.asked)
+    brought (Some said) is = sent_message.heard said is
 
     pub brings_input : IsInput (config_at b (receiver hosts l)) (brings l l.reply)
     brings_input =

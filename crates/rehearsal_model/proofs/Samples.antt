@@ -24,7 +24,7 @@ use Rattle.rehearsal_script.specs.declared.script.Script.{Script}
 use Rattle.rehearsal_script.specs.declared.script.ScriptHost.{ScriptHost}
 use Rattle.rehearsal_script.specs.declared.script.ScriptLine.{ScriptLine}
 use Rattle.rehearsal_script.specs.declared.script.ScriptLine.TheVariants as line
-use Rattle.rehearsal_model.specs.Seats.{record_length, snapshot_length}
+use Rattle.rehearsal_model.specs.Simulated.{record_length, snapshot_length}
 use Rattle.rehearsal_model.specs.Telling.{report_of}
 
 abbrev host : List ℕ → ℕ → ScriptHost

@@ -6,7 +6,7 @@ use Rattle.host_model.specs.declared.input.Input.{Input}
 use Rattle.host_model.specs.declared.order.Order.{Order}
 use Rattle.host_model.specs.declared.reply.Reply.{Reply}
 use Rattle.world_law.specs.Events.{Event, Event.Client, Event.Cut, Event.Deliver, Event.Inner, Event.Lose, Event.Reconfigure, Event.Refuse, Event.Reopen, Event.Tell, MayRun, answered, arrived, config_by, cut, delivered, happens, input_by, is_client, is_inner, run, sent, stepped, told, told_from}
-use Rattle.world_law.specs.World.{Letter, Stage, World, aged, number_of, stages}
+use Rattle.world_law.specs.World.{Message, Stage, World, aged, number_of, stages}
 
 -- ---- one list after another
 pub run_more : (es fs : List Event) (w : World) → run (es ++ fs) w ≡ run fs (run es w)
@@ -37,11 +37,11 @@ told_from_named : (w : World) (h clock place : ℕ) (o : Option Stage) → Named
 told_from_named w h clock place None = refl
 told_from_named w h clock place (Some s) = told_named w h s.config (slice_get (orders s.book clock) place)
 
-arrived_named : (w : World) (clock : ℕ) (l : Letter) (o : Option Reply) → Named w (arrived w clock l o)
+arrived_named : (w : World) (clock : ℕ) (l : Message) (o : Option Reply) → Named w (arrived w clock l o)
 arrived_named w clock l None = refl
 arrived_named w clock l (Some said) = refl
 
-delivered_named : (w : World) (clock : ℕ) (o : Option Letter) → Named w (delivered w clock o)
+delivered_named : (w : World) (clock : ℕ) (o : Option Message) → Named w (delivered w clock o)
 delivered_named w clock None = refl
 delivered_named w clock (Some l) = arrived_named w clock l l.reply
 
@@ -53,7 +53,7 @@ cut_named w h clock c (Some i) false = refl
 happens_named : (w : World) (e : Event) → Named w (happens w e)
 happens_named w (Client h clock i) = either_named w (is_client i) (answered w h clock i) w refl refl
 happens_named w (Tell h stage clock place) = told_from_named w h clock place (aged (stages w h) stage)
-happens_named w (Deliver j clock) = delivered_named w clock (aged w.letters j)
+happens_named w (Deliver j clock) = delivered_named w clock (aged w.messages j)
 happens_named w (Inner h clock i) = either_named w (is_inner i) (stepped w h clock i) w refl refl
 happens_named w (Reopen h clock c) = refl
 happens_named w (Reconfigure h c) = refl

@@ -5,7 +5,7 @@ use Rattle.host_model.specs.Book.{empty_book}
 use Rattle.host_model.specs.declared.input.Input.{Input}
 use Rattle.host_model.specs.declared.input.Input.TheVariants as input
 use Rattle.world_law.specs.Events.{brings}
-use Rattle.world_law.specs.World.{Letter, Stage}
+use Rattle.world_law.specs.World.{Message, Stage}
 use Rattle.rehearsal_script.specs.declared.script.ScriptHost.{ScriptHost}
 use Rattle.rehearsal_script.specs.declared.script.Stop.{Stop}
 use Rattle.rehearsal_model.specs.Hosts.{first_config}
@@ -18,13 +18,13 @@ abbrev pub opened_stage : List ScriptHost → ScriptHost → Stage
 opened_stage hosts h = acted (record { config = first_config hosts h; book = empty_book }) 0 input.Open
 
 abbrev pub first_seen : List ScriptHost → Seen
-first_seen hosts = record { stages = map (opened_stage hosts) hosts; letters = []; flying = []; last = 0; stops = [] }
+first_seen hosts = record { stages = map (opened_stage hosts) hosts; messages = []; flying = []; last = 0; stops = [] }
 
 -- the stages after a step of the host at the place
 abbrev pub stepped_at : Seen → ℕ → ℕ → Input → List Stage
 stepped_at b place clock i = set b.stages place (acted (stage_at b place) clock i)
 
-abbrev pub arrived_at : List ScriptHost → Seen → ℕ → Option Letter → List Stage
+abbrev pub arrived_at : List ScriptHost → Seen → ℕ → Option Message → List Stage
 arrived_at hosts b clock None = b.stages
 arrived_at hosts b clock (Some l) = stepped_at b (receiver hosts l) clock (brings l l.reply)
 
@@ -54,7 +54,7 @@ stages_after hosts b (Move.Breaks c kept) = set b.stages c.place (cut_stage kept
 abbrev pub moved_seen : List ScriptHost → Seen → ℕ → Move → Seen
 moved_seen hosts b m move = record {
   stages = stages_after hosts b move;
-  letters = b.letters ++ joining hosts b move;
+  messages = b.messages ++ joining hosts b move;
   flying = flying_after hosts b move;
   last = max b.last m;
   stops = stops_after b move;

@@ -5,7 +5,7 @@ pub mod Plays
 pub mod Reaching
 pub mod Rehearsal
 pub mod Requests
-pub mod Scenes
-pub mod Seats
+pub mod Simulations
+pub mod Simulated
 pub mod Seen
 pub mod Telling

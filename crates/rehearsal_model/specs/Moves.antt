@@ -17,7 +17,7 @@ use Rattle.host_model.specs.declared.order.OrderBody.{OrderBody}
 use Rattle.host_model.specs.declared.order.OrderBody.TheVariants as order
 use Rattle.host_model.specs.declared.reply.Reply.{Reply}
 use Rattle.world_law.specs.Events.{Cause, brings, goes_to}
-use Rattle.world_law.specs.World.{Letter, Stage, number_of}
+use Rattle.world_law.specs.World.{Message, Stage, number_of}
 use Rattle.rehearsal_script.specs.Told.{moment_told}
 use Rattle.rehearsal_script.specs.declared.script.ScriptHost.{ScriptHost}
 use Rattle.rehearsal_script.specs.declared.script.ScriptLine.{ScriptLine}
@@ -100,12 +100,12 @@ same_kind (order.Material s) (order.Material t) = true
 same_kind order.Result order.Result = true
 same_kind _ _ = false
 
--- the letter is this order, or the reply to it
-abbrev pub is_of : Order → Letter → Bool
+-- the message is this order, or the reply to it
+abbrev pub is_of : Order → Message → Bool
 is_of o l = same_key o.key l.order.key && ((o.place == l.order.place) && same_kind o.body l.order.body)
 
 -- a message of this number is of the order
-abbrev pub tells : Order → Option Letter → Bool
+abbrev pub tells : Order → Option Message → Bool
 tells o None = false
 tells o (Some l) = is_of o l
 
@@ -113,46 +113,46 @@ tells o (Some l) = is_of o l
 abbrev pub is_untold : Seen → Order → Bool
 is_untold b o = not (list_any (λ n. tells o (message b n)) b.flying)
 
--- the letter by which a host with this configuration sends the order; none where it knows no such peer
-abbrev pub letter_of : Config → Order → Option Letter
-letter_of c o = option_map (λ asked. record { asker = c.number; asked = asked; order = o; reply = None }) (number_of c.peers o.to)
+-- the message by which a host with this configuration sends the order; none where it knows no such peer
+abbrev pub message_of : Config → Order → Option Message
+message_of c o = option_map (λ asked. record { asker = c.number; asked = asked; order = o; reply = None }) (number_of c.peers o.to)
 
 -- what the host in this stage sends at a clock, where these messages are in flight
-abbrev pub sent_by : Seen → Stage → ℕ → List Letter
-sent_by b s clock = filter_map (letter_of s.config) (filter (is_untold b) (orders s.book clock))
+abbrev pub sent_by : Seen → Stage → ℕ → List Message
+sent_by b s clock = filter_map (message_of s.config) (filter (is_untold b) (orders s.book clock))
 
 -- what the host at the place sends after its turn
-abbrev pub sent_at : Seen → ℕ → ℕ → List Letter
+abbrev pub sent_at : Seen → ℕ → ℕ → List Message
 sent_at b place clock = sent_by b (acted (stage_at b place) clock input.Turn) clock
 
 -- the numbers of so many messages more
-abbrev pub numbers_from : ℕ → List Letter → List ℕ
+abbrev pub numbers_from : ℕ → List Message → List ℕ
 numbers_from n [] = []
 numbers_from n (l ∷ ls) = n ∷ numbers_from (n + 1) ls
 
--- ---- what the host of a number is asked by a letter
+-- ---- what the host of a number is asked by a message
 -- the place of the host that has the number
 abbrev pub place_numbered : List ScriptHost → ℕ → ℕ
 place_numbered hosts number = position_or_len (λ h. h.number == number) hosts
 
-abbrev pub receiver : List ScriptHost → Letter → ℕ
+abbrev pub receiver : List ScriptHost → Message → ℕ
 receiver hosts l = place_numbered hosts (goes_to l l.reply)
 
 -- the reply to an order that arrives
-abbrev pub reply_to : List ScriptHost → Seen → ℕ → Letter → Reply
+abbrev pub reply_to : List ScriptHost → Seen → ℕ → Message → Reply
 reply_to hosts b clock l = reply_at b (receiver hosts l) clock (brings l l.reply)
 
 -- an order is replied to, a reply isn't
-abbrev pub replied : List ScriptHost → Seen → ℕ → Letter → Option Reply → List Letter
+abbrev pub replied : List ScriptHost → Seen → ℕ → Message → Option Reply → List Message
 replied hosts b clock l None = record l { reply = Some (reply_to hosts b clock l) } ∷ []
 replied hosts b clock l (Some said) = []
 
-abbrev pub replies : List ScriptHost → Seen → ℕ → Option Letter → List Letter
+abbrev pub replies : List ScriptHost → Seen → ℕ → Option Message → List Message
 replies hosts b clock None = []
 replies hosts b clock (Some l) = replied hosts b clock l l.reply
 
--- the letters that join by a move
-abbrev pub joining : List ScriptHost → Seen → Move → List Letter
+-- the messages that join by a move
+abbrev pub joining : List ScriptHost → Seen → Move → List Message
 joining hosts b (Turns place clock) = sent_at b place clock
 joining hosts b (Arrives n clock) = replies hosts b clock (message b n)
 joining hosts b _ = []
@@ -177,7 +177,7 @@ still_flying b (Breaks c kept) = landed_with c.landing b.flying
 still_flying b _ = b.flying
 
 abbrev pub flying_after : List ScriptHost → Seen → Move → List ℕ
-flying_after hosts b move = still_flying b move ++ numbers_from (length b.letters + 1) (joining hosts b move)
+flying_after hosts b move = still_flying b move ++ numbers_from (length b.messages + 1) (joining hosts b move)
 
 -- ---- the moment of a line
 -- 0 where it tells none

@@ -6,7 +6,7 @@ use Rattle.host_model.specs.Conditions.{IsInput}
 use Rattle.host_model.specs.declared.config.Config.{Config}
 use Rattle.host_model.specs.declared.config.Peer.{Peer}
 use Rattle.world_law.specs.Events.{Cause, Event, MayRun, run}
-use Rattle.world_law.specs.World.{Letter, Stage, start}
+use Rattle.world_law.specs.World.{Message, Stage, start}
 use Rattle.api_peer.specs.Meant.{KeepsBounds, Knows}
 use Rattle.api_peer.specs.Orderly.{IsOrderly}
 use Rattle.api_peer.specs.Told.{AreTold}
@@ -33,7 +33,7 @@ abbrev pub IsToldStage : Stage → Type 0
 IsToldStage s = AreTold s.book
 
 -- it is of two different hosts of the script, and its order keeps the bounds of one by the host that asks
-pub record IsBetween (hosts : List ScriptHost) (l : Letter) : Type 0 where
+pub record IsBetween (hosts : List ScriptHost) (l : Message) : Type 0 where
   pub asker : IsHost hosts l.asker
   pub asked : IsHost hosts l.asked
   pub apart : l.asker ≢ l.asked
@@ -47,7 +47,7 @@ pub record Reaches (hosts : List ScriptHost) (s : Show) : Type 0 where
   pub configs : (place : ℕ) (h : ScriptHost) → slice_get hosts place ≡ Some h → IsAsFirst hosts h (config_at (seen hosts s) place)
   pub orderly : All IsOrderlyStage (seen hosts s).stages
   pub told : All IsToldStage (seen hosts s).stages
-  pub letters : All (IsBetween hosts) s.world.letters
+  pub messages : All (IsBetween hosts) s.world.messages
   pub flying : All (λ n. IsTrue (is_sent (seen hosts s) n)) s.flying
   pub last : s.last ≤ greatest_moment
 
@@ -56,8 +56,8 @@ pub record IsScriptPeer (p : Peer) : Type 0 where
   pub key : p.key ≡ peer_key
   pub authority : is_name p.authority ≡ true
 
--- a host with this configuration knows the one whose order the letter is, and takes the order for what it means
-pub record IsKnown (d : Config) (l : Letter) : Type 0 where
+-- a host with this configuration knows the one whose order the message is, and takes the order for what it means
+pub record IsKnown (d : Config) (l : Message) : Type 0 where
   pub name : List ℕ
   pub knows : Knows d (record { number = l.asker; key = peer_key }) name
   pub bounds : KeepsBounds name l.order.body

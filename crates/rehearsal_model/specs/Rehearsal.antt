@@ -8,7 +8,7 @@ use Rattle.host_model.specs.declared.input.Input.TheVariants as input
 use Rattle.host_model.specs.declared.order.Order.{Order}
 use Rattle.host_model.specs.declared.reply.Reply.{Reply}
 use Rattle.world_law.specs.Events.{Event, run}
-use Rattle.world_law.specs.World.{Letter, Stage, World, start}
+use Rattle.world_law.specs.World.{Message, Stage, World, start}
 use Rattle.rehearsal_script.specs.declared.script.ScriptHost.{ScriptHost}
 use Rattle.rehearsal_script.specs.declared.script.Stop.{Stop}
 use Rattle.rehearsal_report.specs.Line.{order_kind, sent_text}
@@ -30,7 +30,7 @@ pub record Show : Type 0 where
 
 -- what a script sees of it
 abbrev pub seen : List ScriptHost → Show → Seen
-seen hosts s = record { stages = map (λ h. (s.world.hosts h.number).now) hosts; letters = reverse s.world.letters; flying = s.flying; last = s.last; stops = s.stops }
+seen hosts s = record { stages = map (λ h. (s.world.hosts h.number).now) hosts; messages = reverse s.world.messages; flying = s.flying; last = s.last; stops = s.stops }
 
 -- all hosts of the script are opened at moment 0, before its first line
 abbrev pub openings : List ScriptHost → List Event
@@ -83,14 +83,14 @@ abbrev pub moved : List ScriptHost → Show → ℕ → Move → Show
 moved hosts s m move = record { world = run (events_of hosts s move) s.world; flying = flying_after hosts (seen hosts s) move; last = max s.last m; stops = stops_after (seen hosts s) move }
 
 -- ---- what is told
-abbrev pub letter_told : List ScriptHost → ℕ → Letter → Option Reply → List ℕ
-letter_told hosts n l None = sent_text n (name_numbered hosts l.asker) (name_numbered hosts l.asked) (order_kind l.order.body)
-letter_told hosts n l (Some said) = sent_text n (name_numbered hosts l.asked) (name_numbered hosts l.asker) (codes "reply")
+abbrev pub message_told : List ScriptHost → ℕ → Message → Option Reply → List ℕ
+message_told hosts n l None = sent_text n (name_numbered hosts l.asker) (name_numbered hosts l.asked) (order_kind l.order.body)
+message_told hosts n l (Some said) = sent_text n (name_numbered hosts l.asked) (name_numbered hosts l.asker) (codes "reply")
 
 -- messages, the first of which has the number n
-abbrev pub letters_told : List ScriptHost → ℕ → List Letter → List ℕ
-letters_told hosts n [] = []
-letters_told hosts n (l ∷ ls) = letter_told hosts n l l.reply ++ letters_told hosts (n + 1) ls
+abbrev pub messages_told : List ScriptHost → ℕ → List Message → List ℕ
+messages_told hosts n [] = []
+messages_told hosts n (l ∷ ls) = message_told hosts n l l.reply ++ messages_told hosts (n + 1) ls
 
 -- the runs of the host in this stage, settled at m
 abbrev pub stage_table : ℕ → Stage → List ℕ

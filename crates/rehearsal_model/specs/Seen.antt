@@ -5,7 +5,7 @@ use Rattle.host_model.specs.Step.{step_book, step_reply}
 use Rattle.host_model.specs.declared.config.Config.{Config}
 use Rattle.host_model.specs.declared.input.Input.{Input}
 use Rattle.host_model.specs.declared.reply.Reply.{Reply}
-use Rattle.world_law.specs.World.{Letter, Stage}
+use Rattle.world_law.specs.World.{Message, Stage}
 use Rattle.rehearsal_script.specs.declared.script.Stop.{Stop}
 use Rattle.rehearsal_model.specs.Hosts.{opened_host, stranger}
 
@@ -13,7 +13,7 @@ pub record Seen : Type 0 where
   -- of the script's hosts, in the order of their declaration
   pub stages : List Stage
   -- in the order in which they were sent; messages are numbered from 1
-  pub letters : List Letter
+  pub messages : List Message
   -- the numbers of those in flight, ascending
   pub flying : List ℕ
   -- the greatest moment of the moves so far; 0 at first
@@ -43,11 +43,11 @@ abbrev pub acted : Stage → ℕ → Input → Stage
 acted s clock i = record { config = s.config; book = step_book s.config s.book clock i }
 
 -- the message of a number
-abbrev pub message : Seen → ℕ → Option Letter
-message b n = slice_get b.letters (n - 1)
+abbrev pub message : Seen → ℕ → Option Message
+message b n = slice_get b.messages (n - 1)
 
 abbrev pub is_sent : Seen → ℕ → Bool
-is_sent b n = nat_le 1 n && nat_le n (length b.letters)
+is_sent b n = nat_le 1 n && nat_le n (length b.messages)
 
 abbrev pub landed : ℕ → List ℕ → List ℕ
 landed n flying = filter (λ f. not (f == n)) flying

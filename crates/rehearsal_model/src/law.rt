@@ -9,11 +9,11 @@ ghost use Rattle.rehearsal_script.specs.declared.script.ScriptHost.{ScriptHost};
 ghost use Rattle.rehearsal_script.specs.declared.script.ScriptLine.{ScriptLine};
 ghost use Rattle.world_law.specs.Events.{brings};
 ghost use Rattle.world_law.specs.Laws.{Safe};
-ghost use Rattle.world_law.specs.World.{Letter};
+ghost use Rattle.world_law.specs.World.{Message};
 ghost use Rattle.rehearsal_model.specs.Moves.{Outcomes, receiver, reply_to};
 ghost use Rattle.rehearsal_model.specs.Reaching.{IsKnown, IsScriptPeer, Reaches};
 ghost use Rattle.rehearsal_model.specs.Plays.{IsPlay, MayLine};
-ghost use Rattle.rehearsal_model.specs.Scenes.{Play, Turns, first_play, play_line};
+ghost use Rattle.rehearsal_model.specs.Simulations.{Play, UnsyncedKept, first_play, play_line};
 ghost use Rattle.rehearsal_model.specs.Rehearsal.{Show, seen};
 ghost use Rattle.rehearsal_model.specs.Seen.{config_at, message};
 
@@ -26,20 +26,20 @@ pub fn law_config()
 /// A law: each message that was sent is for a host of the script, and asks what that host may be asked. An order comes to a host that
 /// knows the one whose order it is, and takes it for what it means.
 pub fn law_message()
-    ensures host { (hosts : List ScriptHost) (s : Show) (n : ℕ) (l : Letter) → AreLawfulHosts hosts → Reaches hosts s → message (seen hosts s) n ≡ Some l → receiver hosts l < length hosts }
-    ensures input { (hosts : List ScriptHost) (s : Show) (n : ℕ) (l : Letter) → AreLawfulHosts hosts → Reaches hosts s → message (seen hosts s) n ≡ Some l → IsInput (config_at (seen hosts s) (receiver hosts l)) (brings l l.reply) }
-    ensures known { (hosts : List ScriptHost) (s : Show) (n : ℕ) (l : Letter) → AreLawfulHosts hosts → Reaches hosts s → message (seen hosts s) n ≡ Some l → l.reply ≡ None → IsKnown (config_at (seen hosts s) (receiver hosts l)) l }
+    ensures host { (hosts : List ScriptHost) (s : Show) (n : ℕ) (l : Message) → AreLawfulHosts hosts → Reaches hosts s → message (seen hosts s) n ≡ Some l → receiver hosts l < length hosts }
+    ensures input { (hosts : List ScriptHost) (s : Show) (n : ℕ) (l : Message) → AreLawfulHosts hosts → Reaches hosts s → message (seen hosts s) n ≡ Some l → IsInput (config_at (seen hosts s) (receiver hosts l)) (brings l l.reply) }
+    ensures known { (hosts : List ScriptHost) (s : Show) (n : ℕ) (l : Message) → AreLawfulHosts hosts → Reaches hosts s → message (seen hosts s) n ≡ Some l → l.reply ≡ None → IsKnown (config_at (seen hosts s) (receiver hosts l)) l }
 {}
 
 /// A law: what is replied to an order that comes is a reply to that order, which the host that ordered hears as it is meant.
 pub fn law_replied()
-    ensures { (hosts : List ScriptHost) (s : Show) (n : ℕ) (l : Letter) (clock : ℕ) → AreLawfulHosts hosts → Reaches hosts s → message (seen hosts s) n ≡ Some l → l.reply ≡ None → clock ≤ greatest_moment
+    ensures { (hosts : List ScriptHost) (s : Show) (n : ℕ) (l : Message) (clock : ℕ) → AreLawfulHosts hosts → Reaches hosts s → message (seen hosts s) n ≡ Some l → l.reply ≡ None → clock ≤ greatest_moment
         → HasWidths (reply_to hosts (seen hosts s) clock l) → IsReplyTo l.order.body (reply_to hosts (seen hosts s) clock l) }
 {}
 
 /// A law: a rehearsal goes on with each line, and is safe, whichever way it turns out what faults of disks left.
 pub fn law_played()
     ensures first { (hosts : List ScriptHost) → AreLawfulHosts hosts → IsPlay hosts (first_play hosts) }
-    ensures line { (comes : Outcomes) (hosts : List ScriptHost) (p : Play) (line : ScriptLine) → AreLawfulHosts hosts → IsPlay hosts p → IsLawfulLine (length hosts) line → MayLine comes hosts p.scene line → IsPlay hosts (play_line comes hosts p line) }
-    ensures safe { (hosts : List ScriptHost) (p : Play) (turns : Turns) → AreLawfulHosts hosts → IsPlay hosts p → Safe (p.worlds turns) }
+    ensures line { (comes : Outcomes) (hosts : List ScriptHost) (p : Play) (line : ScriptLine) → AreLawfulHosts hosts → IsPlay hosts p → IsLawfulLine (length hosts) line → MayLine comes hosts p.simulation line → IsPlay hosts (play_line comes hosts p line) }
+    ensures safe { (hosts : List ScriptHost) (p : Play) (turns : UnsyncedKept) → AreLawfulHosts hosts → IsPlay hosts p → Safe (p.worlds turns) }
 {}

@@ -1,5 +1,5 @@
 //! What a rehearsal of a script is: its world, and its report.
 #![tactic(auto)]
 
-pub mod came;
 pub mod law;
+pub mod outcome;

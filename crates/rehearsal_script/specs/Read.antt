@@ -4,7 +4,7 @@ use Rattle.rehearsal_script.specs.declared.script.Script.{Script}
 use Rattle.rehearsal_script.specs.declared.script.ScriptFault.{ScriptFault}
 use Rattle.rehearsal_script.specs.declared.script.ScriptFault.TheVariants.{Refused, Memory}
 
--- the script or the refusal that the grammar gives, or want of memory
+-- the script or the refusal that the grammar gives, or out of memory
 abbrev pub Reads : Result Script ScriptFault → Result Script ScriptFault → Type 0
 Reads (Ok script) given = given ≡ Ok script
 Reads (Err (Refused line reason)) given = given ≡ Err (Refused line reason)

@@ -8,13 +8,13 @@ ghost use Rattle.world_law.specs.Events.{brings, goes_to};
 ghost use Rattle.rehearsal_model.specs.Hosts.{peer_key};
 ghost use Rattle.rehearsal_model.specs.Reaching.{IsKnown};
 
+use api_peer::order::receive_order;
+use api_peer::reply::{receive_reply, send_reply};
 use host_model::config::Config;
 use host_model::input::Input;
 use host_model::order::Order;
 use host_model::reply::Reply;
 use host_queries::orders::copy_order;
-use api_peer::order::receive_order;
-use api_peer::reply::{receive_reply, send_reply};
 use ps_http::reader::FieldSpans;
 use ps_time::items::Items;
 use ps_time::memory::Memory;
@@ -35,10 +35,10 @@ pub struct Message {
 }
 
 impl Model for Message {
-    ghost use Rattle.world_law.specs.World.{Letter};
+    ghost use Rattle.world_law.specs.World.{Message as Sent};
     ghost use Rattle.rehearsal_state.specs.Carried.{IsCarried};
 
-    ghost Value = { Letter };
+    ghost Value = { Sent };
 
     ghost view = { λ m. record { asker = m.asker; asked = m.asked; order = m.order; reply = m.reply } };
 

@@ -5,20 +5,19 @@ ghost use Rattle.std.specs.Prelude.{◌∷◌, ◌+◌, ◌-◌, ◌^◌, ◌==�
 ghost use Rattle.ps_time.specs.declared.moment.TheConstants.{MAX_MOMENT};
 ghost use Rattle.host_model.specs.Conditions.{IsConfig, IsInput};
 ghost use Rattle.world_law.specs.Events.{brings};
-ghost use Rattle.world_law.specs.World.{Letter};
+ghost use Rattle.world_law.specs.World.{Message as Sent};
 ghost use Rattle.rehearsal_script.specs.declared.script.ScriptHost.{ScriptHost};
 ghost use Rattle.rehearsal_model.specs.Moves.{Move.Arms, Move.Retools};
 ghost use Rattle.rehearsal_model.specs.Reaching.{IsKnown};
 ghost use Rattle.rehearsal_model.specs.Rehearsal.{retooled};
-ghost use Rattle.rehearsal_model.specs.declared.came.Came.TheVariants.{Crashed, Faulted};
-ghost use Rattle.rehearsal_model.specs.Scenes.{Deed.Does, Deed.Fails, Deed.Hears, Deed.Reopens, as_read, at_last, came_at, came_by, config_of, count_sent, flies, has_come, is_broken, letter_number, scene_deed, seat_at, seat_in};
-ghost use Rattle.rehearsal_model.specs.Seats.{answered, ended_at, fault_in, stop_met};
+ghost use Rattle.rehearsal_model.specs.declared.outcome.StepOutcome.TheVariants.{Crashed, Faulted};
+ghost use Rattle.rehearsal_model.specs.Simulations.{Action.Does, Action.Fails, Action.Hears, Action.Reopens, as_read, at_last, outcome_at, outcome_by, config_of, count_sent, flies, has_come, is_broken, message_position, simulation_after, held_at, held_in};
+ghost use Rattle.rehearsal_model.specs.Simulated.{answered, ended_at, fault_in, stop_met};
 ghost use Rattle.rehearsal_model.specs.Seen.{disarmed, landed, message, stop_at, stop_in};
-ghost use Rattle.rehearsal_state.specs.Moved.{with_act, with_broken, with_letters, with_step};
+ghost use Rattle.rehearsal_state.specs.Moved.{with_act, with_broken, with_messages, with_step};
 ghost use Rattle.rehearsal_state.specs.Ready.{IsReady};
 
 use crate::message::Message;
-use simulated_host::seat::Seat;
 use host_model::input::Input;
 use host_model::reply::Reply;
 use ps_http::reader::FieldSpans;
@@ -26,15 +25,16 @@ use ps_time::items::Items;
 use ps_time::memory::Memory;
 use ps_time::moment::Moment;
 use ps_time::text::Text;
+use rehearsal_model::outcome::StepOutcome;
 use rehearsal_script::script::Stop;
-use rehearsal_model::came::Came;
+use simulated_host::simulated::SimulatedHost;
 use std::alloc::Global;
 use std::marker::Model;
 
 /// The hosts of a script as they stand, in the order of their declaration, and all messages that they sent, in that
 /// order.
 pub struct Rehearsal {
-    seats: Vec<Seat>,
+    held_hosts: Vec<SimulatedHost>,
     messages: Vec<Message>,
     // the places among the messages of those in flight, from 1 on, ascending
     flying: Vec<u64>,
@@ -50,18 +50,18 @@ pub struct Rehearsal {
 }
 
 impl Model for Rehearsal {
-    ghost use Rattle.rehearsal_model.specs.Scenes.{Scene};
+    ghost use Rattle.rehearsal_model.specs.Simulations.{Simulation};
 
-    ghost Value = { Scene };
+    ghost Value = { Simulation };
 
-    ghost view = { λ r. record { seats = r.seats.items; letters = r.messages.items; flying = r.flying.items; last = r.last; stops = r.stops.items; broken = r.broken.items; unheard = r.unheard.items } };
+    ghost view = { λ r. record { held_hosts = r.held_hosts.items; messages = r.messages.items; flying = r.flying.items; last = r.last; stops = r.stops.items; broken = r.broken.items; unheard = r.unheard.items } };
 }
 
 // Written out, so that a drop elsewhere is one call.
 impl Drop for Rehearsal {
     fn drop(self) {
         let Rehearsal {
-            seats: _,
+            held_hosts: _,
             messages: _,
             flying: _,
             last: _,
@@ -75,12 +75,12 @@ impl Drop for Rehearsal {
 
 impl Rehearsal {
     /// These hosts, before the first move.
-    pub fn new(alloc: Global, seats: Vec<Seat>) -> Result<Rehearsal, Memory>
-        ensures { IfOk result (λ now. now ≡ record { seats = seats.items; letters = []; flying = []; last = 0; stops = []; broken = []; unheard = [] }) }
+    pub fn new(alloc: Global, held_hosts: Vec<SimulatedHost>) -> Result<Rehearsal, Memory>
+        ensures { IfOk result (λ now. now ≡ record { held_hosts = held_hosts.items; messages = []; flying = []; last = 0; stops = []; broken = []; unheard = [] }) }
     {
         let fields = FieldSpans::new(alloc)?;
         Ok(Rehearsal {
-            seats,
+            held_hosts,
             messages: Vec::new(alloc),
             flying: Vec::new(alloc),
             last: 0,
@@ -92,18 +92,18 @@ impl Rehearsal {
     }
 
     /// The hosts, in the order of their declaration.
-    pub fn seats(&self) -> &[Seat]
-        ensures { result.now ≡ self.now.seats }
+    pub fn held_hosts(&self) -> &[SimulatedHost]
+        ensures { result.now ≡ self.now.held_hosts }
     {
-        self.seats.as_slice()
+        self.held_hosts.as_slice()
     }
 
     /// The same, given away.
-    pub fn into_seats(self) -> Vec<Seat>
-        ensures { result.items ≡ self.seats }
+    pub fn into_held_hosts(self) -> Vec<SimulatedHost>
+        ensures { result.items ≡ self.held_hosts }
     {
         let Rehearsal {
-            seats,
+            held_hosts,
             messages: _,
             flying: _,
             last: _,
@@ -112,12 +112,12 @@ impl Rehearsal {
             unheard: _,
             fields: _,
         } = self;
-        seats
+        held_hosts
     }
 
     /// The messages of hosts, in the order in which they were sent.
     pub fn messages(&self) -> &[Message]
-        ensures { result.now ≡ self.now.letters }
+        ensures { result.now ≡ self.now.messages }
     {
         self.messages.as_slice()
     }
@@ -144,11 +144,11 @@ impl Rehearsal {
     }
 
     /// The host at a place.
-    pub fn seat(&self, place: usize) -> &Seat
-        requires { place < length self.now.seats }
-        ensures { result.now ≡ seat_at self.now place }
+    pub fn held_host(&self, place: usize) -> &SimulatedHost
+        requires { place < length self.now.held_hosts }
+        ensures { result.now ≡ held_at self.now place }
     {
-        &self.seats[place]
+        &self.held_hosts[place]
     }
 
     // A step that isn't to stop. It answers nothing where a call of a disk failed.
@@ -161,11 +161,11 @@ impl Rehearsal {
     ) -> Result<Option<Reply>, Memory>
         requires ready { IsReady self.old place clock }
         requires input { IsInput (config_of self.old place) input }
-        ensures reply { IfOk result (λ reply. reply ≡ answered (seat_at self.old place) clock input) }
-        ensures scene { OnOk result (self.new ≡ with_act self.old place clock input) }
+        ensures reply { IfOk result (λ reply. reply ≡ answered (held_at self.old place) clock input) }
+        ensures simulation { OnOk result (self.new ≡ with_act self.old place clock input) }
     {
-        let seat = &mut self.seats[place];
-        seat.act(alloc, clock, input)
+        let held_host = &mut self.held_hosts[place];
+        held_host.act(alloc, clock, input)
     }
 
     // The same, of a host that isn't to stop.
@@ -175,12 +175,12 @@ impl Rehearsal {
         place: usize,
         clock: Moment,
         input: Input,
-    ) -> Result<Came, Memory>
+    ) -> Result<StepOutcome, Memory>
         requires ready { IsReady self.old place clock }
         requires input { IsInput (config_of self.old place) input }
         requires stop { stop_at (as_read self.old) place ≡ None }
-        ensures came { IfOk result (λ came. came ≡ came_at self.old place clock input) }
-        ensures scene { OnOk result (self.new ≡ with_step self.old place clock input) }
+        ensures outcome { IfOk result (λ outcome. outcome ≡ outcome_at self.old place clock input) }
+        ensures simulation { OnOk result (self.new ≡ with_step self.old place clock input) }
     {
         let reply = self.act(alloc, place, clock, input)?;
         Ok(answer_of(reply))
@@ -195,14 +195,14 @@ impl Rehearsal {
         clock: Moment,
         input: Input,
         stop: Stop,
-    ) -> Result<Came, Memory>
+    ) -> Result<StepOutcome, Memory>
         requires ready { IsReady self.old place clock }
         requires input { IsInput (config_of self.old place) input }
         requires stop { stop_at (as_read self.old) place ≡ Some stop }
-        ensures came { IfOk result (λ came. came ≡ came_at self.old place clock input) }
-        ensures scene { OnOk result (self.new ≡ with_step self.old place clock input) }
+        ensures outcome { IfOk result (λ outcome. outcome ≡ outcome_at self.old place clock input) }
+        ensures simulation { OnOk result (self.new ≡ with_step self.old place clock input) }
     {
-        let stopped = crash_at(alloc, &mut self.seats, place, clock, input, stop)?;
+        let stopped = crash_at(alloc, &mut self.held_hosts, place, clock, input, stop)?;
         disarm(&mut self.stops, place);
         Ok(end_of(stopped))
     }
@@ -215,11 +215,11 @@ impl Rehearsal {
         place: usize,
         clock: Moment,
         input: Input,
-    ) -> Result<Came, Memory>
+    ) -> Result<StepOutcome, Memory>
         requires ready { IsReady self.old place clock }
         requires input { IsInput (config_of self.old place) input }
-        ensures came { IfOk result (λ came. came ≡ came_at self.old place clock input) }
-        ensures scene { OnOk result (self.new ≡ with_step self.old place clock input) }
+        ensures outcome { IfOk result (λ outcome. outcome ≡ outcome_at self.old place clock input) }
+        ensures simulation { OnOk result (self.new ≡ with_step self.old place clock input) }
     {
         match self.stop(place) {
             Some(stop) => self.crash(alloc, place, clock, input, stop),
@@ -228,10 +228,10 @@ impl Rehearsal {
     }
 
     /// Opens the host at a place again, at a clock in seconds since 1970 UTC, as after a crash between its steps. It has its book,
-    /// and ends what it was running. Where a call of a disk fails, that is told as want of memory.
+    /// and ends what it was running. Where a call of a disk fails, that is told as out of memory.
     pub fn reopen(&mut self, alloc: Global, place: usize, clock: Moment) -> Result<(), Memory>
         requires { IsReady self.old place clock }
-        ensures { (hosts : List ScriptHost) → OnOk result (self.new ≡ scene_deed hosts self.old (Reopens place clock)) }
+        ensures { (hosts : List ScriptHost) → OnOk result (self.new ≡ simulation_after hosts self.old (Reopens place clock)) }
     {
         match self.act(alloc, place, clock, Input::Open)? {
             Some(reply) => {
@@ -244,22 +244,22 @@ impl Rehearsal {
 
     /// Gives the host at a place other tools.
     pub fn retool(&mut self, alloc: Global, place: usize, tools: Items<Text>) -> Result<(), Memory>
-        requires place { place < length self.old.seats }
+        requires place { place < length self.old.held_hosts }
         requires config { IsConfig (retooled tools (config_of self.old place)) }
-        ensures { (hosts : List ScriptHost) → OnOk result (self.new ≡ scene_deed hosts self.old (Does (Retools place tools))) }
+        ensures { (hosts : List ScriptHost) → OnOk result (self.new ≡ simulation_after hosts self.old (Does (Retools place tools))) }
     {
-        let seat = &mut self.seats[place];
-        seat.retool(alloc, tools)
+        let held_host = &mut self.held_hosts[place];
+        held_host.retool(alloc, tools)
     }
 
     /// Of each disk of the host at a place the call of this number is to fail, counted from 1 from now on, or none for 0. The first
     /// fault disarms both, and the host of a stop.
     pub fn fail_at(&mut self, place: usize, call: u64)
-        requires { place < length self.old.seats }
-        ensures { (hosts : List ScriptHost) → self.new ≡ scene_deed hosts self.old (Fails place call) }
+        requires { place < length self.old.held_hosts }
+        ensures { (hosts : List ScriptHost) → self.new ≡ simulation_after hosts self.old (Fails place call) }
     {
-        let seat = &mut self.seats[place];
-        seat.fail_at(call);
+        let held_host = &mut self.held_hosts[place];
+        held_host.fail_at(call);
     }
 
     // Where the next step of the host at a place is to stop, if it is to.
@@ -271,7 +271,7 @@ impl Rehearsal {
 
     /// The next step of the host at a place is to stop.
     pub fn arm(&mut self, place: usize, stop: Stop) -> Result<(), Memory>
-        ensures { (hosts : List ScriptHost) → OnOk result (self.new ≡ scene_deed hosts self.old (Does (Arms place stop))) }
+        ensures { (hosts : List ScriptHost) → OnOk result (self.new ≡ simulation_after hosts self.old (Does (Arms place stop))) }
     {
         disarm(&mut self.stops, place);
         self.stops.push((place, stop))?;
@@ -308,8 +308,8 @@ impl Rehearsal {
     }
 
     /// The place of the message of a number among those of the hosts, from 1 on.
-    pub fn letter_number(&self, number: u64) -> u64
-        ensures { result ≡ letter_number self.now number }
+    pub fn message_position(&self, number: u64) -> u64
+        ensures { result ≡ message_position self.now number }
     {
         number.saturating_sub(count_below(self.broken.as_slice(), number))
     }
@@ -321,7 +321,7 @@ impl Rehearsal {
         if self.is_broken(number) {
             return is_among(self.unheard.as_slice(), number);
         }
-        is_among(self.flying.as_slice(), self.letter_number(number))
+        is_among(self.flying.as_slice(), self.message_position(number))
     }
 
     /// Whether the message of this number was sent, and is no longer in flight.
@@ -333,57 +333,57 @@ impl Rehearsal {
     }
 
     /// The message at a place among those of the hosts, from 1 on, if there is one.
-    pub fn message(&self, letter: u64) -> Option<&Message>
-        ensures { option_copied result ≡ message (as_read self.now) letter }
+    pub fn message(&self, position: u64) -> Option<&Message>
+        ensures { option_copied result ≡ message (as_read self.now) position }
     {
-        self.messages.get(letter.saturating_sub(1) as usize)
+        self.messages.get(position.saturating_sub(1) as usize)
     }
 
     /// The same, where there is one.
-    pub fn letter(&self, letter: u64) -> &Message
-        requires { letter - 1 < length self.now.letters }
-        ensures { message (as_read self.now) letter ≡ Some result.now }
+    pub fn message_at(&self, position: u64) -> &Message
+        requires { position - 1 < length self.now.messages }
+        ensures { message (as_read self.now) position ≡ Some result.now }
     {
-        &self.messages[letter.saturating_sub(1) as usize]
+        &self.messages[position.saturating_sub(1) as usize]
     }
 
     /// What this message asks the host at a place, to which it goes, at a clock in seconds since 1970 UTC.
     pub fn brings(
         &mut self,
         alloc: Global,
-        letter: u64,
+        position: u64,
         place: usize,
         clock: Moment,
     ) -> Result<Input, Memory>
-        requires sent { letter - 1 < length self.old.letters }
-        requires place { place < length self.old.seats }
+        requires sent { position - 1 < length self.old.messages }
+        requires place { place < length self.old.held_hosts }
         requires clock { clock ≤ MAX_MOMENT }
-        requires known { (l : Letter) → message (as_read self.old) letter ≡ Some l → l.reply ≡ None → IsKnown (config_of self.old place) l }
-        ensures input { (l : Letter) → message (as_read self.old) letter ≡ Some l → IfOk result (λ input. input ≡ brings l l.reply) }
-        ensures scene { self.new ≡ self.old }
+        requires known { (l : Sent) → message (as_read self.old) position ≡ Some l → l.reply ≡ None → IsKnown (config_of self.old place) l }
+        ensures input { (l : Sent) → message (as_read self.old) position ≡ Some l → IfOk result (λ input. input ≡ brings l l.reply) }
+        ensures simulation { self.new ≡ self.old }
     {
-        let message = &self.messages[letter.saturating_sub(1) as usize];
-        let config = self.seats[place].config();
+        let message = &self.messages[position.saturating_sub(1) as usize];
+        let config = self.held_hosts[place].config();
         message.brings(alloc, &mut self.fields, config, clock)
     }
 
     /// The message at a place among those of the hosts, from 1 on, is no longer in flight.
-    pub fn land(&mut self, letter: u64)
-        ensures { self.new ≡ record self.old { flying = landed letter self.old.flying } }
+    pub fn land(&mut self, position: u64)
+        ensures { self.new ≡ record self.old { flying = landed position self.old.flying } }
     {
-        take_out(&mut self.flying, letter);
+        take_out(&mut self.flying, position);
     }
 
     /// An answer that a fault took the place of, of this number, is no longer in flight.
     pub fn hear(&mut self, number: u64)
-        ensures { (hosts : List ScriptHost) → self.new ≡ scene_deed hosts self.old (Hears number) }
+        ensures { (hosts : List ScriptHost) → self.new ≡ simulation_after hosts self.old (Hears number) }
     {
         take_out(&mut self.unheard, number);
     }
 
     /// Sends a message.
     pub fn send(&mut self, message: Message) -> Result<(), Memory>
-        ensures { OnOk result (self.new ≡ with_letters self.old (message ∷ [])) }
+        ensures { OnOk result (self.new ≡ with_messages self.old (message ∷ [])) }
     {
         self.messages.push(message)?;
         self.flying.push(self.messages.len() as u64)?;
@@ -392,7 +392,7 @@ impl Rehearsal {
 
     /// Sends messages, the first one first.
     pub fn send_all(&mut self, messages: Vec<Message>) -> Result<(), Memory>
-        ensures { OnOk result (self.new ≡ with_letters self.old messages.items) }
+        ensures { OnOk result (self.new ≡ with_messages self.old messages.items) }
     {
         for message in messages {
             self.send(message)?;
@@ -414,43 +414,43 @@ impl Rehearsal {
 // A step of the host at the place that is to stop, and whether it stopped.
 fn crash_at(
     alloc: Global,
-    seats: &mut Vec<Seat>,
+    held_hosts: &mut Vec<SimulatedHost>,
     place: usize,
     clock: Moment,
     input: Input,
     stop: Stop,
 ) -> Result<bool, Memory>
-    requires place { place < length seats.old.items }
-    requires config { IsConfig (seat_in seats.old.items place).state.config }
+    requires place { place < length held_hosts.old.items }
+    requires config { IsConfig (held_in held_hosts.old.items place).state.config }
     requires clock { clock ≤ MAX_MOMENT }
-    requires input { IsInput (seat_in seats.old.items place).state.config input }
-    ensures stopped { IfOk result (λ stopped. stopped ≡ is_some (stop_met (Some stop) (fault_in (seat_in seats.old.items place) clock input))) }
-    ensures seats { OnOk result (seats.new.items ≡ set seats.old.items place (ended_at (seat_in seats.old.items place) clock input stop)) }
+    requires input { IsInput (held_in held_hosts.old.items place).state.config input }
+    ensures stopped { IfOk result (λ stopped. stopped ≡ is_some (stop_met (Some stop) (fault_in (held_in held_hosts.old.items place) clock input))) }
+    ensures held_hosts { OnOk result (held_hosts.new.items ≡ set held_hosts.old.items place (ended_at (held_in held_hosts.old.items place) clock input stop)) }
 {
-    let seat = seats.remove(place);
-    let ended = seat.crash(alloc, clock, input, stop)?;
-    seats.insert(place, ended.0)?;
+    let held_host = held_hosts.remove(place);
+    let ended = held_host.crash(alloc, clock, input, stop)?;
+    held_hosts.insert(place, ended.0)?;
     Ok(ended.1)
 }
 
 // What came of a step of a host that isn't to stop, by what it answered.
-fn answer_of(reply: Option<Reply>) -> Came
-    ensures { result ≡ came_by None reply }
+fn answer_of(reply: Option<Reply>) -> StepOutcome
+    ensures { result ≡ outcome_by None reply }
 {
     match reply {
-        Some(reply) => Came::Answered(reply),
-        None => Came::Faulted,
+        Some(reply) => StepOutcome::Answered(reply),
+        None => StepOutcome::Faulted,
     }
 }
 
 // Of one that is: it stopped, or met a fault before.
-fn end_of(stopped: bool) -> Came
+fn end_of(stopped: bool) -> StepOutcome
     ensures { result ≡ (if stopped then Crashed else Faulted) }
 {
     if stopped {
-        Came::Crashed
+        StepOutcome::Crashed
     } else {
-        Came::Faulted
+        StepOutcome::Faulted
     }
 }
 

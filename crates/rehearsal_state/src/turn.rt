@@ -6,26 +6,26 @@ ghost use Rattle.host_model.specs.declared.input.Input.TheVariants.{Turn as AsTu
 ghost use Rattle.host_model.specs.Orders.{orders as all_orders};
 ghost use Rattle.api_peer.specs.Ordered.{IsOrder};
 ghost use Rattle.rehearsal_script.specs.declared.script.ScriptHost.{ScriptHost};
-ghost use Rattle.rehearsal_model.specs.Moves.{Move.Turns, is_of, is_untold, letter_of, same_key, same_kind, sent_by, tells};
+ghost use Rattle.rehearsal_model.specs.Moves.{Move.Turns, is_of, is_untold, message_of, same_key, same_kind, sent_by, tells};
 ghost use Rattle.rehearsal_model.specs.Reaching.{IsScriptPeer};
-ghost use Rattle.rehearsal_model.specs.Scenes.{Deed.Does, as_read, came_at, config_of, scene_deed, seat_at};
-ghost use Rattle.rehearsal_state.specs.Moved.{sent_of, with_letters};
+ghost use Rattle.rehearsal_model.specs.Simulations.{Action.Does, as_read, outcome_at, config_of, simulation_after, held_at};
+ghost use Rattle.rehearsal_state.specs.Moved.{sent_of, with_messages};
 ghost use Rattle.rehearsal_state.specs.Ready.{IsReady};
 
 use crate::message::Message;
 use crate::rehearsal::Rehearsal;
 use api_peer::bounds_law::law_orders;
-use simulated_host::seat::Seat;
+use api_peer::order::send_order;
 use host_model::config::Config;
 use host_model::input::Input;
 use host_model::order::{Order, OrderBody};
 use host_queries::orders::orders;
-use api_peer::order::send_order;
 use ps_time::items::Items;
 use ps_time::key::RunKey;
 use ps_time::memory::Memory;
 use ps_time::moment::Moment;
-use rehearsal_model::came::Came;
+use rehearsal_model::outcome::StepOutcome;
+use simulated_host::simulated::SimulatedHost;
 use std::alloc::Global;
 
 fn same_key(a: RunKey, b: RunKey) -> bool
@@ -78,10 +78,10 @@ fn is_untold(now: &Rehearsal, order: &Order) -> bool
 }
 
 /// The order as a message of the host with this configuration; none where it has no such peer.
-fn letter_of(alloc: Global, config: &Config, order: Order) -> Result<Option<Message>, Memory>
+fn message_of(alloc: Global, config: &Config, order: Order) -> Result<Option<Message>, Memory>
     requires order { IsOrder order.body }
     requires peers { All IsScriptPeer config.now.peers }
-    ensures { IfOk result (λ made. made ≡ letter_of config.now order) }
+    ensures { IfOk result (λ made. made ≡ message_of config.now order) }
 {
     let asker = config.number;
     match send_order(alloc, config, &order) {
@@ -102,31 +102,31 @@ fn letter_of(alloc: Global, config: &Config, order: Order) -> Result<Option<Mess
 }
 
 // One more order, where it is to be said.
-fn add_letter(
+fn add_message(
     alloc: Global,
-    letters: &mut Vec<Message>,
+    messages: &mut Vec<Message>,
     now: &Rehearsal,
     config: &Config,
     order: Order,
 ) -> Result<(), Memory>
     requires order { IsOrder order.body }
     requires peers { All IsScriptPeer config.now.peers }
-    ensures { OnOk result (letters.new.items ≡ letters.old.items ++ sent_of (as_read now.now) config.now (order ∷ [])) }
+    ensures { OnOk result (messages.new.items ≡ messages.old.items ++ sent_of (as_read now.now) config.now (order ∷ [])) }
 {
     if !is_untold(now, &order) {
         drop(order);
         return Ok(());
     }
-    match letter_of(alloc, config, order)? {
-        Some(letter) => {
-            letters.push(letter)?;
+    match message_of(alloc, config, order)? {
+        Some(position) => {
+            messages.push(position)?;
             Ok(())
         }
         None => Ok(()),
     }
 }
 
-fn letters_of(
+fn messages_of(
     alloc: Global,
     now: &Rehearsal,
     config: &Config,
@@ -134,44 +134,48 @@ fn letters_of(
 ) -> Result<Vec<Message>, Memory>
     requires orders { All (λ order. IsOrder order.body) orders }
     requires peers { All IsScriptPeer config.now.peers }
-    ensures { IfOk result (λ letters. letters.items ≡ sent_of (as_read now.now) config.now orders) }
+    ensures { IfOk result (λ messages. messages.items ≡ sent_of (as_read now.now) config.now orders) }
 {
-    let mut letters = Vec::new(alloc);
+    let mut messages = Vec::new(alloc);
     for order in orders.into_vec() {
-        add_letter(alloc, &mut letters, now, config, order)?;
+        add_message(alloc, &mut messages, now, config, order)?;
     }
-    Ok(letters)
+    Ok(messages)
 }
 
-// The orders of a seat, each of which can be sent.
-fn orders_at(alloc: Global, seat: &Seat, clock: Moment) -> Result<Items<Order>, Memory>
-    requires ready { seat.now.ready ≡ true }
+// The orders of a host, each of which can be sent.
+fn orders_at(
+    alloc: Global,
+    held_host: &SimulatedHost,
+    clock: Moment,
+) -> Result<Items<Order>, Memory>
+    requires ready { held_host.now.ready ≡ true }
     requires clock { clock ≤ MAX_MOMENT }
-    ensures orders { IfOk result (λ list. list ≡ all_orders seat.now.state.book clock) }
+    ensures orders { IfOk result (λ list. list ≡ all_orders held_host.now.state.book clock) }
     ensures sent { IfOk result (All (λ order. IsOrder order.body)) }
 {
     law_orders();
-    let book = seat.book();
-    let _ = book.rows();
-    orders(alloc, seat.config(), book, clock)
+    let book = held_host.book();
+    let _known = book.rows();
+    orders(alloc, held_host.config(), book, clock)
 }
 
 /// What the host at a place sends at a clock.
-fn letters_at(
+fn messages_at(
     alloc: Global,
     now: &Rehearsal,
     place: usize,
     clock: Moment,
 ) -> Result<Vec<Message>, Memory>
-    requires place { place < length now.now.seats }
-    requires ready { (seat_at now.now place).ready ≡ true }
+    requires place { place < length now.now.held_hosts }
+    requires ready { (held_at now.now place).ready ≡ true }
     requires clock { clock ≤ MAX_MOMENT }
     requires peers { All IsScriptPeer (config_of now.now place).peers }
-    ensures { IfOk result (λ letters. letters.items ≡ sent_by (as_read now.now) (seat_at now.now place).state clock) }
+    ensures { IfOk result (λ messages. messages.items ≡ sent_by (as_read now.now) (held_at now.now place).state clock) }
 {
-    let seat = now.seat(place);
-    let orders = orders_at(alloc, seat, clock)?;
-    letters_of(alloc, now, seat.config(), orders)
+    let held_host = now.held_host(place);
+    let orders = orders_at(alloc, held_host, clock)?;
+    messages_of(alloc, now, held_host.config(), orders)
 }
 
 fn send_orders(
@@ -180,32 +184,37 @@ fn send_orders(
     place: usize,
     clock: Moment,
 ) -> Result<(), Memory>
-    requires place { place < length now.old.seats }
-    requires ready { (seat_at now.old place).ready ≡ true }
+    requires place { place < length now.old.held_hosts }
+    requires ready { (held_at now.old place).ready ≡ true }
     requires clock { clock ≤ MAX_MOMENT }
     requires peers { All IsScriptPeer (config_of now.old place).peers }
-    ensures { OnOk result (now.new ≡ with_letters now.old (sent_by (as_read now.old) (seat_at now.old place).state clock)) }
+    ensures { OnOk result (now.new ≡ with_messages now.old (sent_by (as_read now.old) (held_at now.old place).state clock)) }
 {
-    let letters = letters_at(alloc, now, place, clock)?;
-    now.send_all(letters)
+    let messages = messages_at(alloc, now, place, clock)?;
+    now.send_all(messages)
 }
 
 /// A turn of the host at a place, at a clock in seconds since 1970 UTC, and what it sends then.
-pub fn turn(alloc: Global, now: &mut Rehearsal, place: usize, clock: Moment) -> Result<Came, Memory>
+pub fn turn(
+    alloc: Global,
+    now: &mut Rehearsal,
+    place: usize,
+    clock: Moment,
+) -> Result<StepOutcome, Memory>
     requires ready { IsReady now.old place clock }
     requires peers { All IsScriptPeer (config_of now.old place).peers }
-    ensures came { IfOk result (λ came. came ≡ came_at now.old place clock AsTurn) }
-    ensures scene { (hosts : List ScriptHost) → OnOk result (now.new ≡ scene_deed hosts now.old (Does (Turns place clock))) }
+    ensures outcome { IfOk result (λ outcome. outcome ≡ outcome_at now.old place clock AsTurn) }
+    ensures simulation { (hosts : List ScriptHost) → OnOk result (now.new ≡ simulation_after hosts now.old (Does (Turns place clock))) }
 {
     match now.step(alloc, place, clock, Input::Turn)? {
-        Came::Answered(reply) => match send_orders(alloc, now, place, clock) {
-            Ok(()) => Ok(Came::Answered(reply)),
+        StepOutcome::Answered(reply) => match send_orders(alloc, now, place, clock) {
+            Ok(()) => Ok(StepOutcome::Answered(reply)),
             Err(fault) => {
                 drop(reply);
                 Err(fault)
             }
         },
-        Came::Crashed => Ok(Came::Crashed),
-        Came::Faulted => Ok(Came::Faulted),
+        StepOutcome::Crashed => Ok(StepOutcome::Crashed),
+        StepOutcome::Faulted => Ok(StepOutcome::Faulted),
     }
 }

@@ -21,7 +21,7 @@ use std::alloc::Global;
 fn fits_limits(number: u16, book: &HostBook, limits: &Limits) -> bool
     ensures { IsTrue result ↔ Fits number book.now.book (LimitsSetChange limits.now) }
 {
-    let _ = book.moment();
+    let _known = book.moment();
     law_one_kept(limits);
     true
 }
@@ -95,7 +95,7 @@ pub fn may_follow_next(
     requires read { IsReadChange change.now }
     ensures { IfOk result (λ may. IsTrue may ↔ Follows number book.now.book change.now) }
 {
-    let _ = book.rows();
+    let _known = book.rows();
     let fits = fits(alloc, number, book, change)?;
     Ok(fits)
 }

@@ -37,7 +37,7 @@ fn book_each(timeline: &mut Timeline, rows: &[RunRow]) -> bool
             return false;
         }
     }
-    let _ = timeline.bookings();
+    let _known = timeline.bookings();
     true
 }
 

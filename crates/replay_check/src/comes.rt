@@ -16,11 +16,11 @@ ghost use Rattle.replay_check.specs.Suits.{Fits};
 ghost use Rattle.replay_check.specs.Way.{IsFreeWay};
 
 use crate::runs::{can_accept, can_ask};
+use crate::tasks::MOST_TASKS;
 use crate::way::is_way_free;
 use book_check::tasks::is_lawful_task;
 use host_book::book::HostBook;
 use host_model::task_row::TaskRow;
-use crate::tasks::MOST_TASKS;
 use part_core::fit::{MOST_ROWS, wanted_interval};
 use plugin_core::test_spec::{TestSpec, class_of, length_of};
 use plugin_tool::choice::read_tool;
@@ -89,7 +89,7 @@ pub(crate) fn fits_accepted(
     requires { IsTest proposal.now.test }
     ensures { IsTrue result ↔ Fits number book.now.book (AcceptedChange proposal.now hosts.now epoch) }
 {
-    let _ = book.rows();
+    let _known = book.rows();
     may_accept(number, book, proposal, hosts, epoch)
 }
 

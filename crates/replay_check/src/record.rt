@@ -17,7 +17,7 @@ use ps_time::memory::Memory;
 use ps_time::moment::MAX_MOMENT;
 use std::alloc::Global;
 
-// Takes in a change that may follow. A book of more bytes than can be counted is want of memory too.
+// Takes in a change that may follow. A book of more bytes than can be counted is out of memory too.
 fn absorb_next(alloc: Global, book: &mut HostBook, change: Change) -> Result<(), Memory>
     requires room { 0 < book.old.room }
     requires follows { Follows book.old.number book.old.book change }
@@ -88,7 +88,7 @@ fn take_each(
 
 /// Takes a record that was read into the book of the host with this number, and answers whether it may follow the book. Each
 /// change is tested by what it touches, against the book that the earlier ones left. Where the answer is no, or memory is
-/// wanting, some of the changes may have been taken in: the book is of no use then.
+/// out_of_memory, some of the changes may have been taken in: the book is of no use then.
 pub fn take_record(
     alloc: Global,
     number: u16,

@@ -28,7 +28,7 @@ pub(crate) fn is_way_free(
     requires { timeline.now.list ≡ bookings_of rows.now.list }
     ensures { IsTrue result ↔ IsFreeWay class interval.now rows.now.list }
 {
-    let _ = rows.in_order();
+    let _known = rows.in_order();
     let mut last = None;
     while let Some(key) = timeline.next_conflict(class, interval, last) {
         if !is_waiting(rows, key) {

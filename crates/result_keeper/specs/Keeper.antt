@@ -35,7 +35,7 @@ abbrev pub fault_of : Error → KeeperFault
 fault_of (SqliteFailure OutOfMemory) = Memory
 fault_of _ = Failed
 
--- the count after a statement was refused: it rises by one, unless memory was wanting
+-- the count after a statement was refused: it rises by one, unless memory ran out
 abbrev pub faults_with : ℕ → KeeperFault → ℕ
 faults_with count Failed = raised count
 faults_with count Memory = count

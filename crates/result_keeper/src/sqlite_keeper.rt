@@ -138,7 +138,7 @@ impl<S: Alter> SqliteKeeper<S> {
     }
 }
 
-/// Counts that the database refused a statement, unless memory was wanting.
+/// Counts that the database refused a statement, unless memory ran out.
 fn count_refusal(faults: &mut Faults, error: &Error) -> KeeperFault
     ensures fault { result ≡ fault_of error.now }
     ensures count { faults.new ≡ faults_with faults.old (fault_of error.now) }

@@ -9,7 +9,7 @@ use std::io;
 pub(crate) enum LineFault {
     /// A line says nothing.
     Line,
-    /// A store, a file, standard input or output failed, or memory was wanting.
+    /// A store, a file, standard input or output failed, or memory ran out.
     Failed,
 }
 

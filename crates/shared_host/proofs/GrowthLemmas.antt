@@ -19,7 +19,7 @@ use Rattle.host_keep.specs.Laws.{book_answered}
 use Rattle.host_keep.specs.Standing.{Answers, IsAsked, Seen, Standing, after}
 use Rattle.host_keep.specs.declared.call.HostCall.{HostCall}
 use Rattle.host_keep.specs.declared.call.HostStep.{HostStep}
-use Rattle.shared_host.specs.Applied.{AnsweredKeep, Applied, UnkeptKeep, WantingKeep}
+use Rattle.shared_host.specs.Applied.{AnsweredKeep, Applied, UnkeptKeep, OutOfMemoryKeep}
 use Rattle.shared_host.specs.Gated.{IsLater, MayStand, seen_of}
 
 -- what is known of every step
@@ -95,8 +95,8 @@ module _ {D : Type 0} (premise : Type 0) (seen : D → List ℕ) (told : D → O
   answered_grown : (said : Reply) → AnsweredKeep premise seen told k l call said → Grown k.machine.standing.book l.machine.standing.book
   answered_grown said a = through a.stood (subst (λ (s : Standing). Grown (found_by a.stood).book s.book) (sym a.became) (from_found a.stood said a.step a.answered))
 
-  wanting_grown : WantingKeep premise seen told k l → Grown k.machine.standing.book l.machine.standing.book
-  wanting_grown w = subst (λ (s : Standing). Grown k.machine.standing.book s.book) (sym w.became) (to_found w.stood)
+  out_of_memory_grown : OutOfMemoryKeep premise seen told k l → Grown k.machine.standing.book l.machine.standing.book
+  out_of_memory_grown w = subst (λ (s : Standing). Grown k.machine.standing.book s.book) (sym w.became) (to_found w.stood)
 
   unkept_grown : UnkeptKeep premise seen told faults goes k l call → Grown k.machine.standing.book l.machine.standing.book
   unkept_grown u = through u.stood (left_grown (found_by u.stood) u.step u.image l.machine.standing l.unsure u.left (from_found u.stood u.reply u.step u.answered))
@@ -108,7 +108,7 @@ module _ {D : Type 0} (premise : Type 0) (seen : D → List ℕ) (told : D → O
   book_grown : (r : Result Reply StepFault) → Applied premise seen told may_leave moment left_since faults goes k l call r → Grown k.machine.standing.book l.machine.standing.book
   book_grown (Ok said) a = answered_grown said a.answered
   book_grown (Err Disk) a = failed_grown (a.failed refl)
-  book_grown (Err Memory) a = wanting_grown (a.wanting refl)
+  book_grown (Err Memory) a = out_of_memory_grown (a.out_of_memory refl)
 
   pub later : (r : Result Reply StepFault) → Applied premise seen told may_leave moment left_since faults goes k l call r → IsLater faults (seen_of k) (seen_of l)
   later r a = record { config = a.fixed; book = book_grown r a; first = a.later.0; second = a.later.1 }

@@ -6,13 +6,13 @@ use Rattle.host_journal.specs.State.{State, IsAt, SameButRoom, is_ready, stored,
 use Rattle.host_journal.specs.declared.reading.Counted.{Counted}
 use Rattle.host_journal.specs.declared.reading.DiskPlace.{DiskPlace}
 use Rattle.machine_keep.specs.Calls.{PairCalls, TellsIn, TellsSomeIn, step_calls}
-use Rattle.machine_keep.specs.Course.{Answered, IsDue, IsFound, Moves, Shortens, Unfound, Unkept, Wanting}
+use Rattle.machine_keep.specs.Course.{Answered, IsDue, IsFound, Moves, Shortens, Unfound, Unkept, OutOfMemory}
 use Rattle.machine_keep.specs.Kept.{Kept, after_step, caught}
 use Rattle.host_model.specs.declared.reply.Reply.{Reply}
 use Rattle.host_keep.specs.Standing.{Answers, Follows, Seen, Standing, StandsNow, after}
 use Rattle.host_keep.specs.declared.call.HostCall.{HostCall}
 use Rattle.host_keep.specs.declared.call.HostStep.{HostStep}
-use Rattle.shared_host.specs.Applied.{AnsweredKeep, UnkeptKeep, WantingKeep}
+use Rattle.shared_host.specs.Applied.{AnsweredKeep, UnkeptKeep, OutOfMemoryKeep}
 use Rattle.shared_host.specs.Comes.{bytes_of}
 use Rattle.shared_host.specs.Gated.{seen_of}
 
@@ -73,8 +73,8 @@ module _ {D : Type 0} (premise : Type 0) (seen : D → List ℕ) (told : D → O
     told = subst (λ (cs : PairCalls). TellsIn told k.journal l.journal cs) (calls_bare (is_ready k.journal.pending) a.place (option_map bytes_of a.step) a.image) a.told;
   }
 
-  pub wanting_seen : WantingKeep premise seen told k l → Wanting premise seen told (λ (s : Standing). s) StandsNow bytes_of Answers Follows after (seen_of k) (seen_of l)
-  wanting_seen w = record {
+  pub out_of_memory_seen : OutOfMemoryKeep premise seen told k l → OutOfMemory premise seen told (λ (s : Standing). s) StandsNow bytes_of Answers Follows after (seen_of k) (seen_of l)
+  out_of_memory_seen w = record {
     stood = w.stood;
     place = with_room w.place 0;
     found = found_bare premise seen k.journal w.place w.stood w.found;

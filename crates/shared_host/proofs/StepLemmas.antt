@@ -14,12 +14,12 @@ use Rattle.host_keep.specs.Laws.{book_answered}
 use Rattle.host_keep.specs.Standing.{Seen, Standing, StandsNow, after}
 use Rattle.host_keep.specs.declared.call.HostCall.{HostCall}
 use Rattle.host_keep.specs.declared.call.HostStep.{HostStep}
-use Rattle.shared_host.specs.Applied.{AnsweredKeep, Applied, WantingKeep, is_fault}
+use Rattle.shared_host.specs.Applied.{AnsweredKeep, Applied, OutOfMemoryKeep, is_fault}
 use Rattle.shared_host.specs.Comes.{AtEachMoment, Comes, bytes_of}
 use Rattle.shared_host.specs.Gated.{seen_of}
 use Rattle.shared_host.proofs.CountLemmas.{moved, moved_by, no_step, none_counts, some_bytes, step_counts, was_ready}
 use Rattle.shared_host.proofs.GrowthLemmas.{found_config}
-use Rattle.shared_host.proofs.RoomLemmas.{answered_seen, same_bare, unfound_seen, unkept_seen, wanting_seen}
+use Rattle.shared_host.proofs.RoomLemmas.{answered_seen, same_bare, unfound_seen, unkept_seen, out_of_memory_seen}
 
 -- whether a step counts as a change
 abbrev pub counted : {D : Type 0} → Kept Seen D HostStep → Kept Seen D HostStep → Result Reply StepFault → Bool
@@ -43,14 +43,14 @@ module _ {D : Type 0} (premise : Type 0) (seen : D → List ℕ) (told : D → O
   step_moves : (said : Reply) (a : AnsweredKeep premise seen told k l call said) → k.journal.start ≤ k.journal.end → is_ready k.journal.pending ≡ true → moved k.journal l.journal ≡ is_some a.step
   step_moves said a order ready = moved_by k.journal a.place l.journal (option_map bytes_of a.step) a.image (a.found.same ready) order a.moved ∙ some_bytes bytes_of a.step
 
-  none_moves : (w : WantingKeep premise seen told k l) → k.journal.start ≤ k.journal.end → is_ready k.journal.pending ≡ true → moved k.journal l.journal ≡ false
+  none_moves : (w : OutOfMemoryKeep premise seen told k l) → k.journal.start ≤ k.journal.end → is_ready k.journal.pending ≡ true → moved k.journal l.journal ≡ false
   none_moves w order ready = moved_by k.journal w.place l.journal None None (w.found.same ready) order w.same
 
   answered_counts : (said : Reply) (a : AnsweredKeep premise seen told k l call said) → k.journal.start ≤ k.journal.end → (not (is_ready k.journal.pending) || moved k.journal l.journal) ≡ (not (is_ready k.journal.pending) || is_some a.step)
   answered_counts said a order = step_counts (is_ready k.journal.pending) (moved k.journal l.journal) (is_some a.step) (step_moves said a order)
 
-  wanting_counts : (w : WantingKeep premise seen told k l) → k.journal.start ≤ k.journal.end → (not (is_ready k.journal.pending) || moved k.journal l.journal) ≡ not (is_ready k.journal.pending)
-  wanting_counts w order = none_counts (is_ready k.journal.pending) (moved k.journal l.journal) (none_moves w order)
+  out_of_memory_counts : (w : OutOfMemoryKeep premise seen told k l) → k.journal.start ≤ k.journal.end → (not (is_ready k.journal.pending) || moved k.journal l.journal) ≡ not (is_ready k.journal.pending)
+  out_of_memory_counts w order = none_counts (is_ready k.journal.pending) (moved k.journal l.journal) (none_moves w order)
 
   -- ---- what it comes to
   answered_book : (said : Reply) (a : AnsweredKeep premise seen told k l call said) → l.machine.standing.book ≡ step_book k.machine.standing.config (found_by a.stood).book call.clock call.input
@@ -67,9 +67,9 @@ module _ {D : Type 0} (premise : Type 0) (seen : D → List ℕ) (told : D → O
     says = answered_says said a.answered;
     book = answered_book said a.answered;
     durable = a.durable;
-    few = a.few;
+    few = a.log_bounded;
     ready = a.ready (λ e. cc);
-    calm = a.calm (λ e. cc);
+    no_fault = a.no_fault (λ e. cc);
     counts = is ∙ answered_counts said a.answered a.order;
   }
   comes (Err Disk) a changed is = record {
@@ -78,11 +78,11 @@ module _ {D : Type 0} (premise : Type 0) (seen : D → List ℕ) (told : D → O
     counts = is;
   }
   comes (Err Memory) a changed is = record {
-    course = wanting_seen premise seen told k l (a.wanting refl);
+    course = out_of_memory_seen premise seen told k l (a.out_of_memory refl);
     same = λ p. a.same p refl;
     ready = a.ready (λ e. cc);
-    calm = a.calm (λ e. cc);
-    counts = is ∙ wanting_counts (a.wanting refl) a.order;
+    no_fault = a.no_fault (λ e. cc);
+    counts = is ∙ out_of_memory_counts (a.out_of_memory refl) a.order;
   }
 
   pub moments : (r : Result Reply StepFault) → Applied premise seen told may_leave moment left_since faults goes k l call r → AtEachMoment premise seen may_leave moment left_since (seen_of k) (seen_of l) call
@@ -103,8 +103,8 @@ module _ {D : Type 0} (premise : Type 0) (seen : D → List ℕ) (told : D → O
       (sure_after ∙ sym sure)
       off.1
 
-  wanting_same : (w : WantingKeep premise seen told k l) → k.unsure ≡ None → l.unsure ≡ None → is_ready k.journal.pending ≡ true → seen_of l ≡ seen_of k
-  wanting_same w sure sure_after ready =
+  out_of_memory_same : (w : OutOfMemoryKeep premise seen told k l) → k.unsure ≡ None → l.unsure ≡ None → is_ready k.journal.pending ≡ true → seen_of l ≡ seen_of k
+  out_of_memory_same w sure sure_after ready =
       same_seen k l
       (w.became ∙ found_sure w.stood sure)
       (same_bare w.place l.journal w.same ∙ ap (λ (s : State D). with_room s 0) (w.found.same ready))
@@ -117,5 +117,5 @@ module _ {D : Type 0} (premise : Type 0) (seen : D → List ℕ) (told : D → O
       answered_same said a.answered (a.sure none.0) (a.sure_after (a.ready (λ e. cc))) none.0 none.1
   same (Err Disk) a changed is still = let never : ⊥ = cc in absurd never
   same (Err Memory) a changed is still =
-      let ready = was_ready (is_ready k.journal.pending) (sym (wanting_counts (a.wanting refl) a.order) ∙ (sym is ∙ still)) in
-      wanting_same (a.wanting refl) (a.sure ready) (a.sure_after (a.ready (λ e. cc))) ready
+      let ready = was_ready (is_ready k.journal.pending) (sym (out_of_memory_counts (a.out_of_memory refl) a.order) ∙ (sym is ∙ still)) in
+      out_of_memory_same (a.out_of_memory refl) (a.sure ready) (a.sure_after (a.ready (λ e. cc))) ready

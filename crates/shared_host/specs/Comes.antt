@@ -4,8 +4,8 @@ use Rattle.ps_ports.specs.Causes.{Rose}
 use Rattle.ps_disks.specs.declared.disk.DiskCall.{DiskCall}
 use Rattle.host_journal.specs.Pair.{pair_of}
 use Rattle.host_journal.specs.State.{EachImage, EachSince, first_disk, is_ready, second_disk, stored}
-use Rattle.machine_keep.specs.Course.{Answered, Unfound, Unkept, Wanting}
-use Rattle.machine_keep.specs.Kept.{HasFew, StandsAround, StandsFor}
+use Rattle.machine_keep.specs.Course.{Answered, Unfound, Unkept, OutOfMemory}
+use Rattle.machine_keep.specs.Kept.{IsLogBounded, StandsAround, StandsFor}
 use Rattle.machine_keep.specs.declared.fault.StepFault.{StepFault}
 use Rattle.machine_keep.specs.declared.fault.StepFault.TheVariants.{Disk, Memory}
 use Rattle.host_model.specs.Archives.{attempt_of, due}
@@ -39,18 +39,18 @@ module _ {D : Type 0} (premise : Type 0) (seen : D → List ℕ) (told : D → O
     pub book : y.machine.book ≡ step_book x.machine.config (found x course.stood).book call.clock call.input
     -- whatever a crash leaves then stands for the host
     pub durable : premise → EachImage may_leave y.journal (StandsFor StandsNow y.machine)
-    pub few : premise → (y.machine ≡ found x (stands_there seen x)) ⊎ (HasFew y.journal ⊎ Rose x.put_off y.put_off)
+    pub log_bounded : premise → (y.machine ≡ found x (stands_there seen x)) ⊎ (IsLogBounded y.journal ⊎ Rose x.put_off y.put_off)
     pub ready : is_ready y.journal.pending ≡ true
-    pub calm : IsCalm faults x y
+    pub no_fault : IsCalm faults x y
     -- it counts where there is a step, or where it found out what stands after a fault
     pub counts : changed ≡ (not (is_ready x.journal.pending) || is_some course.step)
 
   -- one for which there was no memory: nothing but what was found out
-  pub record IsWanting (x y : Gated D) (changed : Bool) : Type 0 where
-    pub course : Wanting premise seen told (λ (s : Standing). s) StandsNow bytes_of Answers Follows after x y
+  pub record IsOutOfMemory (x y : Gated D) (changed : Bool) : Type 0 where
+    pub course : OutOfMemory premise seen told (λ (s : Standing). s) StandsNow bytes_of Answers Follows after x y
     pub same : premise → stored seen y.journal ≡ stored seen x.journal
     pub ready : is_ready y.journal.pending ≡ true
-    pub calm : IsCalm faults x y
+    pub no_fault : IsCalm faults x y
     pub counts : changed ≡ not (is_ready x.journal.pending)
 
   -- one at which a disk failed: the step that it makes is unsure, or stands already
@@ -63,7 +63,7 @@ module _ {D : Type 0} (premise : Type 0) (seen : D → List ℕ) (told : D → O
   abbrev pub Comes : Gated D → HostCall → Result Reply StepFault → Bool → Gated D → Type 0
   Comes x call (Ok said) changed y = IsAnswered x y call said changed
   Comes x call (Err Disk) changed y = IsFailed x y call changed
-  Comes x call (Err Memory) changed y = IsWanting x y changed
+  Comes x call (Err Memory) changed y = IsOutOfMemory x y changed
 
 module _ {D : Type 0} (premise : Type 0) (seen : D → List ℕ) (may_leave : D → List ℕ → Type 0) (moment : D → ℕ) (left_since : D → ℕ → List ℕ → Type 0) where
   -- Whatever it comes to, at each moment of it a crash leaves what stands for the host before it or after it. Where it begins after a

@@ -73,7 +73,7 @@ impl<D: Disk> KeptHost<D> {
 
     fn step(&mut self, call: HostCall) -> (Result<Reply, StepFault>, bool)
         requires { IsAsked self.old.machine.config call }
-        ensures comes { Comes D.premise D.seen D.told D.may_leave D.disk_faults D.went self.old call result.0 result.1 self.new }
+        ensures comes { Comes D.premise D.seen D.told D.may_leave D.disk_faults D.calls_advance self.old call result.0 result.1 self.new }
         ensures moments { AtEachMoment D.premise D.seen D.may_leave D.moment D.left_since self.old self.new call }
         ensures later { IsLater D.disk_faults self.old self.new }
         ensures same { result.1 ≡ false → self.new ≡ self.old }
@@ -115,7 +115,7 @@ impl<D: Disk> Kept for KeptHost<D> {
 
     ghost grown = { IsLater D.disk_faults };
 
-    ghost steps = { Steps D.premise D.seen D.told D.may_leave D.moment D.left_since D.disk_faults D.went };
+    ghost steps = { Steps D.premise D.seen D.told D.may_leave D.moment D.left_since D.disk_faults D.calls_advance };
 
     fn apply(&mut self, call: KeepCall) -> (KeepReply, bool) {
         match call {

@@ -24,7 +24,7 @@ pub(crate) fn step<D: Disk>(
 ) -> (Result<Reply, StepFault>, bool)
     requires asked { IsAsked keep.old.machine.standing.config call }
     requires unsure { IfSome keep.old.unsure (MayStand keep.old.machine.standing) }
-    ensures comes { Comes D.premise D.seen D.told D.may_leave D.disk_faults D.went (seen_of keep.old) call result.0 result.1 (seen_of keep.new) }
+    ensures comes { Comes D.premise D.seen D.told D.may_leave D.disk_faults D.calls_advance (seen_of keep.old) call result.0 result.1 (seen_of keep.new) }
     ensures moments { AtEachMoment D.premise D.seen D.may_leave D.moment D.left_since (seen_of keep.old) (seen_of keep.new) call }
     ensures later { IsLater D.disk_faults (seen_of keep.old) (seen_of keep.new) }
     ensures same { result.1 ≡ false → seen_of keep.new ≡ seen_of keep.old }
@@ -49,7 +49,7 @@ fn applied<D: Disk>(
     call: HostCall,
 ) -> Result<Reply, StepFault>
     requires { IsAsked keep.old.machine.standing.config call }
-    ensures { Applied D.premise D.seen D.told D.may_leave D.moment D.left_since D.disk_faults D.went keep.old keep.new call result }
+    ensures { Applied D.premise D.seen D.told D.may_leave D.moment D.left_since D.disk_faults D.calls_advance keep.old keep.new call result }
 {
     keep.known();
     let answer = keep.apply(alloc, call);
@@ -61,7 +61,7 @@ fn applied<D: Disk>(
 fn lawful<D: Disk>(keep: &Keep<Host, D>)
     ensures { Lawful keep.now.machine.standing.config.number keep.now.machine.standing.book }
 {
-    let _ = keep.machine().book().rows();
+    let _known = keep.machine().book().rows();
 }
 
 // Whether its records end elsewhere than they did.

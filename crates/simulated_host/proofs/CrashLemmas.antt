@@ -1,4 +1,4 @@
--- What a crash leaves of a kept host is what the definition of its seat says.
+-- What a crash leaves of a kept host is what the definition of its host says.
 use Rattle.std.specs.Prelude.{IfOk, ◌-◌, ◌&&◌, ◌||◌, ◌<◌, ◌≤◌, ◌^◌, nat_le, nat_lt, not, option_map, if◌then◌else◌}
 use Rattle.std.proofs.Common.{◌≡◌, ◌∙◌, ◌+◌, ap, arith, inl, inr, refl, subst, sym, ◌∷◌, Bool, false, true, List, [], length, None, Option, Some, Result, ℕ}
 use Rattle.std.proofs.lemmas.Bool.Decides.{nat_tests}
@@ -18,9 +18,9 @@ use Rattle.host_keep.specs.declared.call.HostStep.{HostStep}
 use Rattle.machine_keep.specs.Crash.{IsPutOff, keeps_step}
 use Rattle.machine_keep.specs.Faulted.{seen_on}
 use Rattle.machine_keep.specs.Kept.{after_step, caught}
-use Rattle.simulated_machine.specs.Crashed.{IsSnapshotDue, StandsAt, Stops, loose_in, place_stopped, place_unsynced, state_unsynced}
-use Rattle.simulated_machine.specs.Held.{Held, Loose, Place, armed_at, calls_of, is_many_at, place_after, syncs, with_record, with_snapshot}
-use Rattle.simulated_machine.specs.IsHeld.{SeatState, held, held_of}
+use Rattle.simulated_machine.specs.Crashed.{IsSnapshotDue, StandsAt, Stops, unsynced_in, place_stopped, place_unsynced, state_unsynced}
+use Rattle.simulated_machine.specs.Held.{Held, Unsynced, Place, armed_at, calls_of, is_many_at, place_after, syncs, with_record, with_snapshot}
+use Rattle.simulated_machine.specs.IsHeld.{SimulatedState, held, held_of}
 use Rattle.host_model.specs.Step.{step_changes}
 use Rattle.host_model.specs.declared.change.Change.{Change}
 use Rattle.host_model.specs.declared.change.Changes.{Changes}
@@ -29,25 +29,25 @@ use Rattle.host_model.specs.declared.reply.Reply.{Reply}
 use Rattle.world_law.specs.World.{Stage}
 use Rattle.rehearsal_script.specs.declared.script.Stop.{Stop}
 use Rattle.rehearsal_model.specs.After.{cut_stage}
-use Rattle.rehearsal_model.specs.Plays.{IsSeat}
-use Rattle.rehearsal_model.specs.Scenes.{is_kept_in}
-use Rattle.rehearsal_model.specs.Seats.{Left, Written, among, calls_for, can_snap, done, is_before, left_behind, left_stopped, left_unsynced, record_length, recorded_by, reply_unless, snapped_by, snapshot_length, stop_met, unless_none, written_at}
+use Rattle.rehearsal_model.specs.Plays.{IsSimulated}
+use Rattle.rehearsal_model.specs.Simulations.{is_kept_in}
+use Rattle.rehearsal_model.specs.Simulated.{Left, Written, among, calls_for, can_snap, done, is_before, left_behind, left_stopped, left_unsynced, record_length, recorded_by, reply_unless, snapped_by, snapshot_length, stop_met, unless_none, written_at}
 use Rattle.rehearsal_model.specs.Seen.{acted}
-use Rattle.simulated_host.specs.Staged.{IsLeft, loosened, stage_of, staged, standing_of}
+use Rattle.simulated_host.specs.Staged.{IsLeft, staged_unsynced, stage_of, staged, standing_of}
 use Rattle.rehearsal_model.proofs.MoveLemmas.{cut_config}
-use Rattle.rehearsal_model.proofs.SceneLemmas.{config_chosen, unsynced_left_is}
+use Rattle.rehearsal_model.proofs.SimulationLemmas.{config_chosen, unsynced_left_is}
 use Rattle.simulated_host.proofs.StepLemmas.{bytes_kept, later_is, record_is, size_kept, snapped_few, snapped_is, snapped_some, snapshot_is, syncs_counted}
 
--- ---- what is loose
-state_left : (s : Standing) (l : Option (Loose Standing)) (stop : ℕ) (image : Image) → state_unsynced (stage_of s) (option_map loosened l) stop image ≡ stage_of (state_unsynced s l stop image)
+-- ---- what is unsynced
+state_left : (s : Standing) (l : Option (Unsynced Standing)) (stop : ℕ) (image : Image) → state_unsynced (stage_of s) (option_map staged_unsynced l) stop image ≡ stage_of (state_unsynced s l stop image)
 state_left s None stop image = refl
-state_left s (Some l) stop image = by (is_new (loose_in stop l.second image))
+state_left s (Some l) stop image = by (is_new (unsynced_in stop l.second image))
   where
     by : (b : Bool) → (if b then stage_of s else stage_of l.state) ≡ stage_of (if b then s else l.state)
     by true = refl
     by false = refl
 
-place_left : (p : Place) (l : Option (Loose Standing)) (stop : ℕ) (image : Image) → place_unsynced p (option_map loosened l) stop image ≡ place_unsynced p l stop image
+place_left : (p : Place) (l : Option (Unsynced Standing)) (stop : ℕ) (image : Image) → place_unsynced p (option_map staged_unsynced l) stop image ≡ place_unsynced p l stop image
 place_left p None stop image = refl
 place_left p (Some l) stop image = refl
 
@@ -55,16 +55,16 @@ place_left p (Some l) stop image = refl
 moved_to : (s t : Standing) → s ≡ t → (p q : Place) → p ≡ q → (pair : Result Counted DiskPlace) → StandsAt StandsNow s p pair → StandsAt StandsNow t q pair
 moved_to s t a p q b pair stands = subst (λ (x : Standing). StandsAt StandsNow x q pair) a (subst (λ (x : Place). StandsAt StandsNow s x pair) b stands)
 
-pub unsynced_left : (h : Held Standing) (stop : ℕ) (image : Image) (pair : Result Counted DiskPlace) → StandsAt StandsNow (state_unsynced h.state h.loose stop image) (place_unsynced h.place h.loose stop image) pair → IsLeft (left_unsynced (staged h) stop image) pair
+pub unsynced_left : (h : Held Standing) (stop : ℕ) (image : Image) (pair : Result Counted DiskPlace) → StandsAt StandsNow (state_unsynced h.state h.unsynced stop image) (place_unsynced h.place h.unsynced stop image) pair → IsLeft (left_unsynced (staged h) stop image) pair
 unsynced_left h stop image pair stands =
-    moved_to (state_unsynced h.state h.loose stop image) (standing_of (state_unsynced (stage_of h.state) (option_map loosened h.loose) stop image)) (sym (ap standing_of (state_left h.state h.loose stop image)))
-    (place_unsynced h.place h.loose stop image) (place_unsynced h.place (option_map loosened h.loose) stop image) (sym (place_left h.place h.loose stop image)) pair stands
+    moved_to (state_unsynced h.state h.unsynced stop image) (standing_of (state_unsynced (stage_of h.state) (option_map staged_unsynced h.unsynced) stop image)) (sym (ap standing_of (state_left h.state h.unsynced stop image)))
+    (place_unsynced h.place h.unsynced stop image) (place_unsynced h.place (option_map staged_unsynced h.unsynced) stop image) (sym (place_left h.place h.unsynced stop image)) pair stands
 
--- a crash between two steps: what is loose is kept in the image that keeps what no sync made sure of
+-- a crash between two steps: what is unsynced is kept in the image that keeps what no sync made sure of
 abbrev pub left_now : Held Stage → Image → Left
 left_now h image = left_unsynced h 0 image
 
-pub now_left : (h : Held Standing) (image : Image) (pair : Result Counted DiskPlace) → StandsAt StandsNow (state_unsynced h.state h.loose 0 image) (place_unsynced h.place h.loose 0 image) pair → IsLeft (left_now (staged h) image) pair
+pub now_left : (h : Held Standing) (image : Image) (pair : Result Counted DiskPlace) → StandsAt StandsNow (state_unsynced h.state h.unsynced 0 image) (place_unsynced h.place h.unsynced 0 image) pair → IsLeft (left_now (staged h) image) pair
 now_left h image pair stands = unsynced_left h 0 image pair stands
 
 -- ---- behind the syncs
@@ -155,9 +155,9 @@ module _ {E : Type 0} (h : Held Standing) (call : HostCall) (stop : Stop) (resul
   abbrev pair_at : DiskState × DiskState → Result Counted DiskPlace
   pair_at d = pair_of (bytes_now d.0.history) (bytes_now d.1.history)
 
-  -- what the seat says of a stop, where the calls of its disks are armed so
+  -- what the host says of a stop, where the calls of its disks are armed so
   abbrev Early : Held Standing → Type 0
-  Early a = a.ready ≡ false → stop.call ≤ 2 → IfOk result (λ d. StandsAt StandsNow (state_unsynced a.state a.loose stop.call stop.image) (place_unsynced a.place a.loose stop.call stop.image) (pair_at d))
+  Early a = a.ready ≡ false → stop.call ≤ 2 → IfOk result (λ d. StandsAt StandsNow (state_unsynced a.state a.unsynced stop.call stop.image) (place_unsynced a.place a.unsynced stop.call stop.image) (pair_at d))
 
   abbrev Late : Held Standing → Type 0
   Late a = (a.ready ≡ false → 2 < stop.call) → IfOk result (λ d. Stops StandsNow bytes_kept Answers Follows after a call (stop.call - length (syncs a.ready)) stop.image (pair_at d))
@@ -173,11 +173,11 @@ module _ {E : Type 0} (h : Held Standing) (call : HostCall) (stop : Stop) (resul
 
   early_so : h.ready ≡ false → stop.call ≤ 2 → Early (armed_at h 0) → Wanted
   early_so unready low early =
-      IfOk-weaker result (λ d. StandsAt StandsNow (state_unsynced h.state h.loose stop.call stop.image) (place_unsynced h.place h.loose stop.call stop.image) (pair_at d)) (λ d. IsLeft (left_stopped (staged h) call.clock call.input stop) (pair_at d))
+      IfOk-weaker result (λ d. StandsAt StandsNow (state_unsynced h.state h.unsynced stop.call stop.image) (place_unsynced h.place h.unsynced stop.call stop.image) (pair_at d)) (λ d. IsLeft (left_stopped (staged h) call.clock call.input stop) (pair_at d))
       (λ d stands. subst (λ (x : Left). IsLeft x (pair_at d)) (stopped_early (staged h) call.clock call.input stop unready low) (unsynced_left h stop.call stop.image (pair_at d) stands))
       (early unready low)
 
-  -- of a seat of which no call is to fail any more
+  -- of a host of which no call is to fail any more
   pub crash_stopped : (a : Held Standing) → a ≡ armed_at h 0 → Early a → Late a → Wanted
   crash_stopped a armed early late = by h.ready (nat_le stop.call 2) refl refl
     where
@@ -277,10 +277,10 @@ made_before stop calls (Some n) before none = by (nat_le n calls) refl none
     by false is e = grind (arith, nat_tests, is, before)
 
 -- ---- the configuration is left
-left_config : (h : Held Stage) → IsSeat h → (stop : ℕ) (image : Image) → (left_unsynced h stop image).state.config ≡ h.state.config
-left_config h is stop image = ap (λ (s : Stage). s.config) (unsynced_left_is h stop image) ∙ config_chosen h is (is_kept_in stop image h.loose)
+left_config : (h : Held Stage) → IsSimulated h → (stop : ℕ) (image : Image) → (left_unsynced h stop image).state.config ≡ h.state.config
+left_config h is stop image = ap (λ (s : Stage). s.config) (unsynced_left_is h stop image) ∙ config_chosen h is (is_kept_in stop image h.unsynced)
 
-pub config_left : (h : Held Stage) → IsSeat h → (clock : ℕ) (i : Input) (stop : Stop) → (left_stopped h clock i stop).state.config ≡ h.state.config
+pub config_left : (h : Held Stage) → IsSimulated h → (clock : ℕ) (i : Input) (stop : Stop) → (left_stopped h clock i stop).state.config ≡ h.state.config
 config_left h is clock i stop = by (not h.ready && nat_le stop.call 2)
   where
     by : (early : Bool) → (if early then left_unsynced h stop.call stop.image else left_behind h clock i (stop.call - length (syncs h.ready)) stop.image).state.config ≡ h.state.config
@@ -292,11 +292,11 @@ caught_config s None stood = refl
 caught_config s (Some step) true = refl
 caught_config s (Some step) false = refl
 
--- what a seat holds loose has its configuration
-pub seat_is : (s : SeatState Seen HostStep) → IsSeat (staged (held (λ (m : Seen). m.standing) after s))
-seat_is s l e = by s.loose e
+-- what a host holds unsynced has its configuration
+pub simulated_is : (s : SimulatedState Seen HostStep) → IsSimulated (staged (held (λ (m : Seen). m.standing) after s))
+simulated_is s l e = by s.unsynced e
   where
-    by : (o : Option Bool) → option_map loosened (held_of (λ (m : Seen). m.standing) after s.keep o).loose ≡ Some l → l.state.config ≡ (caught after s.keep.machine.standing s.keep.unsure (has_record s.keep.journal.pending (stored seen_on s.keep.journal))).config
+    by : (o : Option Bool) → option_map staged_unsynced (held_of (λ (m : Seen). m.standing) after s.keep o).unsynced ≡ Some l → l.state.config ≡ (caught after s.keep.machine.standing s.keep.unsure (has_record s.keep.journal.pending (stored seen_on s.keep.journal))).config
     by None f = cc
     by (Some second) f =
         let same : stage_of s.keep.machine.standing ≡ l.state = cc in

@@ -15,8 +15,8 @@ use Rattle.host_replay.proofs.OneBookLemmas.{apart}
 use Rattle.machine_keep.specs.Kept.{StandsEither, StandsFor}
 use Rattle.simulated_machine.specs.Held.{Held, Place, place_at, with_snapshot}
 use Rattle.world_law.specs.World.{Stage}
-use Rattle.rehearsal_model.specs.Seats.{Left, calm_on, new_left, new_place, opened_on, snapshot_length, stepped}
-use Rattle.rehearsal_model.proofs.CalmLemmas.{stepped_done}
+use Rattle.rehearsal_model.specs.Simulated.{Left, no_fault_on, new_left, new_place, opened_on, snapshot_length, stepped}
+use Rattle.rehearsal_model.proofs.UnarmedLemmas.{stepped_done}
 use Rattle.simulated_host.specs.Staged.{IsLeft, stage_of, staged, standing_of}
 use Rattle.simulated_host.proofs.StepLemmas.{snapshot_is}
 
@@ -52,20 +52,20 @@ unfolding within
 ok_same a b r one two = sym (ap (within a) one) ∙ ap (within a) two
 
 module _ (one : OneBook) (config : Config) (pair : Result Counted DiskPlace) (h : Held Standing) (fixed : h.state.config ≡ config) (either : StandsEither StandsNow StoodOnce h.state pair)
-    (ready : (h.ready ≡ true) × (h.loose ≡ None) × (h.first ≡ 0) × (h.second ≡ 0))
+    (ready : (h.ready ≡ true) × (h.unsynced ≡ None) × (h.first ≡ 0) × (h.second ≡ 0))
     (read : Counted) (is_read : pair ≡ Ok read)
     (placed : (StandsFor StandsNow h.state pair × (h.place ≡ place_at read)) ⊎ (StandsFor StoodOnce h.state pair × ((image : List ℕ) × StandsNow (image ∷ []) h.state × (h.place ≡ with_snapshot (place_at read) (length image))))) where
-  calm_with : (s : Stage) → stage_of h.state ≡ s → (p : Place) → h.place ≡ p → staged h ≡ calm_on (record { state = s; place = p })
-  calm_with s a p b =
-      ap (λ (x : Stage). record { state = x; place = h.place; ready = h.ready; loose = (staged h).loose; first = h.first; second = h.second }) a
-      ∙ (ap (λ (x : Place). record { state = s; place = x; ready = h.ready; loose = (staged h).loose; first = h.first; second = h.second }) b
-      ∙ (ap (λ (x : Bool). record { state = s; place = p; ready = x; loose = (staged h).loose; first = h.first; second = h.second }) ready.0
-      ∙ (ap (λ x. record { state = s; place = p; ready = true; loose = x; first = h.first; second = h.second }) none
-      ∙ (ap (λ (x : ℕ). record { state = s; place = p; ready = true; loose = None; first = x; second = h.second }) ready.2
-      ∙ ap (λ (x : ℕ). record { state = s; place = p; ready = true; loose = None; first = 0; second = x }) ready.3))))
+  no_fault_with : (s : Stage) → stage_of h.state ≡ s → (p : Place) → h.place ≡ p → staged h ≡ no_fault_on (record { state = s; place = p })
+  no_fault_with s a p b =
+      ap (λ (x : Stage). record { state = x; place = h.place; ready = h.ready; unsynced = (staged h).unsynced; first = h.first; second = h.second }) a
+      ∙ (ap (λ (x : Place). record { state = s; place = x; ready = h.ready; unsynced = (staged h).unsynced; first = h.first; second = h.second }) b
+      ∙ (ap (λ (x : Bool). record { state = s; place = p; ready = x; unsynced = (staged h).unsynced; first = h.first; second = h.second }) ready.0
+      ∙ (ap (λ x. record { state = s; place = p; ready = true; unsynced = x; first = h.first; second = h.second }) none
+      ∙ (ap (λ (x : ℕ). record { state = s; place = p; ready = true; unsynced = None; first = x; second = h.second }) ready.2
+      ∙ ap (λ (x : ℕ). record { state = s; place = p; ready = true; unsynced = None; first = 0; second = x }) ready.3))))
     where
-      none : (staged h).loose ≡ None
-      none = ap (λ l. (staged (record h { loose = l })).loose) ready.1
+      none : (staged h).unsynced ≡ None
+      none = ap (λ l. (staged (record h { unsynced = l })).unsynced) ready.1
 
   state_with : (b : Book) → h.state.book ≡ b → stage_of h.state ≡ record { config = config; book = b }
   state_with b same = ap (λ (c : Config). record { config = c; book = h.state.book }) fixed ∙ ap (λ (x : Book). record { config = config; book = x }) same
@@ -74,7 +74,7 @@ module _ (one : OneBook) (config : Config) (pair : Result Counted DiskPlace) (h 
   either_fixed = subst (λ (c : Config). StandsEither StandsNow StoodOnce (record { config = c; book = h.state.book }) pair) fixed either
 
   -- disks that a crash left
-  pub opened_left : (left : Left) → left.state.config ≡ config → IsLeft left pair → staged h ≡ calm_on left
+  pub opened_left : (left : Left) → left.state.config ≡ config → IsLeft left pair → staged h ≡ no_fault_on left
   opened_left left same stands =
       let now : StandsFor StandsNow (record { config = left.state.config; book = left.state.book }) pair = subst (λ (p : Result Counted DiskPlace). StandsFor StandsNow (standing_of left.state) p) (sym stands.is_left) stands.stood in
       let now_fixed : StandsEither StandsNow StoodOnce (record { config = config; book = left.state.book }) pair = inl (subst (λ (c : Config). StandsFor StandsNow (record { config = c; book = left.state.book }) pair) same now) in
@@ -82,7 +82,7 @@ module _ (one : OneBook) (config : Config) (pair : Result Counted DiskPlace) (h 
       let state : stage_of h.state ≡ left.state = state_with left.state.book same_one ∙ ap (λ (c : Config). record { config = c; book = left.state.book }) (sym same) in
       let at : place_at read ≡ left.place = ap place_at (ok_same read stands.left pair is_read stands.is_left) ∙ stands.is_place in
       elim placed [
-        | inl same_disk ↦ calm_with left.state state left.place (same_disk.1 ∙ at)
+        | inl same_disk ↦ no_fault_with left.state state left.place (same_disk.1 ∙ at)
         | inr other ↦ absurd (not_both left.state.config h.state.config (same ∙ sym fixed) left.state.book h.state.book pair now other.0)
       ]
 
@@ -91,14 +91,14 @@ module _ (one : OneBook) (config : Config) (pair : Result Counted DiskPlace) (h 
     fresh_once : StandsFor StoodOnce (record { config = config; book = empty_book }) (pair_of FRESH_FIRST FRESH_SECOND)
     fresh_once = record { from = empty_book; is = refl; lawful = empty_lawful config.number; leads = refl }
 
-    pub opened_new : staged h ≡ calm_on (new_left config)
+    pub opened_new : staged h ≡ no_fault_on (new_left config)
     opened_new =
         let once : StandsFor StoodOnce (record { config = config; book = empty_book }) pair = subst (λ (p : Result Counted DiskPlace). StandsFor StoodOnce (record { config = config; book = empty_book }) p) (sym anew) fresh_once in
         let same_one : h.state.book ≡ empty_book = same_book one config pair h.state.book empty_book either_fixed (inr once) in
         let at : place_at read ≡ new_place = fresh_at read (sym is_read ∙ anew) in
         elim placed [
           | inl same_disk ↦ absurd (not_both h.state.config config fixed h.state.book empty_book pair same_disk.0 once)
-          | inr other ↦ calm_with (record { config = config; book = empty_book }) (state_with empty_book same_one) (with_snapshot new_place (snapshot_length empty_book))
+          | inr other ↦ no_fault_with (record { config = config; book = empty_book }) (state_with empty_book same_one) (with_snapshot new_place (snapshot_length empty_book))
               (other.1.2 ∙ (ap (λ (p : Place). with_snapshot p (length other.1.0)) at
               ∙ ap (with_snapshot new_place) (snapshot_is h.state other.1.0 other.1.1 ∙ ap snapshot_length same_one)))
         ]
@@ -111,8 +111,8 @@ module _ (one : OneBook) (config : Config) (pair : Result Counted DiskPlace) (h 
             at_of (Err place) = new_place
 
 -- ---- its first step
-pub first_step : (left : Left) (clock : ℕ) → stepped (calm_on left) clock Open ≡ opened_on left clock
-first_step left clock = stepped_done (calm_on left) refl refl clock Open
+pub first_step : (left : Left) (clock : ℕ) → stepped (no_fault_on left) clock Open ≡ opened_on left clock
+first_step left clock = stepped_done (no_fault_on left) refl refl clock Open
 
 -- ---- where a call ended well
 pub on_ok : {T E : Type 0} {P : Type 0} (r : Result T E) (x : T) → r ≡ Ok x → P → OnOk r P

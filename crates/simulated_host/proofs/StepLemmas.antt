@@ -1,4 +1,4 @@
--- What a step makes of a kept host is what the definition of its seat says: the bytes of its record and of its snapshot are theirs.
+-- What a step makes of a kept host is what the definition of its host says: the bytes of its record and of its snapshot are theirs.
 use Rattle.std.specs.Prelude.{◌⊎◌, ◌-◌, ◌==◌, ◌&&◌, ◌<◌, ◌≤◌, ◌^◌, IfSome, nat_le, nat_lt, not, option_map, take, if◌then◌else◌}
 use Rattle.std.proofs.Common.{◌≡◌, ◌∙◌, ◌∷◌, ◌+◌, ap, arith, inl, inr, refl, subst, sym, Bool, false, true, List, [], length, None, Option, Some, ℕ}
 use Rattle.std.proofs.lemmas.Bool.{cases_lt}
@@ -19,12 +19,12 @@ use Rattle.host_model.specs.declared.change.Changes.{Changes}
 use Rattle.host_model.specs.declared.reply.Reply.{Reply}
 use Rattle.machine_keep.specs.Course.{IsSnapshotOf}
 use Rattle.machine_keep.specs.Kept.{after_step}
-use Rattle.simulated_machine.specs.Held.{Held, Loose, Place, calls_of, fault_at, is_many_at, on_first, on_second, place_after, schedule, syncs, with_record, with_snapshot}
-use Rattle.simulated_machine.specs.Seated.{Broken, Done, HasSnapshot, IsBeyond, Unsynced, bytes_in, loose_broken, loose_still, place_broken, state_broken}
+use Rattle.simulated_machine.specs.Held.{Held, Unsynced, Place, calls_of, fault_at, is_many_at, on_first, on_second, place_after, schedule, syncs, with_record, with_snapshot}
+use Rattle.simulated_machine.specs.AfterStep.{Broken, Done, HasSnapshot, IsBeyond, SyncFailed, bytes_in, unsynced_broken, unsynced_still, place_broken, state_broken}
 use Rattle.world_law.specs.World.{Stage}
-use Rattle.rehearsal_model.specs.Seats.{Written, among, answered, broken_with, bytes_of, calls_for, can_snap, done_with, fault_in, faulted, record_by, record_length, recorded_by, reply_unless, snapped_by, snapshot_length, stepped, stepped_by, unless_none, unsynced, written_at}
+use Rattle.rehearsal_model.specs.Simulated.{Written, among, answered, broken_with, bytes_of, calls_for, can_snap, done_with, fault_in, faulted, record_by, record_length, recorded_by, reply_unless, snapped_by, snapshot_length, stepped, stepped_by, unless_none, sync_failed, written_at}
 use Rattle.rehearsal_model.specs.Seen.{acted}
-use Rattle.simulated_host.specs.Staged.{loosened, stage_of, staged}
+use Rattle.simulated_host.specs.Staged.{staged_unsynced, stage_of, staged}
 
 -- the bytes of a step's record
 abbrev pub bytes_kept : HostStep → List ℕ
@@ -96,11 +96,11 @@ one_among : (calls n : ℕ) → n ≤ calls → among calls (Some n) ≡ Some n
 one_among calls n le = let test : nat_le n calls ≡ true = grind (arith, nat_tests, le) in ap (λ (b : Bool). if b then Some n else None) test
 
 -- what a fault leaves, seen of stages
-still_loose : (number : ℕ) (l : Option (Loose Standing)) → option_map loosened (loose_still number l) ≡ loose_still number (option_map loosened l)
-still_loose number None = refl
-still_loose number (Some l) = by (nat_lt 1 number) l.second
+still_unsynced : (number : ℕ) (l : Option (Unsynced Standing)) → option_map staged_unsynced (unsynced_still number l) ≡ unsynced_still number (option_map staged_unsynced l)
+still_unsynced number None = refl
+still_unsynced number (Some l) = by (nat_lt 1 number) l.second
   where
-    by : (late second : Bool) → option_map loosened (if late then (if second then Some l else None) else Some l) ≡ (if late then (if second then Some (loosened l) else None) else Some (loosened l))
+    by : (late second : Bool) → option_map staged_unsynced (if late then (if second then Some l else None) else Some l) ≡ (if late then (if second then Some (staged_unsynced l) else None) else Some (staged_unsynced l))
     by true true = refl
     by true false = refl
     by false second = refl
@@ -112,10 +112,10 @@ state_staged number before later = by (nat_lt 3 number)
     by true = refl
     by false = refl
 
-loose_staged : (number : ℕ) (p : Place) (before later : Standing) (bytes : ℕ) → option_map loosened (loose_broken number p before later bytes) ≡ loose_broken number p (stage_of before) (stage_of later) bytes
-loose_staged number p before later bytes = by (number == 4) (number == 11)
+unsynced_staged : (number : ℕ) (p : Place) (before later : Standing) (bytes : ℕ) → option_map staged_unsynced (unsynced_broken number p before later bytes) ≡ unsynced_broken number p (stage_of before) (stage_of later) bytes
+unsynced_staged number p before later bytes = by (number == 4) (number == 11)
   where
-    by : (fourth last : Bool) → option_map loosened (if fourth then Some (record { second = p.second; state = before; place = p }) else (if last then Some (record { second = not p.second; state = later; place = with_record p bytes }) else None))
+    by : (fourth last : Bool) → option_map staged_unsynced (if fourth then Some (record { second = p.second; state = before; place = p }) else (if last then Some (record { second = not p.second; state = later; place = with_record p bytes }) else None))
         ≡ (if fourth then Some (record { second = p.second; state = stage_of before; place = p }) else (if last then Some (record { second = not p.second; state = stage_of later; place = with_record p bytes }) else None))
     by true last = refl
     by false true = refl
@@ -190,14 +190,14 @@ module _ (old : Held Standing) (call : HostCall) where
           state = s;
           place = place_after old.place v.record_bytes v.snapshot_bytes;
           ready = true;
-          loose = None;
+          unsynced = None;
           first = old.first - on_first (front n);
           second = old.second - on_second (front n);
         } ≡ done_with h later w
     made_with n a s b v c =
-        ap (λ (x : ℕ). record { state = s; place = place_after old.place v.record_bytes v.snapshot_bytes; ready = true; loose = None; first = old.first - on_first (front x); second = old.second - on_second (front x) }) a
-        ∙ (ap (λ (x : Stage). record { state = x; place = place_after old.place v.record_bytes v.snapshot_bytes; ready = true; loose = None; first = old.first - on_first (front (calls_for h w)); second = old.second - on_second (front (calls_for h w)) }) b
-        ∙ ap (λ (x : Written). record { state = later; place = place_after old.place x.record_bytes x.snapshot_bytes; ready = true; loose = None; first = old.first - on_first (front (calls_for h w)); second = old.second - on_second (front (calls_for h w)) }) c)
+        ap (λ (x : ℕ). record { state = s; place = place_after old.place v.record_bytes v.snapshot_bytes; ready = true; unsynced = None; first = old.first - on_first (front x); second = old.second - on_second (front x) }) a
+        ∙ (ap (λ (x : Stage). record { state = x; place = place_after old.place v.record_bytes v.snapshot_bytes; ready = true; unsynced = None; first = old.first - on_first (front (calls_for h w)); second = old.second - on_second (front (calls_for h w)) }) b
+        ∙ ap (λ (x : Written). record { state = later; place = place_after old.place x.record_bytes x.snapshot_bytes; ready = true; unsynced = None; first = old.first - on_first (front (calls_for h w)); second = old.second - on_second (front (calls_for h w)) }) c)
 
     pub done_so : staged new ≡ stepped h call.clock call.input
     done_so =
@@ -217,7 +217,7 @@ module _ (old : Held Standing) (call : HostCall) where
     nothing_said = ap (λ (o : Option ℕ). reply_unless o (step_reply h.state.config h.state.book call.clock call.input)) (sym fails)
 
   -- a sync failed
-  module _ (new : Held Standing) (is : Unsynced old new) where
+  module _ (new : Held Standing) (is : SyncFailed old new) where
     early_call : is.number ≤ calls_for h w
     early_call =
         let two : length (syncs old.ready) ≡ 2 = ap (λ (b : Bool). length (syncs b)) is.unready in
@@ -229,15 +229,15 @@ module _ (old : Held Standing) (call : HostCall) where
     no_step : nat_lt (length (syncs old.ready)) is.number ≡ false
     no_step = let two : length (syncs old.ready) ≡ 2 = ap (λ (b : Bool). length (syncs b)) is.unready in let most = is.most in grind (arith, nat_tests, two, most)
 
-    unsynced_so : staged new ≡ stepped h call.clock call.input
-    unsynced_so =
+    sync_failed_so : staged new ≡ stepped h call.clock call.input
+    sync_failed_so =
         ap staged is.became
-        ∙ (ap (λ (l : Option (Loose Stage)). record { state = h.state; place = h.place; ready = false; loose = l; first = 0; second = 0 }) (still_loose is.number old.loose)
-        ∙ (sym (ap (λ (b : Bool). if b then broken_with h (is.number - length (syncs h.ready)) later w else unsynced h is.number) no_step)
+        ∙ (ap (λ (l : Option (Unsynced Stage)). record { state = h.state; place = h.place; ready = false; unsynced = l; first = 0; second = 0 }) (still_unsynced is.number old.unsynced)
+        ∙ (sym (ap (λ (b : Bool). if b then broken_with h (is.number - length (syncs h.ready)) later w else sync_failed h is.number) no_step)
         ∙ sym (fails_so is.number unsynced_fails)))
 
-    unsynced_silent : None ≡ answered h call.clock call.input
-    unsynced_silent = nothing_said is.number unsynced_fails
+    sync_failed_silent : None ≡ answered h call.clock call.input
+    sync_failed_silent = nothing_said is.number unsynced_fails
 
   -- a call behind the syncs failed
   module _ (new : Held Standing) (is : Broken StandsNow bytes_kept Answers Follows after old new call) where
@@ -286,24 +286,24 @@ module _ (old : Held Standing) (call : HostCall) where
         ∙ place_by is.number old.place (bytes_of w.record_bytes) (bytes_in is.snapshot) (bytes_of w.snapshot_bytes) (λ high. ap bytes_of (snapped_one (omega (arith, high))))
 
     broken_as : (s : Stage) → s ≡ later
-        → record { state = state_broken is.number h.state s; place = place_broken is.number h.place (bytes_of w.record_bytes) (bytes_of w.snapshot_bytes); ready = false; loose = loose_broken is.number h.place h.state s (bytes_of w.record_bytes); first = 0; second = 0 }
+        → record { state = state_broken is.number h.state s; place = place_broken is.number h.place (bytes_of w.record_bytes) (bytes_of w.snapshot_bytes); ready = false; unsynced = unsynced_broken is.number h.place h.state s (bytes_of w.record_bytes); first = 0; second = 0 }
         ≡ broken_with h is.number later w
-    broken_as s same = ap (λ (x : Stage). record { state = state_broken is.number h.state x; place = place_broken is.number h.place (bytes_of w.record_bytes) (bytes_of w.snapshot_bytes); ready = false; loose = loose_broken is.number h.place h.state x (bytes_of w.record_bytes); first = 0; second = 0 }) same
+    broken_as s same = ap (λ (x : Stage). record { state = state_broken is.number h.state x; place = place_broken is.number h.place (bytes_of w.record_bytes) (bytes_of w.snapshot_bytes); ready = false; unsynced = unsynced_broken is.number h.place h.state x (bytes_of w.record_bytes); first = 0; second = 0 }) same
 
     staged_broken : staged new ≡ broken_with h is.number later w
     staged_broken =
         ap staged is.became
-        ∙ (ap (λ (x : Stage). record { state = x; place = place_broken is.number old.place (size_kept is.step) (bytes_in is.snapshot); ready = false; loose = option_map loosened (loose_broken is.number old.place old.state (after old.state is.step) (size_kept is.step)); first = 0; second = 0 })
+        ∙ (ap (λ (x : Stage). record { state = x; place = place_broken is.number old.place (size_kept is.step) (bytes_in is.snapshot); ready = false; unsynced = option_map staged_unsynced (unsynced_broken is.number old.place old.state (after old.state is.step) (size_kept is.step)); first = 0; second = 0 })
         (state_staged is.number old.state (after old.state is.step))
-        ∙ (ap (λ (x : Option (Loose Stage)). record { state = state_broken is.number h.state (stage_of (after old.state is.step)); place = place_broken is.number old.place (size_kept is.step) (bytes_in is.snapshot); ready = false; loose = x; first = 0; second = 0 })
-        (loose_staged is.number old.place old.state (after old.state is.step) (size_kept is.step) ∙ ap (loose_broken is.number h.place h.state (stage_of (after old.state is.step))) same_bytes)
-        ∙ (ap (λ (x : Place). record { state = state_broken is.number h.state (stage_of (after old.state is.step)); place = x; ready = false; loose = loose_broken is.number h.place h.state (stage_of (after old.state is.step)) (bytes_of w.record_bytes); first = 0; second = 0 }) same_place
+        ∙ (ap (λ (x : Option (Unsynced Stage)). record { state = state_broken is.number h.state (stage_of (after old.state is.step)); place = place_broken is.number old.place (size_kept is.step) (bytes_in is.snapshot); ready = false; unsynced = x; first = 0; second = 0 })
+        (unsynced_staged is.number old.place old.state (after old.state is.step) (size_kept is.step) ∙ ap (unsynced_broken is.number h.place h.state (stage_of (after old.state is.step))) same_bytes)
+        ∙ (ap (λ (x : Place). record { state = state_broken is.number h.state (stage_of (after old.state is.step)); place = x; ready = false; unsynced = unsynced_broken is.number h.place h.state (stage_of (after old.state is.step)) (bytes_of w.record_bytes); first = 0; second = 0 }) same_place
         ∙ broken_as (stage_of (after old.state is.step)) later_one)))
 
     broken_so : staged new ≡ stepped h call.clock call.input
     broken_so =
         staged_broken
-        ∙ (sym (ap (λ (b : Bool). if b then broken_with h (syncs_made + is.number - length (syncs h.ready)) later w else unsynced h (syncs_made + is.number)) is_step
+        ∙ (sym (ap (λ (b : Bool). if b then broken_with h (syncs_made + is.number - length (syncs h.ready)) later w else sync_failed h (syncs_made + is.number)) is_step
         ∙ ap (λ (n : ℕ). broken_with h n later w) same_number)
         ∙ sym (fails_so (syncs_made + is.number) broken_fails))
 
@@ -311,8 +311,8 @@ module _ (old : Held Standing) (call : HostCall) where
     broken_silent = nothing_said (syncs_made + is.number) broken_fails
 
   -- either
-  pub faulted_so : (new : Held Standing) → Unsynced old new ⊎ Broken StandsNow bytes_kept Answers Follows after old new call → (staged new ≡ stepped h call.clock call.input) × (None ≡ answered h call.clock call.input)
+  pub faulted_so : (new : Held Standing) → SyncFailed old new ⊎ Broken StandsNow bytes_kept Answers Follows after old new call → (staged new ≡ stepped h call.clock call.input) × (None ≡ answered h call.clock call.input)
   faulted_so new is = elim is [
-    | inl unsynced ↦ (unsynced_so new unsynced, unsynced_silent new unsynced)
+    | inl sync_failed ↦ (sync_failed_so new sync_failed, sync_failed_silent new sync_failed)
     | inr broken ↦ (broken_so new broken, broken_silent new broken)
   ]

@@ -1,4 +1,4 @@
 //! A host of a script on two disks in memory, of each of which one call may be made to fail.
 #![tactic(auto)]
 
-pub mod seat;
+pub mod simulated;

@@ -16,13 +16,13 @@ use Rattle.host_journal.specs.declared.reading.Counted.{Counted}
 use Rattle.host_journal.specs.declared.reading.DiskPlace.{DiskPlace}
 use Rattle.machine_keep.specs.Calls.{PairCalls, image_calls, kept_calls, record_calls, step_calls, sync_calls}
 use Rattle.machine_keep.specs.Course.{IsDue, IsSnapshotOf, is_many_with}
-use Rattle.machine_keep.specs.FaultLeft.{IsWithinReach, LeftAgain, left_of_fault, loose_image}
+use Rattle.machine_keep.specs.FaultLeft.{IsWithinReach, LeftAgain, left_of_fault, unsynced_image}
 use Rattle.machine_keep.specs.Faulted.{BrokenInMemory, Faulted, seen_on, state_before, wanted_calls}
 use Rattle.machine_keep.specs.Kept.{Kept, StandsFor, after_step, caught, is_many}
 use Rattle.machine_keep.specs.Stopped.{StopsAt, are_too_far}
-use Rattle.simulated_machine.specs.Held.{Held, Loose, Place, armed_at, four, is_many_at, place_at, schedule, seven, syncs, with_record, with_snapshot}
+use Rattle.simulated_machine.specs.Held.{Held, Unsynced, Place, armed_at, four, is_many_at, place_at, schedule, seven, syncs, with_record, with_snapshot}
 use Rattle.simulated_machine.specs.IsHeld.{HasFaults, HasMade, IsHeld}
-use Rattle.simulated_machine.specs.Seated.{Broken, bytes_in, loose_broken, place_broken, state_broken}
+use Rattle.simulated_machine.specs.AfterStep.{Broken, bytes_in, unsynced_broken, place_broken, state_broken}
 use Rattle.simulated_machine.proofs.PlaceLemmas.{pair_in_order, same_place}
 use Rattle.simulated_machine.proofs.MadeLemmas.{disks_of, fault_in, first_armed, made_as, more_faults, near_syncs, same_number, second_armed}
 
@@ -127,8 +127,8 @@ module _ {M S T : Type 0} (state : M → S) (stands : List (List ℕ) → S → 
   abbrev synced_now : Image → Result Counted DiskPlace
   synced_now image = pair_of (seen_on (first_disk new.journal)) (image_bytes image (second_disk new.journal).history)
 
-  abbrev held_as : S → Place → Option (Loose S) → Held S
-  held_as s p loose = record { state = s; place = p; ready = false; loose = loose; first = (first_disk new.journal).until_fault; second = (second_disk new.journal).until_fault }
+  abbrev held_as : S → Place → Option (Unsynced S) → Held S
+  held_as s p unsynced = record { state = s; place = p; ready = false; unsynced = unsynced; first = (first_disk new.journal).until_fault; second = (second_disk new.journal).until_fault }
 
   -- what the laws say of the call of this number
   record Left (number : ℕ) (image : Option (List ℕ)) : Type 0 where
@@ -138,8 +138,8 @@ module _ {M S T : Type 0} (state : M → S) (stands : List (List ℕ) → S → 
     taken : 4 < number → (state new.machine ≡ later) × (new.unsure ≡ None)
     reads_as : number ≤ 10 → now ≡ which payload (nat_lt 3 number) (Ok read)
     turned : 10 < number → IfSome image (λ i. (now ≡ snapshot_of i place) × stands (i ∷ []) later)
-    images : (one two : Image) → images_now one two ≡ left_of_fault (Ok read) place payload image number (loose_image number read.second one two)
-    synced : (last : Image) → synced_now last ≡ left_of_fault (Ok read) place payload image number (loose_image number read.second New last)
+    images : (one two : Image) → images_now one two ≡ left_of_fault (Ok read) place payload image number (unsynced_image number read.second one two)
+    synced : (last : Image) → synced_now last ≡ left_of_fault (Ok read) place payload image number (unsynced_image number read.second New last)
 
   module _ (is_unready : is_ready new.journal.pending ≡ false) (first_is : IsArmed (first_disk new.journal) (first_disk new.journal).until_fault) (second_is : IsArmed (second_disk new.journal) (second_disk new.journal).until_fault)
       (stood : stands read.list before) (stood_later : stands (read.list ++ payload ∷ []) later) (same_disk : read.second ≡ place.second) (ordered : read.start ≤ read.end) (same_generation : read.generation ≡ place.generation) where
@@ -177,7 +177,7 @@ module _ {M S T : Type 0} (state : M → S) (stands : List (List ℕ) → S → 
       is_place = refl;
       stood = stood;
       left = images;
-      unready = λ loose some. refl;
+      unready = λ unsynced some. refl;
       first = first_is;
       second = second_is;
     }
@@ -200,7 +200,7 @@ module _ {M S T : Type 0} (state : M → S) (stands : List (List ℕ) → S → 
         images = λ one two. images one two ∙ which_ok (is_new (if read.second then two else one));
         synced = λ image. synced image ∙ which_ok (is_new (if read.second then image else New));
       };
-      unready = λ loose some. refl;
+      unready = λ unsynced some. refl;
       first = first_is;
       second = second_is;
     }
@@ -215,7 +215,7 @@ module _ {M S T : Type 0} (state : M → S) (stands : List (List ℕ) → S → 
       is_place = grown;
       stood = stood_later;
       left = images;
-      unready = λ loose some. refl;
+      unready = λ unsynced some. refl;
       first = first_is;
       second = second_is;
     }
@@ -239,13 +239,13 @@ module _ {M S T : Type 0} (state : M → S) (stands : List (List ℕ) → S → 
         images = λ one two. images one two ∙ (turned_ok image (is_new (if read.second then one else two)) ∙ ap (λ (i : Image). Ok (if is_new i then with_image image else with_it)) (other_image read.second one two));
         synced = λ last. synced last ∙ (turned_ok image (is_new (if read.second then New else last)) ∙ ap (λ (i : Image). Ok (if is_new i then with_image image else with_it)) (other_image read.second New last));
       };
-      unready = λ loose some. refl;
+      unready = λ unsynced some. refl;
       first = first_is;
       second = second_is;
     }
 
     abbrev held_at : ℕ → Option (List ℕ) → Held S
-    held_at number image = held_as (state_broken number before later) (place_broken number (place_at read) (length payload) (bytes_in image)) (loose_broken number (place_at read) before later (length payload))
+    held_at number image = held_as (state_broken number before later) (place_broken number (place_at read) (length payload) (bytes_in image)) (unsynced_broken number (place_at read) before later (length payload))
 
     in_record : (number : ℕ) (image : Option (List ℕ)) → number ≤ 4 → Left number image → IsHeld state stands after new (held_at number image)
     in_record zero image few left = absurd (omega (arith, left.least))
@@ -353,11 +353,11 @@ module _ {M S C R T : Type 0} (state : M → S) (stands : List (List ℕ) → S 
     abbrev left_so : Image → Result Counted DiskPlace
     left_so image = left_of_fault (Ok held.read) kept_place payload_now image_of faulted.number image
 
-    same_left : (one two : Image) → left_of_fault (stored seen_on old.journal) kept_place payload_now image_of faulted.number (loose_image faulted.number kept_place.second one two)
-        ≡ left_so (loose_image faulted.number held.read.second one two)
+    same_left : (one two : Image) → left_of_fault (stored seen_on old.journal) kept_place payload_now image_of faulted.number (unsynced_image faulted.number kept_place.second one two)
+        ≡ left_so (unsynced_image faulted.number held.read.second one two)
     same_left one two =
-        ap (λ (r : Result Counted DiskPlace). left_of_fault r kept_place payload_now image_of faulted.number (loose_image faulted.number kept_place.second one two)) held.is_read
-        ∙ ap (λ (b : Bool). left_so (loose_image faulted.number b one two)) (sym is_at.0)
+        ap (λ (r : Result Counted DiskPlace). left_of_fault r kept_place payload_now image_of faulted.number (unsynced_image faulted.number kept_place.second one two)) held.is_read
+        ∙ ap (λ (b : Bool). left_so (unsynced_image faulted.number b one two)) (sym is_at.0)
 
     turned_to : (o : Option (List ℕ)) → image_of ≡ o → IsDue stands later_now kept_place (Some payload_now) o → 10 < faulted.number
         → IfSome o (λ i. (stored seen_on new.journal ≡ snapshot_of i kept_place) × stands (i ∷ []) later_now)
@@ -381,7 +381,7 @@ module _ {M S C R T : Type 0} (state : M → S) (stands : List (List ℕ) → S 
       state = state_broken faulted.number s (after s faulted.step);
       place = place_broken faulted.number p (length payload_now) (bytes_in image_of);
       ready = false;
-      loose = loose_broken faulted.number p s (after s faulted.step) (length payload_now);
+      unsynced = unsynced_broken faulted.number p s (after s faulted.step) (length payload_now);
       first = (first_disk new.journal).until_fault;
       second = (second_disk new.journal).until_fault;
     }

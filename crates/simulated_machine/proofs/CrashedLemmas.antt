@@ -15,8 +15,8 @@ use Rattle.machine_keep.specs.Course.{is_many_with}
 use Rattle.machine_keep.specs.Crash.{IsSnapshotBehind, IsSnapshotFor, LeftBehind, LeftExactly, keeps_step, left_of_step}
 use Rattle.machine_keep.specs.Faulted.{seen_on}
 use Rattle.machine_keep.specs.Kept.{Kept, StandsFor, after_step, caught}
-use Rattle.simulated_machine.specs.Crashed.{IsSnapshotDue, StandsAt, Stops, loose_in, place_stopped, place_unsynced, state_unsynced}
-use Rattle.simulated_machine.specs.Held.{Held, Loose, Place, is_many_at, place_at, with_record, with_snapshot}
+use Rattle.simulated_machine.specs.Crashed.{IsSnapshotDue, StandsAt, Stops, unsynced_in, place_stopped, place_unsynced, state_unsynced}
+use Rattle.simulated_machine.specs.Held.{Held, Unsynced, Place, is_many_at, place_at, with_record, with_snapshot}
 use Rattle.simulated_machine.specs.IsHeld.{IsHeld, Leaves}
 use Rattle.simulated_machine.proofs.DoneLemmas.{many_same}
 use Rattle.simulated_machine.proofs.PlaceLemmas.{IsInOrder, pair_in_order, same_place}
@@ -109,34 +109,34 @@ module _ {M S C R T : Type 0} (state : M → S) (stands : List (List ℕ) → S 
   at_once : (left : Counted) (s : S) (p : Place) (pair : Result Counted DiskPlace) → pair ≡ Ok left → place_at left ≡ p → stands left.list s → StandsAt stands s p pair
   at_once left s p pair is place stood = record { left = left; is_left = is; is_place = place; stood = stood }
 
-  unsynced_in : (o : Option (Loose S)) → Leaves stands (state k.machine) k.journal held.read o → (stop : ℕ) (image : Image) (second_synced : Bool) → nat_lt 1 stop ≡ second_synced
+  sync_failed_in : (o : Option (Unsynced S)) → Leaves stands (state k.machine) k.journal held.read o → (stop : ℕ) (image : Image) (second_synced : Bool) → nat_lt 1 stop ≡ second_synced
       → StandsAt stands (state_unsynced h.state o stop image) (place_unsynced h.place o stop image) (both (if second_synced then bytes_now (first_disk k.journal).history else image_bytes image (first_disk k.journal).history) image)
-  unsynced_in None left stop image true is =
+  sync_failed_in None left stop image true is =
       at_once held.read h.state h.place _ (ap (λ l. pair_of l (image_bytes image (second_disk k.journal).history)) (bytes_stand (first_disk k.journal).history) ∙ left New image) (sym held.is_place) held.stood
-  unsynced_in None left stop image false is = at_once held.read h.state h.place _ (left image image) (sym held.is_place) held.stood
-  unsynced_in (Some loose) left stop image synced is = by synced loose.second is refl
+  sync_failed_in None left stop image false is = at_once held.read h.state h.place _ (left image image) (sym held.is_place) held.stood
+  sync_failed_in (Some unsynced) left stop image synced is = by synced unsynced.second is refl
     where
-      chosen : (new : Bool) (pair : Result Counted DiskPlace) → pair ≡ Ok (if new then held.read else left.before) → StandsAt stands (if new then h.state else loose.state) (if new then h.place else loose.place) pair
+      chosen : (new : Bool) (pair : Result Counted DiskPlace) → pair ≡ Ok (if new then held.read else left.before) → StandsAt stands (if new then h.state else unsynced.state) (if new then h.place else unsynced.place) pair
       chosen true pair is = at_once held.read h.state h.place pair is (sym held.is_place) held.stood
-      chosen false pair is = at_once left.before loose.state loose.place pair is (sym left.place) left.stood
+      chosen false pair is = at_once left.before unsynced.state unsynced.place pair is (sym left.place) left.stood
 
-      so : (i j : Image) → i ≡ j → (pair : Result Counted DiskPlace) → pair ≡ Ok (if is_new i then held.read else left.before) → StandsAt stands (if is_new j then h.state else loose.state) (if is_new j then h.place else loose.place) pair
-      so i j same pair is = subst (λ x. StandsAt stands (if is_new x then h.state else loose.state) (if is_new x then h.place else loose.place) pair) same (chosen (is_new i) pair is)
+      so : (i j : Image) → i ≡ j → (pair : Result Counted DiskPlace) → pair ≡ Ok (if is_new i then held.read else left.before) → StandsAt stands (if is_new j then h.state else unsynced.state) (if is_new j then h.place else unsynced.place) pair
+      so i j same pair is = subst (λ x. StandsAt stands (if is_new x then h.state else unsynced.state) (if is_new x then h.place else unsynced.place) pair) same (chosen (is_new i) pair is)
 
-      in_it : (b c : Bool) → nat_lt 1 stop ≡ b → loose.second ≡ c → (if b && not c then New else image) ≡ loose_in stop loose.second image
+      in_it : (b c : Bool) → nat_lt 1 stop ≡ b → unsynced.second ≡ c → (if b && not c then New else image) ≡ unsynced_in stop unsynced.second image
       in_it b c one two = ap (λ x. if x && not c then New else image) (sym one) ∙ ap (λ x. if nat_lt 1 stop && not x then New else image) (sym two)
 
-      by : (b c : Bool) → nat_lt 1 stop ≡ b → loose.second ≡ c
-          → StandsAt stands (if is_new (loose_in stop loose.second image) then h.state else loose.state) (if is_new (loose_in stop loose.second image) then h.place else loose.place)
+      by : (b c : Bool) → nat_lt 1 stop ≡ b → unsynced.second ≡ c
+          → StandsAt stands (if is_new (unsynced_in stop unsynced.second image) then h.state else unsynced.state) (if is_new (unsynced_in stop unsynced.second image) then h.place else unsynced.place)
           (both (if b then bytes_now (first_disk k.journal).history else image_bytes image (first_disk k.journal).history) image)
-      by true true one two = so image (loose_in stop loose.second image) (in_it true true one two) _ (left.synced image ∙ ap (λ x. Ok (if is_new (if x then image else New) then held.read else left.before)) two)
-      by true false one two = so New (loose_in stop loose.second image) (in_it true false one two) _ (left.synced image ∙ ap (λ x. Ok (if is_new (if x then image else New) then held.read else left.before)) two)
-      by false true one two = so image (loose_in stop loose.second image) (in_it false true one two) _ (left.images image image ∙ ap (λ x. Ok (if is_new (if x then image else image) then held.read else left.before)) two)
-      by false false one two = so image (loose_in stop loose.second image) (in_it false false one two) _ (left.images image image ∙ ap (λ x. Ok (if is_new (if x then image else image) then held.read else left.before)) two)
+      by true true one two = so image (unsynced_in stop unsynced.second image) (in_it true true one two) _ (left.synced image ∙ ap (λ x. Ok (if is_new (if x then image else New) then held.read else left.before)) two)
+      by true false one two = so New (unsynced_in stop unsynced.second image) (in_it true false one two) _ (left.synced image ∙ ap (λ x. Ok (if is_new (if x then image else New) then held.read else left.before)) two)
+      by false true one two = so image (unsynced_in stop unsynced.second image) (in_it false true one two) _ (left.images image image ∙ ap (λ x. Ok (if is_new (if x then image else image) then held.read else left.before)) two)
+      by false false one two = so image (unsynced_in stop unsynced.second image) (in_it false false one two) _ (left.images image image ∙ ap (λ x. Ok (if is_new (if x then image else image) then held.read else left.before)) two)
 
   pub unsynced_held : (stop : ℕ) (image : Image) (one two : List ℕ) → one ≡ (if nat_lt 1 stop then bytes_now (first_disk k.journal).history else image_bytes image (first_disk k.journal).history) → two ≡ image_bytes image (second_disk k.journal).history
-      → StandsAt stands (state_unsynced h.state h.loose stop image) (place_unsynced h.place h.loose stop image) (pair_of one two)
+      → StandsAt stands (state_unsynced h.state h.unsynced stop image) (place_unsynced h.place h.unsynced stop image) (pair_of one two)
   unsynced_held stop image one two is_one is_two =
-      subst (λ l. StandsAt stands (state_unsynced h.state h.loose stop image) (place_unsynced h.place h.loose stop image) (pair_of l two)) (sym is_one)
-      (subst (λ l. StandsAt stands (state_unsynced h.state h.loose stop image) (place_unsynced h.place h.loose stop image) (pair_of (if nat_lt 1 stop then bytes_now (first_disk k.journal).history else image_bytes image (first_disk k.journal).history) l)) (sym is_two)
-      (unsynced_in h.loose held.left stop image (nat_lt 1 stop) refl))
+      subst (λ l. StandsAt stands (state_unsynced h.state h.unsynced stop image) (place_unsynced h.place h.unsynced stop image) (pair_of l two)) (sym is_one)
+      (subst (λ l. StandsAt stands (state_unsynced h.state h.unsynced stop image) (place_unsynced h.place h.unsynced stop image) (pair_of (if nat_lt 1 stop then bytes_now (first_disk k.journal).history else image_bytes image (first_disk k.journal).history) l)) (sym is_two)
+      (sync_failed_in h.unsynced held.left stop image (nat_lt 1 stop) refl))

@@ -21,7 +21,7 @@ use Rattle.machine_keep.specs.Stopped.{first_fault}
 use Rattle.machine_keep.proofs.LeftLemmas.{is_image}
 use Rattle.simulated_machine.specs.Held.{Held, calls_of, failing, four, is_many_at, on_first, on_second, place_after, place_at, schedule, seven, syncs}
 use Rattle.simulated_machine.specs.IsHeld.{IsHeld}
-use Rattle.simulated_machine.specs.Seated.{Done, HasSnapshot, IsBeyond}
+use Rattle.simulated_machine.specs.AfterStep.{Done, HasSnapshot, IsBeyond}
 use Rattle.simulated_machine.proofs.PlaceLemmas.{IsInOrder, pair_in_order, place_moved}
 use Rattle.simulated_machine.proofs.ScheduleLemmas.{beyond_front, by_disks, disks_of_step, first_counted, second_counted}
 
@@ -150,7 +150,7 @@ module _ {M S C R T : Type 0} (state : M → S) (stands : List (List ℕ) → S 
     state = after_step after h.state answered.step;
     place = place_after h.place (option_map (λ t. length (bytes t)) answered.step) (option_map length answered.image);
     ready = true;
-    loose = None;
+    unsynced = None;
     first = h.first - on_first (take made (schedule h));
     second = h.second - on_second (take made (schedule h));
   }
@@ -167,7 +167,7 @@ module _ {M S C R T : Type 0} (state : M → S) (stands : List (List ℕ) → S 
       is_place = place_now;
       stood = subst (stands now.list) became (subst (StandsFor stands (state new.machine)) is_now stands_now);
       left = left_so;
-      unready = λ loose is. absurd (cc is);
+      unready = λ unsynced is. absurd (cc is);
       first = armed_after (first_disk old.journal) (first_disk new.journal) h.first (on_first (take made (schedule h))) (first_calls calls) held.first spared_one made_one (first_counted calls ∙ ap on_first fronts);
       second = armed_after (second_disk old.journal) (second_disk new.journal) h.second (on_second (take made (schedule h))) (second_calls calls) held.second spared_two made_two (second_counted calls ∙ ap on_second fronts);
     }

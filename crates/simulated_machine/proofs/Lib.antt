@@ -4,6 +4,6 @@ mod DoneLemmas
 mod MadeLemmas
 mod PlaceLemmas
 mod ScheduleLemmas
-mod SeatLemmas
-mod UnsyncedLemmas
+mod SimulatedLemmas
+mod SyncFailedLemmas
 mod StepLemmas

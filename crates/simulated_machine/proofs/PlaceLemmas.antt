@@ -1,4 +1,4 @@
--- Where a disk that counts has its first gate and its last, and where these are behind a step.
+-- Where a disk that counts has its first gate byte and its last, and where these are behind a step.
 use Rattle.std.specs.Prelude.{⊤, nat_le, option_map}
 use Rattle.std.proofs.Common.{◌≡◌, ◌∙◌, ℕ, ◌≤◌, Bool, true, false, not, if◌then◌else◌, List, length, drop, Option, None, Some, Result, Ok, Err, ap, arith, refl, sym, subst, ◌+◌}
 use Rattle.host_journal.specs.Format.{Body, body_of, records_of, stands}
@@ -10,7 +10,7 @@ use Rattle.machine_keep.specs.Course.{Moves}
 use Rattle.simulated_machine.specs.Held.{Place, place_after, place_at}
 
 -- ---- whatever two disks stand for
--- the first gate comes behind a head, a generation and a length, and the last one not before it
+-- the first gate byte comes behind a head, a generation and a length, and the last one not before it
 abbrev pub IsInOrder : Counted → Type 0
 IsInOrder k = (21 ≤ k.start) × (k.start ≤ k.end)
 
@@ -23,7 +23,7 @@ records_in_order second body (Ok records) = (omega arith, omega arith)
 records_in_order second body (Err at) = tt
 
 counted_in_order : (second : Bool) (body : Body) → InOrder (counted second body)
-counted_in_order second body = records_in_order second body (records_of body.gates)
+counted_in_order second body = records_in_order second body (records_of body.gate_bytes)
 
 body_in_order : (second : Bool) (o : Option Body) (next : Body → Result Counted DiskPlace) → ((body : Body) → InOrder (next body)) → InOrder (need_body second o next)
 body_in_order second None next each = tt

@@ -5,7 +5,7 @@ use Rattle.host_journal.specs.State.{State}
 use Rattle.machine_keep.specs.Calls.{PairCalls, first_calls, second_calls, step_calls}
 use Rattle.machine_keep.specs.Stopped.{first_fault}
 use Rattle.simulated_machine.specs.Held.{calls_of, failing, four, on_first, on_second, seven, syncs}
-use Rattle.simulated_machine.specs.Seated.{IsBeyond}
+use Rattle.simulated_machine.specs.AfterStep.{IsBeyond}
 
 -- of calls it is that of their disks
 pub by_disks : (first second : ℕ) (calls : PairCalls) → first_fault first second calls ≡ failing first second (map (λ c. c.0) calls)

@@ -1,4 +1,4 @@
--- What a seat holds behind a step.
+-- What a machine holds behind a step.
 use Rattle.std.specs.Prelude.{IsTrue, Result, min, nat_lt, option_map, unwrap_or}
 use Rattle.std.proofs.lemmas.Bool.Decides.{nat_tests}
 use Rattle.std.proofs.Common.{◌≡◌, ◌∙◌, ◌⊎◌, ⊎_elim, ℕ, zero, suc, ◌+◌, ◌-◌, ◌<◌, ◌≤◌, ◌^◌, ◌==◌, Bool, true, false, not, if◌then◌else◌, List, [], ◌∷◌, ◌++◌, length, take, Option, None, Some, IfSome, Err, Ok, ap, arith, inl, inr, refl, subst, sym}
@@ -10,13 +10,13 @@ use Rattle.host_journal.specs.declared.reading.DiskPlace.{DiskPlace}
 use Rattle.machine_keep.specs.Course.{IsInForm, IsRewritten}
 use Rattle.machine_keep.specs.Faulted.{seen_on}
 use Rattle.machine_keep.specs.Kept.{Kept, StandsFor, after_step}
-use Rattle.simulated_machine.specs.Held.{Held, Loose, Place, four, on_first, on_second, place_at, place_of, schedule, seven, syncs, with_record, with_snapshot}
+use Rattle.simulated_machine.specs.Held.{Held, Unsynced, Place, four, on_first, on_second, place_at, place_of, schedule, seven, syncs, with_record, with_snapshot}
 use Rattle.simulated_machine.specs.IsHeld.{HasFaults, HasMade, Holds, IsCounting, IsHeld, held_of}
-use Rattle.simulated_machine.specs.Seated.{Broken, Done, Unsynced, bytes_in, loose_disk_broken, loose_disk_still, place_broken}
+use Rattle.simulated_machine.specs.AfterStep.{Broken, Done, SyncFailed, bytes_in, unsynced_disk_broken, unsynced_disk_still, place_broken}
 use Rattle.simulated_machine.proofs.PlaceLemmas.{pair_in_order, place_moved}
-use Rattle.simulated_machine.proofs.SeatLemmas.{broken_there, counted_there, flag_breaks, flag_stays, is_view, loose_there, still_there}
+use Rattle.simulated_machine.proofs.SimulatedLemmas.{broken_there, counted_there, flag_breaks, flag_stays, is_view, unsynced_there, still_there}
 
-flag_of : {S : Type 0} (f : Bool → Loose S) → ((b : Bool) → (f b).second ≡ b) → (flag : Option Bool) → option_map (λ (l : Loose S). l.second) (option_map f flag) ≡ flag
+flag_of : {S : Type 0} (f : Bool → Unsynced S) → ((b : Bool) → (f b).second ≡ b) → (flag : Option Bool) → option_map (λ (l : Unsynced S). l.second) (option_map f flag) ≡ flag
 flag_of f is None = refl
 flag_of f is (Some b) = ap Some (is b)
 
@@ -96,7 +96,7 @@ module _ {M S C R T F : Type 0} (fixed : S → F) (state : M → S) (stands : Li
   -- ---- it was answered
   module _ (call : C) (reply : R) (it : (x : Held S) × IsHeld state stands after new x × Done stands bytes answers follows after h x call reply) where
     answered_view : now None ≡ it.0
-    answered_view = is_view state stands after new it.0 it.1 None (ap (λ (x : Held S). option_map (λ l. l.second) x.loose) it.2.became)
+    answered_view = is_view state stands after new it.0 it.1 None (ap (λ (x : Held S). option_map (λ l. l.second) x.unsynced) it.2.became)
 
     pub answered_ready : IsTrue (is_ready new.journal.pending)
     answered_ready = subst (λ b. IsTrue b) (sym (ap (λ (x : Held S). x.ready) it.2.became) ∙ it.1.is_ready) refl
@@ -115,42 +115,42 @@ module _ {M S C R T F : Type 0} (fixed : S → F) (state : M → S) (stands : Li
     }
 
     pub answered_counts : (second : Bool) → second ≡ new.journal.second → IsAt new.journal (stored seen_on new.journal) → IsCounting new.journal None second
-    answered_counts second is at = record { is_second = is ∙ sym (counted_there new.journal (stored seen_on new.journal) at); is_loose = tt }
+    answered_counts second is at = record { is_second = is ∙ sym (counted_there new.journal (stored seen_on new.journal) at); is_unsynced = tt }
 
   -- ---- it met a fault
   abbrev Fault : Held S → C → Type 0
-  Fault x call = ((unsynced : Unsynced h x) × HasMade old.journal new.journal (take unsynced.number (schedule h)))
+  Fault x call = ((sync_failed : SyncFailed h x) × HasMade old.journal new.journal (take sync_failed.number (schedule h)))
       ⊎ ((broken : Broken stands bytes answers follows after h x call) × HasMade old.journal new.journal (take (length (syncs h.ready) + broken.number) (schedule h)))
 
-  own_flag : option_map (λ l. l.second) h.loose ≡ flag
+  own_flag : option_map (λ l. l.second) h.unsynced ≡ flag
   own_flag = flag_of _ (λ b. refl) flag
 
   -- how the flag is told from the calls that were made
   pub record Tells (flag_now : Option Bool) (first second : ℕ) : Type 0 where
     pub first_made : length (first_disk new.journal).history.log - length (first_disk old.journal).history.log ≡ first
     pub second_made : length (second_disk new.journal).history.log - length (second_disk old.journal).history.log ≡ second
-    pub unsynced : is_ready old.journal.pending ≡ false → first + second ≤ 2 → flag_now ≡ loose_disk_still (first + second) flag
-    pub ready : is_ready old.journal.pending ≡ true → first + second < 2 ^ 64 → flag_now ≡ loose_disk_broken (first + second) second
-    pub again : is_ready old.journal.pending ≡ false → 2 < first + second → first + second < 2 ^ 64 → flag_now ≡ loose_disk_broken (first + second - 2) (second - 1)
+    pub sync_failed : is_ready old.journal.pending ≡ false → first + second ≤ 2 → flag_now ≡ unsynced_disk_still (first + second) flag
+    pub ready : is_ready old.journal.pending ≡ true → first + second < 2 ^ 64 → flag_now ≡ unsynced_disk_broken (first + second) second
+    pub again : is_ready old.journal.pending ≡ false → 2 < first + second → first + second < 2 ^ 64 → flag_now ≡ unsynced_disk_broken (first + second - 2) (second - 1)
 
   module _ (flag_now : Option Bool) (first second : ℕ) (tells : Tells flag_now first second) where
-    unsynced_flag : (ready : Bool) → is_ready old.journal.pending ≡ ready → ready ≡ false → (number : ℕ) → 1 ≤ number → number ≤ 2 → HasMade old.journal new.journal (take number (syncs ready ++ behind_syncs h.place.second)) → flag_now ≡ loose_disk_still number flag
+    unsynced_flag : (ready : Bool) → is_ready old.journal.pending ≡ ready → ready ≡ false → (number : ℕ) → 1 ≤ number → number ≤ 2 → HasMade old.journal new.journal (take number (syncs ready ++ behind_syncs h.place.second)) → flag_now ≡ unsynced_disk_still number flag
     unsynced_flag true is never number least most made = absurd (cc never)
     unsynced_flag false is never zero least most made = absurd (omega (arith, least))
     unsynced_flag false is never (suc zero) least most made =
         let one : first ≡ 1 = omega (arith, made.first, tells.first_made) in
         let two : second ≡ 0 = omega (arith, made.second, tells.second_made) in
         let sum : first + second ≡ 1 = omega (arith, one, two) in
-        tells.unsynced is (omega (arith, sum)) ∙ ap (λ (n : ℕ). loose_disk_still n flag) sum
+        tells.sync_failed is (omega (arith, sum)) ∙ ap (λ (n : ℕ). unsynced_disk_still n flag) sum
     unsynced_flag false is never (suc (suc zero)) least most made =
         let one : first ≡ 1 = omega (arith, made.first, tells.first_made) in
         let two : second ≡ 1 = omega (arith, made.second, tells.second_made) in
         let sum : first + second ≡ 2 = omega (arith, one, two) in
-        tells.unsynced is (omega (arith, sum)) ∙ ap (λ (n : ℕ). loose_disk_still n flag) sum
+        tells.sync_failed is (omega (arith, sum)) ∙ ap (λ (n : ℕ). unsynced_disk_still n flag) sum
     unsynced_flag false is never (suc (suc (suc n))) least most made = absurd (omega (arith, most))
 
     broken_flag : (ready : Bool) → is_ready old.journal.pending ≡ ready → (number : ℕ) → 1 ≤ number → number ≤ 11 → HasMade old.journal new.journal (take (length (syncs ready) + number) (syncs ready ++ behind_syncs h.place.second))
-        → flag_now ≡ loose_disk_broken number (on_second (take number (behind_syncs h.place.second)))
+        → flag_now ≡ unsynced_disk_broken number (on_second (take number (behind_syncs h.place.second)))
     broken_flag true is number least most made =
         let calls = take number (behind_syncs h.place.second) in
         let all : length calls ≡ number = taken_all number (behind_syncs h.place.second) (omega (arith, most, length_behind h.place.second)) in
@@ -160,7 +160,7 @@ module _ {M S C R T F : Type 0} (fixed : S → F) (state : M → S) (stands : Li
         let twos : on_second (take (length (syncs true) + number) (syncs true ++ behind_syncs h.place.second)) ≡ on_second calls = ap (λ (n : ℕ). on_second (take n (behind_syncs h.place.second))) plain in
         let two : second ≡ on_second calls = omega (arith, made.second, tells.second_made, twos) in
         let sum : first + second ≡ number = omega (arith, made.first, tells.first_made, made.second, tells.second_made, both, all, ones, twos) in
-        tells.ready is (omega (arith, sum, most)) ∙ (ap (λ (n : ℕ). loose_disk_broken n second) sum ∙ ap (loose_disk_broken number) two)
+        tells.ready is (omega (arith, sum, most)) ∙ (ap (λ (n : ℕ). unsynced_disk_broken n second) sum ∙ ap (unsynced_disk_broken number) two)
     broken_flag false is number least most made =
         let calls = take number (behind_syncs h.place.second) in
         let all : length calls ≡ number = taken_all number (behind_syncs h.place.second) (omega (arith, most, length_behind h.place.second)) in
@@ -171,7 +171,7 @@ module _ {M S C R T F : Type 0} (fixed : S → F) (state : M → S) (stands : Li
         let two : second - 1 ≡ on_second calls = omega (arith, made.second, tells.second_made, twos) in
         let sum : first + second ≡ number + 2 = omega (arith, made.first, tells.first_made, made.second, tells.second_made, both, all, ones, twos) in
         let few : first + second - 2 ≡ number = omega (arith, sum) in
-        tells.again is (omega (arith, sum, least)) (omega (arith, sum, most)) ∙ (ap (λ (n : ℕ). loose_disk_broken n (second - 1)) few ∙ ap (loose_disk_broken number) two)
+        tells.again is (omega (arith, sum, least)) (omega (arith, sum, most)) ∙ (ap (λ (n : ℕ). unsynced_disk_broken n (second - 1)) few ∙ ap (unsynced_disk_broken number) two)
 
     fourth_is : (number : ℕ) → number ≡ 4 → (on_second (take number (behind_syncs h.place.second)) == 4) ≡ h.place.second
     fourth_is number is = subst (λ (n : ℕ). (on_second (take n (behind_syncs h.place.second)) == 4) ≡ h.place.second) (sym is) (fourth h.place.second)
@@ -180,17 +180,17 @@ module _ {M S C R T F : Type 0} (fixed : S → F) (state : M → S) (stands : Li
     eleventh_is number is = subst (λ (n : ℕ). (on_second (take n (behind_syncs h.place.second)) == 7) ≡ not h.place.second) (sym is) (eleventh h.place.second)
 
     module _ (call : C) (x : Held S) (is : IsHeld state stands after new x) where
-      flag_so : Fault x call → option_map (λ l. l.second) x.loose ≡ flag_now
+      flag_so : Fault x call → option_map (λ l. l.second) x.unsynced ≡ flag_now
       flag_so = ⊎_elim
-          (λ u. ap (λ (y : Held S). option_map (λ l. l.second) y.loose) u.0.became ∙ (flag_stays u.0.number h.loose ∙ (ap (loose_disk_still u.0.number) own_flag ∙ sym (unsynced_flag h.ready refl u.0.unready u.0.number u.0.least u.0.most u.1))))
-          (λ b. ap (λ (y : Held S). option_map (λ l. l.second) y.loose) b.0.became ∙ (flag_breaks b.0.number h.place h.state (after h.state b.0.step) (length (bytes b.0.step)) (on_second (take b.0.number (behind_syncs h.place.second))) (fourth_is b.0.number) (eleventh_is b.0.number)
+          (λ u. ap (λ (y : Held S). option_map (λ l. l.second) y.unsynced) u.0.became ∙ (flag_stays u.0.number h.unsynced ∙ (ap (unsynced_disk_still u.0.number) own_flag ∙ sym (unsynced_flag h.ready refl u.0.unready u.0.number u.0.least u.0.most u.1))))
+          (λ b. ap (λ (y : Held S). option_map (λ l. l.second) y.unsynced) b.0.became ∙ (flag_breaks b.0.number h.place h.state (after h.state b.0.step) (length (bytes b.0.step)) (on_second (take b.0.number (behind_syncs h.place.second))) (fourth_is b.0.number) (eleventh_is b.0.number)
           ∙ sym (broken_flag h.ready refl b.0.number b.0.least b.0.most b.1)))
 
       faulted_view : Fault x call → now flag_now ≡ x
       faulted_view fault = is_view state stands after new x is flag_now (flag_so fault)
 
-      pub faulted_so : Fault x call → Unsynced h (now flag_now) ⊎ Broken stands bytes answers follows after h (now flag_now) call
-      faulted_so fault = ⊎_elim (λ u. inl (subst (Unsynced h) (sym (faulted_view fault)) u.0)) (λ b. inr (subst (λ y. Broken stands bytes answers follows after h y call) (sym (faulted_view fault)) b.0)) fault
+      pub faulted_so : Fault x call → SyncFailed h (now flag_now) ⊎ Broken stands bytes answers follows after h (now flag_now) call
+      faulted_so fault = ⊎_elim (λ u. inl (subst (SyncFailed h) (sym (faulted_view fault)) u.0)) (λ b. inr (subst (λ y. Broken stands bytes answers follows after h y call) (sym (faulted_view fault)) b.0)) fault
 
       fixed_so : Fault x call → fixed x.state ≡ fixed h.state
       fixed_so = ⊎_elim (λ u. ap (λ (y : Held S). fixed y.state) u.0.became)
@@ -230,12 +230,12 @@ module _ {M S C R T F : Type 0} (fixed : S → F) (state : M → S) (stands : Li
       pub faulted_counts : Fault x call → (second : Bool) → IsCounting old.journal flag second → IsCounting new.journal flag_now (unwrap_or flag_now second)
       faulted_counts fault second counts = record {
         is_second = (ap (λ o. unwrap_or o second) (sym (flag_so fault)) ∙ there fault) ∙ sym (ap (λ (y : Held S). y.place.second) (faulted_view fault));
-        is_loose = loose_there flag_now second;
+        is_unsynced = unsynced_there flag_now second;
       }
         where
-          there : Fault x call → unwrap_or (option_map (λ l. l.second) x.loose) second ≡ x.place.second
+          there : Fault x call → unwrap_or (option_map (λ l. l.second) x.unsynced) second ≡ x.place.second
           there = ⊎_elim
-              (λ u. (ap (λ (y : Held S). unwrap_or (option_map (λ l. l.second) y.loose) second) u.0.became ∙ (ap (λ o. unwrap_or o second) (flag_stays u.0.number h.loose ∙ ap (loose_disk_still u.0.number) own_flag)
-              ∙ (still_there u.0.number flag second counts.is_loose ∙ counts.is_second))) ∙ sym (ap (λ (y : Held S). y.place.second) u.0.became))
-              (λ b. (ap (λ (y : Held S). unwrap_or (option_map (λ l. l.second) y.loose) second) b.0.became ∙ broken_there b.0.number h.place h.state (after h.state b.0.step) (length (bytes b.0.step)) (bytes_in b.0.snapshot) second b.0.most counts.is_second)
+              (λ u. (ap (λ (y : Held S). unwrap_or (option_map (λ l. l.second) y.unsynced) second) u.0.became ∙ (ap (λ o. unwrap_or o second) (flag_stays u.0.number h.unsynced ∙ ap (unsynced_disk_still u.0.number) own_flag)
+              ∙ (still_there u.0.number flag second counts.is_unsynced ∙ counts.is_second))) ∙ sym (ap (λ (y : Held S). y.place.second) u.0.became))
+              (λ b. (ap (λ (y : Held S). unwrap_or (option_map (λ l. l.second) y.unsynced) second) b.0.became ∙ broken_there b.0.number h.place h.state (after h.state b.0.step) (length (bytes b.0.step)) (bytes_in b.0.snapshot) second b.0.most counts.is_second)
               ∙ sym (ap (λ (y : Held S). y.place.second) b.0.became))

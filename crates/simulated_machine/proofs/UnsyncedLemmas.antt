@@ -19,9 +19,9 @@ use Rattle.machine_keep.specs.FaultLeft.{LeftStill}
 use Rattle.machine_keep.specs.Faulted.{Unsettled, seen_on}
 use Rattle.machine_keep.specs.Kept.{Kept, caught}
 use Rattle.machine_keep.specs.Stopped.{StopsAt}
-use Rattle.simulated_machine.specs.Held.{Held, Loose, armed_at, four, schedule, seven, syncs}
-use Rattle.simulated_machine.specs.IsHeld.{HasFaults, HasMade, IsHeld, Leaves, LeavesLoose}
-use Rattle.simulated_machine.specs.Seated.{Unsynced, loose_still}
+use Rattle.simulated_machine.specs.Held.{Held, Unsynced, armed_at, four, schedule, seven, syncs}
+use Rattle.simulated_machine.specs.IsHeld.{HasFaults, HasMade, IsHeld, Leaves, LeavesUnsynced}
+use Rattle.simulated_machine.specs.AfterStep.{SyncFailed, unsynced_still}
 use Rattle.simulated_machine.proofs.MadeLemmas.{disks_of, fault_in, first_armed, made_as, more_faults, same_number, second_armed}
 
 module _ {M S T : Type 0} (state : M → S) (stands : List (List ℕ) → S → Type 0) (after : S → T → S) (old new : Kept M DiskState T) (h : Held S) (most : ℕ)
@@ -71,12 +71,12 @@ module _ {M S T : Type 0} (state : M → S) (stands : List (List ℕ) → S → 
       pair_was true first_image one two
       ∙ (ap (λ (l : List ℕ). pair_of l (image_bytes two (second_disk old.journal).history)) (bytes_stand (first_disk old.journal).history) ∙ left New two)
 
-  module _ (loose : Loose S) (left : LeavesLoose stands (state old.machine) old.journal held.read loose) where
+  module _ (unsynced : Unsynced S) (left : LeavesUnsynced stands (state old.machine) old.journal held.read unsynced) where
     abbrev either : Bool → Result Counted DiskPlace
     either b = Ok (if b then held.read else left.before)
 
-    some_left : (sure second : Bool) → loose.second ≡ second → ((image : Image) → image_bytes image (first_disk new.journal).history ≡ first_was sure image)
-        → Leaves stands (state new.machine) new.journal held.read (if sure then (if second then Some loose else None) else Some loose)
+    some_left : (sure second : Bool) → unsynced.second ≡ second → ((image : Image) → image_bytes image (first_disk new.journal).history ≡ first_was sure image)
+        → Leaves stands (state new.machine) new.journal held.read (if sure then (if second then Some unsynced else None) else Some unsynced)
     some_left false second is first_image = record {
       is_state = left.is_state ∙ sym unsettled.unfound.became;
       before = left.before;
@@ -95,16 +95,16 @@ module _ {M S T : Type 0} (state : M → S) (stands : List (List ℕ) → S → 
     }
     some_left true false is first_image = λ one two. pair_was true first_image one two ∙ (left.synced two ∙ ap (λ (b : Bool). either (is_new (if b then two else New))) is)
 
-  left_still_at : (loose : Option (Loose S)) → Leaves stands (state old.machine) old.journal held.read loose → Leaves stands (state new.machine) new.journal held.read (loose_still still.number loose)
+  left_still_at : (unsynced : Option (Unsynced S)) → Leaves stands (state old.machine) old.journal held.read unsynced → Leaves stands (state new.machine) new.journal held.read (unsynced_still still.number unsynced)
   left_still_at None left = none_left (nat_lt 1 still.number) still.first_image left
-  left_still_at (Some loose) left = some_left loose left (nat_lt 1 still.number) loose.second refl still.first_image
+  left_still_at (Some unsynced) left = some_left unsynced left (nat_lt 1 still.number) unsynced.second refl still.first_image
 
   abbrev held_still : Held S
   held_still = record {
     state = h.state;
     place = h.place;
     ready = false;
-    loose = loose_still still.number h.loose;
+    unsynced = unsynced_still still.number h.unsynced;
     first = (first_disk new.journal).until_fault;
     second = (second_disk new.journal).until_fault;
   }
@@ -125,8 +125,8 @@ module _ {M S T : Type 0} (state : M → S) (stands : List (List ℕ) → S → 
     is_read = unsettled.same tt ∙ held.is_read;
     is_place = held.is_place;
     stood = held.stood;
-    left = left_still_at h.loose held.left;
-    unready = λ loose is. refl;
+    left = left_still_at h.unsynced held.left;
+    unready = λ unsynced is. refl;
     first = first_armed h.first h.second old.journal new.journal (sync_calls false) stopped.0 stops most few small fed_one fed_two;
     second = second_armed h.first h.second old.journal new.journal (sync_calls false) stopped.0 stops most few small fed_one fed_two;
   }
@@ -140,9 +140,9 @@ module _ {M S T : Type 0} (state : M → S) (stands : List (List ℕ) → S → 
   is_schedule : disks_of (sync_calls false) ++ after_syncs ≡ schedule h
   is_schedule = ap (λ (b : Bool). syncs b ++ after_syncs) (sym unready_held)
 
-  pub unsynced : (now : Held S) × IsHeld state stands after new now × HasFaults new.journal (most + 1)
-      × (is : Unsynced h (armed_at now 0)) × HasMade old.journal new.journal (take is.number (schedule h))
-  unsynced =
+  pub sync_failed : (now : Held S) × IsHeld state stands after new now × HasFaults new.journal (most + 1)
+      × (is : SyncFailed h (armed_at now 0)) × HasMade old.journal new.journal (take is.number (schedule h))
+  sync_failed =
       let at_most : stopped.0 ≤ 2 = stops.most in
       let place = fault_in h.first h.second old.journal new.journal (sync_calls false) stopped.0 stops after_syncs (schedule h) is_schedule in
       let made = made_as h.first h.second old.journal new.journal (sync_calls false) stopped.0 stops after_syncs (schedule h) is_schedule in (

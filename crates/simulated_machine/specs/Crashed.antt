@@ -7,20 +7,20 @@ use Rattle.host_journal.specs.declared.reading.Counted.{Counted}
 use Rattle.host_journal.specs.declared.reading.DiskPlace.{DiskPlace}
 use Rattle.machine_keep.specs.Crash.{IsSnapshotFor, keeps_step}
 use Rattle.machine_keep.specs.Kept.{after_step}
-use Rattle.simulated_machine.specs.Held.{Held, Loose, Place, is_many_at, place_at, with_record, with_snapshot}
+use Rattle.simulated_machine.specs.Held.{Held, Unsynced, Place, is_many_at, place_at, with_record, with_snapshot}
 
--- ---- before what was loose is made sure of
--- the image of the disk of which something is loose: it reads as it does where its sync was made
-abbrev pub loose_in : ℕ → Bool → Image → Image
-loose_in stop second image = if nat_lt 1 stop && not second then New else image
+-- ---- before what was unsynced is made sure of
+-- the image of the disk of which something is unsynced: it reads as it does where its sync was made
+abbrev pub unsynced_in : ℕ → Bool → Image → Image
+unsynced_in stop second image = if nat_lt 1 stop && not second then New else image
 
-abbrev pub state_unsynced : {S : Type 0} → S → Option (Loose S) → ℕ → Image → S
+abbrev pub state_unsynced : {S : Type 0} → S → Option (Unsynced S) → ℕ → Image → S
 state_unsynced state None stop image = state
-state_unsynced state (Some loose) stop image = if is_new (loose_in stop loose.second image) then state else loose.state
+state_unsynced state (Some unsynced) stop image = if is_new (unsynced_in stop unsynced.second image) then state else unsynced.state
 
-abbrev pub place_unsynced : {S : Type 0} → Place → Option (Loose S) → ℕ → Image → Place
+abbrev pub place_unsynced : {S : Type 0} → Place → Option (Unsynced S) → ℕ → Image → Place
 place_unsynced place None stop image = place
-place_unsynced place (Some loose) stop image = if is_new (loose_in stop loose.second image) then place else loose.place
+place_unsynced place (Some unsynced) stop image = if is_new (unsynced_in stop unsynced.second image) then place else unsynced.place
 
 -- ---- behind it
 -- a snapshot where the records are many with the step's, unless it is put off

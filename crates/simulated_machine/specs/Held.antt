@@ -5,7 +5,7 @@ use Rattle.host_journal.specs.declared.reading.DiskPlace.{DiskPlace}
 use Rattle.machine_keep.specs.Kept.{is_many}
 
 -- ---- places
--- whether the second disk counts, its generation, the bytes of its snapshot, and those of its records, each with a length and a gate
+-- whether the second disk counts, its generation, the bytes of its snapshot, and those of its records, each with a length and a gate byte
 pub record Place : Type 0 where
   pub second : Bool
   pub generation : ℕ
@@ -41,24 +41,24 @@ place_after p (Some record_bytes) (Some snapshot_bytes) = with_snapshot p snapsh
 -- ---- what is held
 -- What no sync has made sure of since a call of a disk failed. Until this disk is synced, or both are, a crash may leave what stands for
 -- this state, and is this place.
-pub record Loose (S : Type 0) : Type 0 where
+pub record Unsynced (S : Type 0) : Type 0 where
   pub second : Bool
   pub state : S
   pub place : Place
 
--- The state for which the disks stand as they read, and their place; whether the last call met no fault, and what is loose since; and
+-- The state for which the disks stand as they read, and their place; whether the last call met no fault, and what is unsynced since; and
 -- of each disk the number of the call that is to fail, counted from 1 from now on (0: none).
 pub record Held (S : Type 0) : Type 0 where
   pub state : S
   pub place : Place
   pub ready : Bool
-  pub loose : Option (Loose S)
+  pub unsynced : Option (Unsynced S)
   pub first : ℕ
   pub second : ℕ
 
 -- with this as what is fixed
 abbrev pub configured : {S F : Type 0} → (F → S → S) → F → Held S → Held S
-configured {S} with_fixed f h = record h { state = with_fixed f h.state; loose = option_map {T = Loose S} (λ l. record l { state = with_fixed f l.state }) h.loose }
+configured {S} with_fixed f h = record h { state = with_fixed f h.state; unsynced = option_map {T = Unsynced S} (λ l. record l { state = with_fixed f l.state }) h.unsynced }
 
 -- of each disk the call of this number is to fail
 abbrev pub armed_at : {S : Type 0} → Held S → ℕ → Held S

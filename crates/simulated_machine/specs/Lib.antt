@@ -1,4 +1,4 @@
 pub mod Crashed
 pub mod Held
 pub mod IsHeld
-pub mod Seated
+pub mod AfterStep

@@ -1,6 +1,6 @@
 //! Bookings of which a call of a disk fails, and crashes behind that.
 
-use crate::hosts::{Told, book, new_seat, stop_booking, stop_look};
+use crate::hosts::{Told, book, new_held_host, stop_booking, stop_look};
 use ps_disks::image::Image;
 use ps_time::memory::Memory;
 use std::alloc::Global;
@@ -17,10 +17,10 @@ static BOOKINGS: [(u64, Told, Told); 6] = [
 ];
 
 fn is_told(alloc: Global, call: u64, first: Told, second: Told) -> Result<bool, Memory> {
-    let mut seat = new_seat(alloc)?;
-    seat.fail_at(call);
-    let is_first = book(alloc, &mut seat)? == first;
-    let is_second = book(alloc, &mut seat)? == second;
+    let mut held_host = new_held_host(alloc)?;
+    held_host.fail_at(call);
+    let is_first = book(alloc, &mut held_host)? == first;
+    let is_second = book(alloc, &mut held_host)? == second;
     Ok(is_first && is_second)
 }
 
@@ -48,10 +48,10 @@ static CRASHES: [(u64, u64, Told, Told); 4] = [
 ];
 
 fn is_left(alloc: Global, call: u64, stop: u64, image: Image, told: Told) -> Result<bool, Memory> {
-    let mut seat = new_seat(alloc)?;
-    seat.fail_at(call);
-    let is_faulted = book(alloc, &mut seat)? == Told::Nothing;
-    let mut ended = stop_look(alloc, seat, stop, image)?;
+    let mut held_host = new_held_host(alloc)?;
+    held_host.fail_at(call);
+    let is_faulted = book(alloc, &mut held_host)? == Told::Nothing;
+    let mut ended = stop_look(alloc, held_host, stop, image)?;
     let is_left = book(alloc, &mut ended.0)? == told;
     Ok(is_faulted && ended.1 && is_left)
 }
@@ -93,9 +93,9 @@ fn is_ended(
     image: Image,
     told: Told,
 ) -> Result<bool, Memory> {
-    let mut seat = new_seat(alloc)?;
-    seat.fail_at(call);
-    let mut ended = stop_booking(alloc, seat, stop, image)?;
+    let mut held_host = new_held_host(alloc)?;
+    held_host.fail_at(call);
+    let mut ended = stop_booking(alloc, held_host, stop, image)?;
     let is_told = book(alloc, &mut ended.0)? == told;
     Ok(ended.1 == stopped && is_told)
 }

@@ -4,7 +4,7 @@ ghost use Rattle.host_model.specs.Conditions.{IsConfig};
 ghost use Rattle.host_model.specs.declared.input.Input.TheVariants.{Book as AsBook};
 ghost use Rattle.ps_time.specs.declared.class.Class.TheVariants.{Exclusive};
 
-use simulated_host::seat::Seat;
+use host_input_trials::config::config;
 use host_model::input::Input;
 use host_model::reply::Reply;
 use host_model::view::Page;
@@ -12,8 +12,8 @@ use ps_disks::image::Image;
 use ps_time::class::Class;
 use ps_time::memory::Memory;
 use rehearsal_script::script::Stop;
+use simulated_host::simulated::SimulatedHost;
 use std::alloc::Global;
-use host_input_trials::config::config;
 
 /// What came of a booking.
 #[derive(Clone, Copy, PartialEq, Eq)]
@@ -24,10 +24,10 @@ pub(crate) enum Told {
     Nothing,
 }
 
-pub(crate) fn new_seat(alloc: Global) -> Result<Seat, Memory>
-    ensures { IfOk result (λ seat. IsConfig seat.state.config) }
+pub(crate) fn new_held_host(alloc: Global) -> Result<SimulatedHost, Memory>
+    ensures { IfOk result (λ held_host. IsConfig held_host.state.config) }
 {
-    Seat::open(alloc, config(alloc)?)
+    SimulatedHost::open(alloc, config(alloc)?)
 }
 
 /// Ten seconds alone, from 100 on.
@@ -42,11 +42,11 @@ fn booking() -> Input
     }
 }
 
-pub(crate) fn book(alloc: Global, seat: &mut Seat) -> Result<Told, Memory>
-    requires { IsConfig seat.old.state.config }
-    ensures { OnOk result (IsConfig seat.new.state.config) }
+pub(crate) fn book(alloc: Global, held_host: &mut SimulatedHost) -> Result<Told, Memory>
+    requires { IsConfig held_host.old.state.config }
+    ensures { OnOk result (IsConfig held_host.new.state.config) }
 {
-    let told = match seat.act(alloc, 0, booking())? {
+    let told = match held_host.act(alloc, 0, booking())? {
         Some(Reply::Booked { .. }) => Told::Accepted,
         Some(_) => Told::Denied,
         None => Told::Nothing,
@@ -57,25 +57,25 @@ pub(crate) fn book(alloc: Global, seat: &mut Seat) -> Result<Told, Memory>
 /// The host behind a booking that is to stop, and whether it stopped.
 pub(crate) fn stop_booking(
     alloc: Global,
-    seat: Seat,
+    held_host: SimulatedHost,
     call: u64,
     image: Image,
-) -> Result<(Seat, bool), Memory>
-    requires { IsConfig seat.state.config }
+) -> Result<(SimulatedHost, bool), Memory>
+    requires { IsConfig held_host.state.config }
     ensures { IfOk result (λ ended. IsConfig ended.0.state.config) }
 {
-    seat.crash(alloc, 0, booking(), Stop { call, image })
+    held_host.crash(alloc, 0, booking(), Stop { call, image })
 }
 
 /// The same of a look at its first page.
 pub(crate) fn stop_look(
     alloc: Global,
-    seat: Seat,
+    held_host: SimulatedHost,
     call: u64,
     image: Image,
-) -> Result<(Seat, bool), Memory>
-    requires { IsConfig seat.state.config }
+) -> Result<(SimulatedHost, bool), Memory>
+    requires { IsConfig held_host.state.config }
     ensures { IfOk result (λ ended. IsConfig ended.0.state.config) }
 {
-    seat.crash(alloc, 0, Input::View(Page::Home), Stop { call, image })
+    held_host.crash(alloc, 0, Input::View(Page::Home), Stop { call, image })
 }

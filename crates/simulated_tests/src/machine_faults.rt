@@ -1,6 +1,6 @@
 //! A call of each disk is to fail: which step meets that, what the next one finds, and what a crash leaves before it.
 
-use crate::machines::{Seated, new_seat, opened, steps};
+use crate::machines::{GathererMachine, new_held_host, opened, steps};
 use ps_disks::image::Image;
 use ps_time::memory::Memory;
 use std::alloc::Global;
@@ -17,9 +17,9 @@ static FAULTS: [(u64, usize, usize); 6] = [
 ];
 
 // Bytes are gathered until a call fails: how many were answered.
-fn gathered(alloc: Global, seat: &mut Seated) -> Result<usize, Memory> {
+fn gathered(alloc: Global, held_host: &mut GathererMachine) -> Result<usize, Memory> {
     for bytes in 0..3_usize {
-        if steps(alloc, seat, Some(5))?.is_none() {
+        if steps(alloc, held_host, Some(5))?.is_none() {
             return Ok(bytes);
         }
     }
@@ -28,17 +28,17 @@ fn gathered(alloc: Global, seat: &mut Seated) -> Result<usize, Memory> {
 
 // The next step finds what stands, and no call fails any more.
 fn is_found(alloc: Global, call: u64, before: usize, behind: usize) -> Result<bool, Memory> {
-    let Some(mut seat) = new_seat(alloc)? else {
+    let Some(mut held_host) = new_held_host(alloc)? else {
         return Ok(false);
     };
-    seat.fail_at(call);
-    if gathered(alloc, &mut seat)? != before || seat.is_ready() {
+    held_host.fail_at(call);
+    if gathered(alloc, &mut held_host)? != before || held_host.is_ready() {
         return Ok(false);
     }
-    if steps(alloc, &mut seat, Some(6))? != Some(behind) {
+    if steps(alloc, &mut held_host, Some(6))? != Some(behind) {
         return Ok(false);
     }
-    Ok(seat.is_ready() && gathered(alloc, &mut seat)? == 3)
+    Ok(held_host.is_ready() && gathered(alloc, &mut held_host)? == 3)
 }
 
 fn each_found(alloc: Global, faults: &[(u64, usize, usize)]) -> Result<bool, Memory> {
@@ -73,15 +73,15 @@ fn is_left(
     image: Image,
     bytes: usize,
 ) -> Result<bool, Memory> {
-    let Some(mut seat) = new_seat(alloc)? else {
+    let Some(mut held_host) = new_held_host(alloc)? else {
         return Ok(false);
     };
-    seat.fail_at(call);
-    if gathered(alloc, &mut seat)? != 0 {
+    held_host.fail_at(call);
+    if gathered(alloc, &mut held_host)? != 0 {
         return Ok(false);
     }
     let six = crate::machines::asked(alloc, Some(6))?;
-    let (first, second) = seat.crash(alloc, six, stop, image)?;
+    let (first, second) = held_host.crash(alloc, six, stop, image)?;
     Ok(opened(alloc, first, second) == Some(bytes))
 }
 
@@ -104,17 +104,17 @@ fn a_crash_behind_a_fault_keeps_what_a_sync_made_sure_of(rt: HostRuntime) -> Res
 
 // The fourth call is to fail of a step, and a crash comes behind it, between two steps.
 fn is_left_between(alloc: Global, image: Image, bytes: usize) -> Result<bool, Memory> {
-    let Some(mut seat) = new_seat(alloc)? else {
+    let Some(mut held_host) = new_held_host(alloc)? else {
         return Ok(false);
     };
-    seat.fail_at(4);
-    if seat.fault_at()? != Some(4) || gathered(alloc, &mut seat)? != 0 {
+    held_host.fail_at(4);
+    if held_host.fault_at()? != Some(4) || gathered(alloc, &mut held_host)? != 0 {
         return Ok(false);
     }
-    if seat.fault_at()?.is_some() {
+    if held_host.fault_at()?.is_some() {
         return Ok(false);
     }
-    let (first, second) = seat.crash_now(image)?;
+    let (first, second) = held_host.crash_now(image)?;
     Ok(opened(alloc, first, second) == Some(bytes))
 }
 

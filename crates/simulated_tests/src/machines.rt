@@ -1,20 +1,20 @@
 //! Seats of gatherers.
 
 use machine_keep_tests::gatherer::Gatherer;
-use simulated_machine::seat::{Seat, Stepped};
 use ps_disks::memory_disk::MemoryDisk;
 use ps_disks::rack::{FRESH_FIRST, FRESH_SECOND};
 use ps_time::items::Items;
 use ps_time::memory::Memory;
+use simulated_machine::simulated::{SimulatedMachine, Stepped};
 use std::alloc::Global;
 
-pub type Seated = Seat<Gatherer>;
+pub type GathererMachine = SimulatedMachine<Gatherer>;
 
 // A gatherer of at most a thousand bytes, on new disks.
-pub fn new_seat(alloc: Global) -> Result<Option<Seated>, Memory> {
+pub fn new_held_host(alloc: Global) -> Result<Option<GathererMachine>, Memory> {
     let first = MemoryDisk::new(alloc, FRESH_FIRST.to_vec(alloc)?, Vec::new(alloc));
     let second = MemoryDisk::new(alloc, FRESH_SECOND.to_vec(alloc)?, Vec::new(alloc));
-    Ok(Seat::open(alloc, 1_000, first, second).ok())
+    Ok(SimulatedMachine::open(alloc, 1_000, first, second).ok())
 }
 
 // The gatherer for which the disks stand.
@@ -36,9 +36,13 @@ pub fn asked(alloc: Global, byte: Option<u8>) -> Result<Option<Items<u8>>, Memor
 }
 
 // How many bytes there were, where no call of a disk failed.
-pub fn steps(alloc: Global, seat: &mut Seated, byte: Option<u8>) -> Result<Option<usize>, Memory> {
+pub fn steps(
+    alloc: Global,
+    held_host: &mut GathererMachine,
+    byte: Option<u8>,
+) -> Result<Option<usize>, Memory> {
     let call = asked(alloc, byte)?;
-    match seat.step(alloc, call)? {
+    match held_host.step(alloc, call)? {
         Stepped::Answered(bytes) => Ok(Some(bytes)),
         Stepped::Faulted => Ok(None),
     }

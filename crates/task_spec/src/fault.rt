@@ -28,12 +28,12 @@ pub enum TaskFault {
     UnknownArchiver(Text),
     /// What this member holds is out of its bounds.
     BadSpec(Text),
-    /// Want of memory, which may come in place of any answer.
+    /// Out of memory, which may come in place of any answer.
     Memory,
 }
 
 impl TaskFault {
-    /// The refusal of this member's bounds, or want of memory for the name.
+    /// The refusal of this member's bounds, or out of memory for the name.
     pub fn bad_spec(alloc: Global, name: &str) -> TaskFault
         ensures { result ≢ TaskFault.Memory → result ≡ TaskFault.BadSpec name.now }
     {

@@ -12,12 +12,12 @@ use crate::fault::CodeFault;
 use plugin_core::fault::SpecFault;
 use plugin_core::read_test::read_test;
 use plugin_core::test_spec::TestSpec;
+use plugin_text::written::test_text;
 use ps_json::fault::JsonFault;
 use ps_json::tree::read_tree;
 use ps_time::text::Text;
 use serde_json::Value;
 use std::alloc::Global;
-use plugin_text::written::test_text;
 
 /// The tree of a text.
 pub fn tree_in(alloc: Global, text: &Text) -> Result<Value, CodeFault>

@@ -38,7 +38,7 @@ use Rattle.host_model.proofs.SettledRows.{settled_up}
 use Rattle.host_model.proofs.StepCan.{other_lead}
 use Rattle.world_law.specs.Events.{Event, MayRun, Right, run}
 use Rattle.world_law.specs.Laws.{AcceptedWithin, Agrees, AllAccepted, AllBacked, BackedBy, BoundOrder, Has, Holds, Once, ProposedOnce, Safe, SafeRow, SafeStarts, SameContent, SaysDiffers, Scheduled}
-use Rattle.world_law.specs.World.{Letter, World, row_at, start}
+use Rattle.world_law.specs.World.{Message, World, row_at, start}
 use Rattle.world_law.proofs.Allowed.{StartsIn}
 use Rattle.world_law.proofs.Carries.{Alike, settled_alike, settled_find}
 use Rattle.world_law.proofs.FitAnswers.{fit_law}
@@ -51,13 +51,13 @@ use Rattle.world_law.proofs.Pushed.{first_set}
 use Rattle.world_law.proofs.Shown.{holds_on, holds_one, kept_of, new_none}
 use Rattle.world_law.proofs.Worlds.{booked_law}
 
--- ---- each letter is backed
+-- ---- each message is backed
 backed_of : (w : World) → Inv w → AllBacked w
 backed_of w inv j l e = go l.reply refl
   where
     go : (o : Option Reply) → l.reply ≡ o → BackedBy w l o
-    go None f = (inv.letters j l e).bound
-    go (Some said) f = (inv.letters j l e).replied said f
+    go None f = (inv.messages j l e).bound
+    go (Some said) f = (inv.messages j l e).replied said f
 
 -- ---- rows of one key agree
 module _ (w : World) (inv : Inv w) (k : RunKey) where
@@ -223,7 +223,7 @@ never_differs : (place : Place) (rows : List RunRow) (m : ℕ) (p : Proposal) (d
 never_differs place rows m p d e f = (subst IsOtherDenial e (denial_other place rows m p)) f
 
 -- ---- once
-module _ (follow : StepsFollow) (w : World) (inv : Inv w) (l : Letter) (p : Proposal) (bound : Has w l.asker p.key (Holds p)) (clock : ℕ) where
+module _ (follow : StepsFollow) (w : World) (inv : Inv w) (l : Message) (p : Proposal) (bound : Has w l.asker p.key (Holds p)) (clock : ℕ) where
   abbrev h : ℕ
   h = l.asked
 
@@ -322,7 +322,7 @@ module _ (follow : StepsFollow) (w : World) (inv : Inv w) (l : Letter) (p : Prop
       alike (Some lead) e f = known_alike lead e (find_row s.rows p.key) refl f
 
 once_of : StepsFollow → (w : World) → Inv w → Once w
-once_of follow w inv j l e p body clock = once_here follow w inv l p (subst (λ x. BoundOrder (row_at w l.asker) l.order.key x) body (inv.letters j l e).bound) clock
+once_of follow w inv j l e p body clock = once_here follow w inv l p (subst (λ x. BoundOrder (row_at w l.asker) l.order.key x) body (inv.messages j l e).bound) clock
 
 -- ---- the laws
 module _ (follow : StepsFollow) (names : ℕ → List ℕ) (configs : ℕ → Config) (known : (h : ℕ) → Right names h (configs h)) (es : List Event) (may : MayRun (start names configs) es) where

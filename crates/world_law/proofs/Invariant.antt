@@ -24,7 +24,7 @@ use Rattle.host_model.specs.declared.reply.Reply.{Reply}
 use Rattle.host_model.specs.declared.reply.Reply.TheVariants as reply
 use Rattle.host_model.specs.declared.task_row.TaskRow.{TaskRow}
 use Rattle.world_law.specs.Laws.{Acceptance, Asks, BoundOrder, BoundReply, GrantedIn, Has, HasAccepted, HasResult, Holds, OfStages, Shows, first_accepted}
-use Rattle.world_law.specs.World.{Letter, Stage, World, aged, heard_as, row_at, stages}
+use Rattle.world_law.specs.World.{Message, Stage, World, aged, heard_as, row_at, stages}
 use Rattle.world_law.proofs.Allowed.{HasFlag, Newer, OwnTasks, StartsIn}
 use Rattle.world_law.proofs.Carries.{Carries, RowGrown}
 use Rattle.world_law.proofs.Lawfulness.{Orderly}
@@ -123,8 +123,8 @@ row_up w v h k r l x = record {
   within = λ f. within_up w v h k r l (x.within f);
 }
 
--- ---- letters
-pub record LetterOk (w : World) (l : Letter) : Type 0 where
+-- ---- messages
+pub record MessageOk (w : World) (l : Message) : Type 0 where
   pub bound : BoundOrder (row_at w l.asker) l.order.key l.order.body
   pub addressed : Has w l.asker l.order.key (λ r. slice_get r.participants l.order.place ≡ Some (w.names l.asked))
   pub keyed : (p : Proposal) → l.order.body ≡ order.Propose p → p.key ≡ l.order.key
@@ -136,8 +136,8 @@ pub addressed_up : (w v : World) (h : ℕ) (k : RunKey) (place asked : ℕ) → 
 addressed_up w v h k place asked l x = subst (λ n. Has v h k (λ r. slice_get r.participants place ≡ Some n)) (sym (l.names asked))
     (has_up w v h k (λ r. slice_get r.participants place ≡ Some (w.names asked)) l (λ r s y e. ap (λ xs. slice_get xs place) y.participants ∙ e) x)
 
-pub letter_up : (w v : World) (l : Letter) → Later w v → LetterOk w l → LetterOk v l
-letter_up w v l g x = record {
+pub message_up : (w v : World) (l : Message) → Later w v → MessageOk w l → MessageOk v l
+message_up w v l g x = record {
   bound = bound_up (row_at w l.asker) (row_at v l.asker) l.order.key l.order.body (g.rows l.asker) x.bound;
   addressed = addressed_up w v l.asker l.order.key l.order.place l.asked g x.addressed;
   keyed = x.keyed;
@@ -163,7 +163,7 @@ pub record Inv (w : World) : Type 0 where
   pub dead : (h : ℕ) (k : RunKey) (r : RunRow) → row_at w h k ≡ Some r → find_row (w.hosts h).now.book.rows k ≡ None → Dead w h k r
   pub firsts : (h : ℕ) (k : RunKey) (a : Acceptance) → first_accepted (stages w h) k ≡ Some a → Has w h k (λ r. IsSome r.accepted)
   pub owned : (h : ℕ) → OwnTasks (w.names h) (w.hosts h).now.book.tasks
-  pub letters : (j : ℕ) (l : Letter) → aged w.letters j ≡ Some l → LetterOk w l
+  pub messages : (j : ℕ) (l : Message) → aged w.messages j ≡ Some l → MessageOk w l
 
 -- ---- what an input brings from the world
 -- an acceptance that is heard is one

@@ -30,13 +30,13 @@ use Rattle.host_model.specs.declared.order.PeerAnswer.TheVariants as answer
 use Rattle.host_model.specs.declared.reply.Reply.TheVariants as reply
 use Rattle.host_model.proofs.SettledBook.{book_settled}
 use Rattle.host_model.proofs.StepGrown.{step_grown}
-use Rattle.world_law.specs.Events.{Cause, Cause.ByClient, Cause.ByInner, Cause.ByLetter, Cause.ByOpening, Event, Event.Client, Event.Cut, Event.Deliver, Event.Inner, Event.Lose, Event.Reconfigure, Event.Refuse, Event.Reopen, Event.Tell, CauseInBounds, InBounds, MayHappen, MayRun, Right, answer_now, answered, arrived, brings, brought_to, config_by, cut, delivered, goes_to, happens, idle_stage, input_by, is_client, is_inner, reply_now, run, sent, step_stage, stepped, told, told_from}
+use Rattle.world_law.specs.Events.{Cause, Cause.ByClient, Cause.ByInner, Cause.ByMessage, Cause.ByOpening, Event, Event.Client, Event.Cut, Event.Deliver, Event.Inner, Event.Lose, Event.Reconfigure, Event.Refuse, Event.Reopen, Event.Tell, CauseInBounds, InBounds, MayHappen, MayRun, Right, answer_now, answered, arrived, brings, brought_to, config_by, cut, delivered, goes_to, happens, idle_stage, input_by, is_client, is_inner, reply_now, run, sent, step_stage, stepped, told, told_from}
 use Rattle.world_law.specs.Laws.{AllGrown, AllLawful, Asks, BoundOrder, BoundReply, Has, Holds, Shows}
-use Rattle.world_law.specs.World.{Answer, Letter, Stage, World, aged, heard_as, input_of, last_row, noted, number_of, posted, push, row_at, stages, start}
+use Rattle.world_law.specs.World.{Answer, Message, Stage, World, aged, heard_as, input_of, last_row, noted, number_of, posted, push, row_at, stages, start}
 use Rattle.world_law.proofs.Carries.{grown_refl}
-use Rattle.world_law.proofs.Invariant.{InputOk, Inv, Later, LetterOk, StandsOn, addressed_up, bound_up, letter_up, replied_up, row_up}
+use Rattle.world_law.proofs.Invariant.{InputOk, Inv, Later, MessageOk, StandsOn, addressed_up, bound_up, message_up, replied_up, row_up}
 use Rattle.world_law.proofs.Lawfulness.{StepsFollow, Orderly, answered_ok, cause_right, idle, lawful_now, may_step, performed, posted_ok, right_now, start_ok, step_is_lawful}
-use Rattle.world_law.proofs.Letters.{answer_in, order_in}
+use Rattle.world_law.proofs.Messages.{answer_in, order_in}
 use Rattle.world_law.proofs.Pushed.{first_set, later, pushed}
 use Rattle.world_law.proofs.Shown.{holds_alike, step_shown, unsettled}
 use Rattle.world_law.proofs.Stages.{aged_all}
@@ -44,15 +44,15 @@ use Rattle.world_law.proofs.Steps.{StepOk, idle_ok, step_ok}
 use Rattle.world_law.proofs.Told.{Ordered, orders_told}
 use Rattle.world_law.proofs.Worlds.{now_at, now_same}
 
--- ---- letters and answers join
+-- ---- messages and answers join
 module _ (w : World) where
-  abbrev joined : List Letter → List Answer → World
-  joined ls xs = record { names = w.names; hosts = w.hosts; letters = ls; answers = xs }
+  abbrev joined : List Message → List Answer → World
+  joined ls xs = record { names = w.names; hosts = w.hosts; messages = ls; answers = xs }
 
-  joined_later : (ls : List Letter) (xs : List Answer) → Later w (joined ls xs)
+  joined_later : (ls : List Message) (xs : List Answer) → Later w (joined ls xs)
   joined_later ls xs = record { rows = λ h k. grown_refl (row_at w h k); firsts = λ h k a e. e; names = λ q. refl; tasks = λ h serial t e. (t, e, refl) }
 
-  joined_inv : (ls : List Letter) (xs : List Answer) → Inv w → Orderly (joined ls xs) → ((j : ℕ) (l : Letter) → aged ls j ≡ Some l → LetterOk w l) → Inv (joined ls xs)
+  joined_inv : (ls : List Message) (xs : List Answer) → Inv w → Orderly (joined ls xs) → ((j : ℕ) (l : Message) → aged ls j ≡ Some l → MessageOk w l) → Inv (joined ls xs)
   joined_inv ls xs inv ok each = record {
     orderly = ok;
     stage = λ h i s e. inv.stage h i s e;
@@ -60,14 +60,14 @@ module _ (w : World) where
     dead = λ h k r e n. (let d = inv.dead h k r e n in record { past = d.past; newer = d.newer });
     firsts = inv.firsts;
     owned = inv.owned;
-    letters = λ j l e. letter_up w (joined ls xs) l (joined_later ls xs) (each j l e);
+    messages = λ j l e. message_up w (joined ls xs) l (joined_later ls xs) (each j l e);
   }
 
-posted_inv : (w : World) (l : Letter) → Inv w → Orderly (posted w l) → LetterOk w l → Inv (posted w l)
-posted_inv w l inv ok new = joined_inv w (l ∷ w.letters) w.answers inv ok (λ j x e. aged_all (LetterOk w) l w.letters new inv.letters j x e)
+posted_inv : (w : World) (l : Message) → Inv w → Orderly (posted w l) → MessageOk w l → Inv (posted w l)
+posted_inv w l inv ok new = joined_inv w (l ∷ w.messages) w.answers inv ok (λ j x e. aged_all (MessageOk w) l w.messages new inv.messages j x e)
 
 noted_inv : (w : World) (a : Answer) → Inv w → Orderly (noted w a) → Inv (noted w a)
-noted_inv w a inv ok = joined_inv w w.letters (a ∷ w.answers) inv ok inv.letters
+noted_inv w a inv ok = joined_inv w w.messages (a ∷ w.answers) inv ok inv.messages
 
 -- ---- steps
 module _ (follow : StepsFollow) where
@@ -92,8 +92,8 @@ module _ (follow : StepsFollow) where
       let b : Book = (w.hosts h).now.book in
       pushed w inv h b.moment input.Turn tt (idle_stage w h c) (idle_ok w.names h b.moment input.Turn c b (omega arith) (inv.owned h)) (lawful_now follow w inv.orderly h) (λ serial t e. (t, e, record { serial = refl; task = refl; asker = refl; posted = refl; closed = λ a f. f })) (omega arith) (idle follow w inv.orderly h c right)
 
-  -- ---- letters that arrive
-  order_ok : (w : World) (l : Letter) → BoundOrder (row_at w l.asker) l.order.key l.order.body → InputOk w l.asked (brings l None)
+  -- ---- messages that arrive
+  order_ok : (w : World) (l : Message) → BoundOrder (row_at w l.asker) l.order.key l.order.body → InputOk w l.asked (brings l None)
   order_ok w l b = go l.order.body b
     where
       go : (body : OrderBody) → BoundOrder (row_at w l.asker) l.order.key body → InputOk w l.asked (input_of l.asker l.order.key body)
@@ -108,7 +108,7 @@ module _ (follow : StepsFollow) where
   heard_accepted (reply.Accepted n) m e = cc
   heard_accepted said m e = cc
 
-  reply_ok : (w : World) (l : Letter) (said : Reply) → LetterOk w l → l.reply ≡ Some said → InputOk w l.asker (brings l (Some said))
+  reply_ok : (w : World) (l : Message) (said : Reply) → MessageOk w l → l.reply ≡ Some said → InputOk w l.asker (brings l (Some said))
   reply_ok w l said ok is = (
     l.asked,
     ok.addressed,
@@ -118,10 +118,10 @@ module _ (follow : StepsFollow) where
         subst (λ k. Has w l.asked k (λ r. IsSome r.accepted)) (ok.keyed p body) (b.0, b.1, b.2.0.accepted),
   )
 
-  -- what a letter brings is within bounds
-  letter_in : (w : World) → Inv w → (l : Letter) → LetterOk w l → (o : Option Reply) → l.reply ≡ o → IsInput (w.hosts (goes_to l o)).now.config (brings l o)
-  letter_in w inv l ok None is = order_in w inv l.asker l.order.key l.order.body ok.bound (w.hosts l.asked).now.config l.asked (right_now follow w inv.orderly l.asked)
-  letter_in w inv l ok (Some said) is = ok.heard said is
+  -- what a message brings is within bounds
+  message_in : (w : World) → Inv w → (l : Message) → MessageOk w l → (o : Option Reply) → l.reply ≡ o → IsInput (w.hosts (goes_to l o)).now.config (brings l o)
+  message_in w inv l ok None is = order_in w inv l.asker l.order.key l.order.body ok.bound (w.hosts l.asked).now.config l.asked (right_now follow w inv.orderly l.asked)
+  message_in w inv l ok (Some said) is = ok.heard said is
 
   -- the results of a host are short
   short_now : (w : World) → Inv w → (h m : ℕ) (k : RunKey) (r : RunRow) (x : Ending) → find_row (settled m (w.hosts h).now.book).rows k ≡ Some r → r.ended ≡ Some x → length x.body ≤ most_result_bytes
@@ -129,7 +129,7 @@ module _ (follow : StepsFollow) where
       let was : Shows (find_row (w.hosts h).now.book.rows) k (λ y. y.ended ≡ Some x) = unsettled (λ y. y.ended ≡ Some x) (λ p q like f. sym like.ended ∙ f) m (w.hosts h).now.book.rows k (r, at, e) in
       (inv.rows h k was.0 (first_set (find_row (w.hosts h).now.book.rows k) (last_row (w.hosts h).before k) was.0 was.1)).short x was.2
 
-  requested : (w : World) (inv : Inv w) (clock : ℕ) (l : Letter) → LetterOk w l → clock ≤ greatest_moment → l.reply ≡ None → Inv (arrived w clock l None)
+  requested : (w : World) (inv : Inv w) (clock : ℕ) (l : Message) → MessageOk w l → clock ≤ greatest_moment → l.reply ≡ None → Inv (arrived w clock l None)
   requested w inv clock l ok low is = posted_inv v (record l { reply = Some (reply_now w l.asked clock i) }) after (posted_ok follow v (record l { reply = Some (reply_now w l.asked clock i) }) orderly) new
     where
       i : Input
@@ -139,7 +139,7 @@ module _ (follow : StepsFollow) where
       c = (w.hosts l.asked).now.config
 
       bounds : InBounds c clock i
-      bounds = (low, letter_in w inv l ok None is)
+      bounds = (low, message_in w inv l ok None is)
 
       b : Book
       b = (w.hosts l.asked).now.book
@@ -180,7 +180,7 @@ module _ (follow : StepsFollow) where
           let stands : StandsOn u l.asked (step_stage w l.asked clock c i) = subst (λ s. StandsOn u l.asked s) (now_same w l.asked (step_stage w l.asked clock c i)) (stepped_inv.stage l.asked _ _ (now_at u l.asked)) in
           subst (BoundReply (row_at v l.asked) l.order.key l.order.body) same (replied_up (find_row (step_book c b clock i).rows) (row_at u l.asked) l.order.key l.order.body (reply_now w l.asked clock i) stands here)
 
-      new : LetterOk v (record l { reply = Some (reply_now w l.asked clock i) })
+      new : MessageOk v (record l { reply = Some (reply_now w l.asked clock i) })
       new = record {
         bound = bound_up (row_at w l.asker) (row_at v l.asker) l.order.key l.order.body (up.rows l.asker) ok.bound;
         addressed = addressed_up w v l.asker l.order.key l.order.place l.asked up ok.addressed;
@@ -189,11 +189,11 @@ module _ (follow : StepsFollow) where
         replied = shown;
       }
 
-  arrived_inv : (w : World) (inv : Inv w) (clock : ℕ) (l : Letter) (o : Option Reply) → l.reply ≡ o → LetterOk w l → clock ≤ greatest_moment → Inv (arrived w clock l o)
+  arrived_inv : (w : World) (inv : Inv w) (clock : ℕ) (l : Message) (o : Option Reply) → l.reply ≡ o → MessageOk w l → clock ≤ greatest_moment → Inv (arrived w clock l o)
   arrived_inv w inv clock l None is ok low = requested w inv clock l ok low is
-  arrived_inv w inv clock l (Some said) is ok low = performed_inv w inv l.asker clock (w.hosts l.asker).now.config (brings l (Some said)) (right_now follow w inv.orderly l.asker) (low, letter_in w inv l ok (Some said) is) (reply_ok w l said ok is)
+  arrived_inv w inv clock l (Some said) is ok low = performed_inv w inv l.asker clock (w.hosts l.asker).now.config (brings l (Some said)) (right_now follow w inv.orderly l.asker) (low, message_in w inv l ok (Some said) is) (reply_ok w l said ok is)
 
-  delivered_inv : (w : World) (inv : Inv w) (clock : ℕ) (o : Option Letter) → ((l : Letter) → o ≡ Some l → LetterOk w l) → clock ≤ greatest_moment → Inv (delivered w clock o)
+  delivered_inv : (w : World) (inv : Inv w) (clock : ℕ) (o : Option Message) → ((l : Message) → o ≡ Some l → MessageOk w l) → clock ≤ greatest_moment → Inv (delivered w clock o)
   delivered_inv w inv clock None ok low = inv
   delivered_inv w inv clock (Some l) ok low = arrived_inv w inv clock l l.reply refl (ok l refl) low
 
@@ -218,7 +218,7 @@ module _ (follow : StepsFollow) where
       go false f g later = later g
 
   sent_ok : (w : World) (inv : Inv w) (h : ℕ) (s : Stage) → Right w.names h s.config → StandsOn w h s → (m : ℕ) (o : Order) → Ordered (settled_rows m s.book.rows) o → (asked : ℕ) → number_of s.config.peers o.to ≡ Some asked →
-      LetterOk w (record { asker = h; asked = asked; order = o; reply = None })
+      MessageOk w (record { asker = h; asked = asked; order = o; reply = None })
   sent_ok w inv h s right stands m o ordered asked e =
       let name : o.to ≡ w.names asked = number_named w.names s.config.peers o.to asked (recursion_from_All (λ (p : Peer). p.name ≡ w.names p.number) s.config.peers right.peers) e in
       let there : Shows (find_row s.book.rows) o.key (λ r. slice_get r.participants o.place ≡ Some o.to) =
@@ -270,7 +270,7 @@ module _ (follow : StepsFollow) where
   given_if true i j e = (refl, cc)
   given_if false i j e = cc
 
-  brought_ok : (w : World) (h : ℕ) (o : Option Letter) → ((l : Letter) → o ≡ Some l → LetterOk w l) → (i : Input) → brought_to h o ≡ Some i → InputOk w h i
+  brought_ok : (w : World) (h : ℕ) (o : Option Message) → ((l : Message) → o ≡ Some l → MessageOk w l) → (i : Input) → brought_to h o ≡ Some i → InputOk w h i
   brought_ok w h None ok i e = cc
   brought_ok w h (Some l) ok i e =
       let x = given_if (goes_to l l.reply == h) (brings l l.reply) i e in
@@ -281,24 +281,24 @@ module _ (follow : StepsFollow) where
       go None f = order_ok w l (ok l refl).bound
       go (Some said) f = reply_ok w l said (ok l refl) f
 
-  brought_in : (w : World) (inv : Inv w) (h : ℕ) (o : Option Letter) → ((l : Letter) → o ≡ Some l → LetterOk w l) → (i : Input) → brought_to h o ≡ Some i → IsInput (w.hosts h).now.config i
+  brought_in : (w : World) (inv : Inv w) (h : ℕ) (o : Option Message) → ((l : Message) → o ≡ Some l → MessageOk w l) → (i : Input) → brought_to h o ≡ Some i → IsInput (w.hosts h).now.config i
   brought_in w inv h None ok i e = cc
   brought_in w inv h (Some l) ok i e =
       let x = given_if (goes_to l l.reply == h) (brings l l.reply) i e in
       let host : goes_to l l.reply ≡ h = grind (arith, nat_tests, x.0) in
-      subst (λ y. IsInput (w.hosts h).now.config y) x.1 (subst (λ n. IsInput (w.hosts n).now.config (brings l l.reply)) host (letter_in w inv l (ok l refl) l.reply refl))
+      subst (λ y. IsInput (w.hosts h).now.config y) x.1 (subst (λ n. IsInput (w.hosts n).now.config (brings l l.reply)) host (message_in w inv l (ok l refl) l.reply refl))
 
   -- so is what a cause brings
   cause_bounds : (w : World) (inv : Inv w) (h clock : ℕ) (cause : Cause) → CauseInBounds w h clock cause → (i : Input) → input_by w h cause ≡ Some i → InBounds (config_by w h cause) clock i
   cause_bounds w inv h clock (ByClient x) bounds i e = subst (λ y. InBounds (w.hosts h).now.config clock y) (given_if (is_client x) x i e).1 bounds
   cause_bounds w inv h clock (ByInner x) bounds i e = subst (λ y. InBounds (w.hosts h).now.config clock y) (given_if (is_inner x) x i e).1 bounds
-  cause_bounds w inv h clock (ByLetter j) low i e = (low, brought_in w inv h (aged w.letters j) (λ l f. inv.letters j l f) i e)
+  cause_bounds w inv h clock (ByMessage j) low i e = (low, brought_in w inv h (aged w.messages j) (λ l f. inv.messages j l f) i e)
   cause_bounds w inv h clock (ByOpening c) bounds i e = let same : input.Open ≡ i = cc in subst (λ y. InBounds c clock y) same (bounds.0, tt)
 
   cause_ok : (w : World) (inv : Inv w) (h : ℕ) (cause : Cause) (i : Input) → input_by w h cause ≡ Some i → InputOk w h i
   cause_ok w inv h (ByClient x) i e = let t = given_if (is_client x) x i e in subst (λ y. InputOk w h y) t.1 (client_ok w h x t.0)
   cause_ok w inv h (ByInner x) i e = let t = given_if (is_inner x) x i e in subst (λ y. InputOk w h y) t.1 (inner_ok w h x t.0)
-  cause_ok w inv h (ByLetter j) i e = brought_ok w h (aged w.letters j) (λ l f. inv.letters j l f) i e
+  cause_ok w inv h (ByMessage j) i e = brought_ok w h (aged w.messages j) (λ l f. inv.messages j l f) i e
   cause_ok w inv h (ByOpening c) i e = let same : input.Open ≡ i = cc in subst (λ y. InputOk w h y) same tt
 
   cut_inv : (w : World) (inv : Inv w) (h clock : ℕ) (c : Config) → Right w.names h c → (o : Option Input) → ((i : Input) → o ≡ Some i → InBounds c clock i × InputOk w h i) → (kept : Bool) → Inv (cut w h clock c o kept)
@@ -314,7 +314,7 @@ module _ (follow : StepsFollow) where
   happens_inv w (Client h clock i) inv keeps = if_inv (is_client i) (answered w h clock i) w (λ b. answered_inv w inv h clock i keeps (client_ok w h i b)) inv
   happens_inv w (Tell h stage clock place) inv keeps =
       told_from_inv w inv h clock place keeps (aged (stages w h) stage) (λ s e. (inv.orderly.right h stage s e, inv.stage h stage s e, inv.orderly.lawful h stage s e))
-  happens_inv w (Deliver j clock) inv keeps = delivered_inv w inv clock (aged w.letters j) (λ l e. inv.letters j l e) keeps
+  happens_inv w (Deliver j clock) inv keeps = delivered_inv w inv clock (aged w.messages j) (λ l e. inv.messages j l e) keeps
   happens_inv w (Inner h clock i) inv keeps = if_inv (is_inner i) (stepped w h clock i) w (λ b. performed_inv w inv h clock (w.hosts h).now.config i (right_now follow w inv.orderly h) keeps (inner_ok w h i b)) inv
   happens_inv w (Reopen h clock c) inv keeps = performed_inv w inv h clock c input.Open keeps.1 (keeps.0, tt) tt
   happens_inv w (Reconfigure h c) inv keeps = idle_inv w inv h c keeps
@@ -335,7 +335,7 @@ module _ (follow : StepsFollow) where
     dead = λ h k r e n. cc;
     firsts = λ h k a e. cc;
     owned = λ h serial t e. cc;
-    letters = λ j l e. cc;
+    messages = λ j l e. cc;
   }
 
   pub always_inv : (names : ℕ → List ℕ) (configs : ℕ → Config) → ((h : ℕ) → Right names h (configs h)) → (es : List Event) → MayRun (start names configs) es → Inv (run es (start names configs))

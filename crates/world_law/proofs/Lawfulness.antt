@@ -13,7 +13,7 @@ use Rattle.host_model.proofs.LawfulBook.{after_lawful, empty_lawful}
 use Rattle.host_model.proofs.StepGrown.{step_grown}
 use Rattle.world_law.specs.Events.{Cause, Cause.ByOpening, CauseInBounds, InBounds, Right, answer_now, answered, config_by, idle_stage, step_stage, stepped}
 use Rattle.world_law.specs.Laws.{AllGrown, AllLawful, OfStages}
-use Rattle.world_law.specs.World.{Answer, Letter, Stage, World, aged, posted, push, stages, start}
+use Rattle.world_law.specs.World.{Answer, Message, Stage, World, aged, posted, push, stages, start}
 use Rattle.world_law.proofs.Stages.{aged_all, aged_cases, aged_last, aged_within}
 use Rattle.world_law.proofs.Worlds.{now_at, pushed_all, pushed_cases, pushed_up}
 
@@ -83,8 +83,8 @@ module _ (follow : StepsFollow) where
     pub idle : (h : ℕ) (c : Config) → Right w.names h c → Orderly (push w h (idle_stage w h c))
     idle h c right = pushed_ok w h (idle_stage w h c) ok (lawful_now h) right (Grown-refl (w.hosts h).now.book)
 
-  -- letters and answers say nothing of stages
-  pub posted_ok : (w : World) (l : Letter) → Orderly w → Orderly (posted w l)
+  -- messages and answers say nothing of stages
+  pub posted_ok : (w : World) (l : Message) → Orderly w → Orderly (posted w l)
   posted_ok w l ok = record { lawful = ok.lawful; right = ok.right; grown = ok.grown; asked = ok.asked }
 
   pub answered_ok : (w : World) (ok : Orderly w) (h clock : ℕ) (i : Input) → InBounds (w.hosts h).now.config clock i → Orderly (answered w h clock i)

@@ -11,7 +11,7 @@ pub mod Invariant
 pub mod Keeping
 pub mod KeptAnswers
 pub mod Lawfulness
-pub mod Letters
+pub mod Messages
 pub mod Moves
 pub mod NewRows
 pub mod Owned

@@ -30,7 +30,7 @@ use Rattle.world_law.specs.Laws.{Acceptance, Has, HasAccepted, Holds, accepted_i
 use Rattle.world_law.specs.World.{Stage, World, last_row, push, row_at, stages}
 use Rattle.world_law.proofs.Allowed.{AcceptCause, AllFlagged, Fresh, HasFlag, HeardAccepted, Newer, OwnTasks}
 use Rattle.world_law.proofs.Carries.{Carries, RowGrown, carries_refl, grown_refl, grown_to, grown_trans}
-use Rattle.world_law.proofs.Invariant.{AskedOf, Dead, HeardOk, InputOk, Inv, Later, RowOk, StandsOn, Timed, Within, accepted_there_up, confirmed_there_up, holds_there_up, letter_up, row_up}
+use Rattle.world_law.proofs.Invariant.{AskedOf, Dead, HeardOk, InputOk, Inv, Later, RowOk, StandsOn, Timed, Within, accepted_there_up, confirmed_there_up, holds_there_up, message_up, row_up}
 use Rattle.world_law.proofs.Lawfulness.{Orderly}
 use Rattle.world_law.proofs.Moves.{Moved, holds_up, starts_up}
 use Rattle.world_law.proofs.Shown.{holds_of, holds_one}
@@ -394,7 +394,7 @@ module _ (w : World) (inv : Inv w) (h m : ℕ) (i : Input) (ok : InputOk w h i) 
       | inl c ↦ subst (λ x. OwnTasks (w.names x) ((push w h s).hosts x).now.book.tasks) (sym c.0) (subst (λ z. OwnTasks (w.names h) z.book.tasks) (sym (now_same w h s)) step.own)
       | inr c ↦ subst (λ z. OwnTasks (w.names g) z.book.tasks) (sym (now_other g c)) (inv.owned g)
     ];
-    letters = λ j l e. letter_up w (push w h s) l later (inv.letters j l e);
+    messages = λ j l e. message_up w (push w h s) l later (inv.messages j l e);
   }
     where
       here_dead : (k : RunKey) (r : RunRow) → row_at (push w h s) h k ≡ Some r → find_row ((push w h s).hosts h).now.book.rows k ≡ None → Dead (push w h s) h k r

@@ -1,4 +1,4 @@
--- A small world, computed: two hosts come to a run together, although a letter gets lost, a step is cut and a host is opened anew;
+-- A small world, computed: two hosts come to a run together, although a message gets lost, a step is cut and a host is opened anew;
 -- and one booking preempts another.
 use Rattle.std.specs.Fmt.{digits}
 use Rattle.std.specs.Prelude.{◌==◌, ◌∷◌, List, Option, Some, [], codes, false, if◌then◌else◌, map, option_and_then, option_map, pos, ℕ}
@@ -16,7 +16,7 @@ use Rattle.host_model.specs.declared.input.Input.{Input}
 use Rattle.host_model.specs.declared.input.Input.TheVariants as input
 use Rattle.host_model.specs.declared.reply.Reply.TheVariants as reply
 use Rattle.host_model.proofs.HostSamples.{host_a, host_b, idle_task, key, many}
-use Rattle.world_law.specs.Events.{Cause.ByLetter, Event, Event.Client, Event.Cut, Event.Deliver, Event.Inner, Event.Lose, Event.Reopen, Event.Tell, run}
+use Rattle.world_law.specs.Events.{Cause.ByMessage, Event, Event.Client, Event.Cut, Event.Deliver, Event.Inner, Event.Lose, Event.Reopen, Event.Tell, run}
 use Rattle.world_law.specs.World.{World, row_at, start}
 
 -- ---- two hosts, a with the number 1 and b with 2
@@ -37,7 +37,7 @@ asked = Client 1 1000 post ∷ Client 2 1000 (book 0) ∷ Inner 1 1001 input.Tur
 
 -- the first acceptance gets lost, the second proposal's step is cut, b is opened anew, and the third proposal is answered as the first was
 abbrev accepted : List Event
-accepted = Inner 1 1002 input.Turn ∷ Tell 1 4 1002 0 ∷ Deliver 2 1003 ∷ Lose 3 ∷ Cut 2 1004 (ByLetter 2) false ∷ Reopen 2 1004 host_b ∷ Deliver 2 1005 ∷ Client 2 1005 (book 5) ∷ []
+accepted = Inner 1 1002 input.Turn ∷ Tell 1 4 1002 0 ∷ Deliver 2 1003 ∷ Lose 3 ∷ Cut 2 1004 (ByMessage 2) false ∷ Reopen 2 1004 host_b ∷ Deliver 2 1005 ∷ Client 2 1005 (book 5) ∷ []
 
 abbrev started : List Event
 started = Deliver 4 1006 ∷ Tell 1 5 1006 0 ∷ Deliver 5 1006 ∷ Inner 1 1007 input.Turn ∷ Inner 2 1007 input.Turn ∷ []

@@ -1,4 +1,4 @@
--- Numbers of stages and letters: they stay as more come.
+-- Numbers of stages and messages: they stay as more come.
 use Rattle.std.proofs.Common.{◌≡◌, ◌<◌, ◌⊎◌, inl, inr, ◌==◌, ℕ, Bool, true, false, cond, List, [], ◌∷◌, length, Some, refl, ap, ◌∙◌, subst, arith}
 use Rattle.std.proofs.lemmas.Bool.Decides.{nat_tests}
 use Rattle.world_law.specs.World.{aged}

@@ -13,7 +13,7 @@ use Rattle.host_model.specs.declared.order.Order.{Order}
 use Rattle.host_model.specs.declared.reply.Reply.{Reply}
 use Rattle.world_law.specs.Events.{Event, Event.Client, Event.Cut, Event.Deliver, Event.Inner, Event.Lose, Event.Reconfigure, Event.Refuse, Event.Reopen, Event.Tell, answer_now, answered, arrived, brings, config_by, cut, delivered, happens, idle_stage, input_by, is_client, is_inner, run, sent, step_stage, stepped, told, told_from}
 use Rattle.world_law.specs.Laws.{Booked, Keyed}
-use Rattle.world_law.specs.World.{Answer, Host, Letter, Stage, World, aged, noted, number_of, posted, push, stages, start}
+use Rattle.world_law.specs.World.{Answer, Host, Message, Stage, World, aged, noted, number_of, posted, push, stages, start}
 use Rattle.world_law.proofs.BookSteps.{step_clash, step_up}
 use Rattle.world_law.proofs.Stages.{aged_all, aged_last, aged_up}
 
@@ -122,7 +122,7 @@ module _ (w : World) (ok : Sound w) where
       first_or zero a given after e = let is : answer_now w h clock i ≡ a = cc in subst (λ x. Answered (stepped w h clock i) x) is given
       first_or (suc j) a given after e = after.answers j a e
 
-posted_ok : (w : World) (l : Letter) → Sound w → Sound (posted w l)
+posted_ok : (w : World) (l : Message) → Sound w → Sound (posted w l)
 posted_ok w l ok = record {
   keyed = ok.keyed;
   clash = ok.clash;
@@ -142,11 +142,11 @@ told_from_ok : (w : World) (h clock place : ℕ) (o : Option Stage) → Sound w 
 told_from_ok w h clock place None ok = ok
 told_from_ok w h clock place (Some s) ok = told_ok w h s.config (slice_get (orders s.book clock) place) ok
 
-arrived_ok : (w : World) (clock : ℕ) (l : Letter) (o : Option Reply) → Sound w → Sound (arrived w clock l o)
+arrived_ok : (w : World) (clock : ℕ) (l : Message) (o : Option Reply) → Sound w → Sound (arrived w clock l o)
 arrived_ok w clock l None ok = posted_ok (answered w l.asked clock (brings l None)) _ (answered_ok w ok l.asked clock (brings l None))
 arrived_ok w clock l (Some said) ok = performed w ok l.asker clock (w.hosts l.asker).now.config (brings l (Some said))
 
-delivered_ok : (w : World) (clock : ℕ) (o : Option Letter) → Sound w → Sound (delivered w clock o)
+delivered_ok : (w : World) (clock : ℕ) (o : Option Message) → Sound w → Sound (delivered w clock o)
 delivered_ok w clock None ok = ok
 delivered_ok w clock (Some l) ok = arrived_ok w clock l l.reply ok
 
@@ -162,7 +162,7 @@ cut_ok w h clock c (Some i) false ok = idle w ok h c
 happens_ok : (w : World) (e : Event) → Sound w → Sound (happens w e)
 happens_ok w (Client h clock i) ok = either_ok (is_client i) (answered w h clock i) w (answered_ok w ok h clock i) ok
 happens_ok w (Tell h stage clock place) ok = told_from_ok w h clock place (aged (stages w h) stage) ok
-happens_ok w (Deliver j clock) ok = delivered_ok w clock (aged w.letters j) ok
+happens_ok w (Deliver j clock) ok = delivered_ok w clock (aged w.messages j) ok
 happens_ok w (Inner h clock i) ok = either_ok (is_inner i) (stepped w h clock i) w (performed w ok h clock (w.hosts h).now.config i) ok
 happens_ok w (Reopen h clock c) ok = performed w ok h clock c input.Open
 happens_ok w (Reconfigure h c) ok = idle w ok h c

@@ -9,14 +9,14 @@ use Rattle.host_model.specs.declared.input.Input.{Input}
 use Rattle.host_model.specs.declared.input.Input.TheVariants as input
 use Rattle.host_model.specs.declared.order.Order.{Order}
 use Rattle.host_model.specs.declared.reply.Reply.{Reply}
-use Rattle.world_law.specs.World.{Answer, Letter, Stage, World, aged, heard_as, input_of, noted, number_of, posted, push, stages}
+use Rattle.world_law.specs.World.{Answer, Message, Stage, World, aged, heard_as, input_of, noted, number_of, posted, push, stages}
 
 -- where a step may come from
 pub data Cause : Type 0 where
   ByClient : (asked : Input) → Cause
   ByInner : (due : Input) → Cause
-  -- the letter of this number, counted from 0 as they were sent
-  ByLetter : (letter : ℕ) → Cause
+  -- the message of this number, counted from 0 as they were sent
+  ByMessage : (message : ℕ) → Cause
   ByOpening : (config : Config) → Cause
 
 -- the clocks are in seconds since 1970 UTC
@@ -25,8 +25,8 @@ pub data Event : Type 0 where
   Client : (h clock : ℕ) → (asked : Input) → Event
   -- an order of the book of an earlier stage is sent: the one at this place of the list of its orders at a clock
   Tell : (h stage clock place : ℕ) → Event
-  -- a letter arrives, at any time and any number of times
-  Deliver : (letter clock : ℕ) → Event
+  -- a message arrives, at any time and any number of times
+  Deliver : (message clock : ℕ) → Event
   -- the host does what is due, or tried an archive
   Inner : (h clock : ℕ) → (due : Input) → Event
   -- the host is opened under this configuration
@@ -35,8 +35,8 @@ pub data Event : Type 0 where
   Reconfigure : (h : ℕ) → (config : Config) → Event
   -- a step was cut in the middle: it is kept whole or not at all, and nobody is answered
   Cut : (h clock : ℕ) → (cause : Cause) → (kept : Bool) → Event
-  -- a letter gets lost on its way
-  Lose : (letter : ℕ) → Event
+  -- a message gets lost on its way
+  Lose : (message : ℕ) → Event
   -- the host takes nothing in
   Refuse : (h : ℕ) → Event
 
@@ -79,7 +79,7 @@ stepped w h clock i = push w h (step_stage w h clock (w.hosts h).now.config i)
 abbrev pub answered : World → ℕ → ℕ → Input → World
 answered w h clock i = noted (stepped w h clock i) (answer_now w h clock i)
 
--- ---- letters
+-- ---- messages
 -- an order to a host that is no peer of the sender isn't sent
 abbrev pub sent : World → ℕ → Order → Option ℕ → World
 sent w h order None = w
@@ -94,36 +94,36 @@ abbrev pub told_from : World → ℕ → ℕ → ℕ → Option Stage → World
 told_from w h clock place None = w
 told_from w h clock place (Some s) = told w h s.config (slice_get (orders s.book clock) place)
 
--- the input that a letter brings
-abbrev pub brings : Letter → Option Reply → Input
+-- the input that a message brings
+abbrev pub brings : Message → Option Reply → Input
 brings l None = input_of l.asker l.order.key l.order.body
 brings l (Some reply) = input.Heard l.order (heard_as reply)
 
 -- the host to which it goes
-abbrev pub goes_to : Letter → Option Reply → ℕ
+abbrev pub goes_to : Message → Option Reply → ℕ
 goes_to l None = l.asked
 goes_to l (Some reply) = l.asker
 
 -- an order is carried out, answered, and replied to; a reply is heard
-abbrev pub arrived : World → ℕ → Letter → Option Reply → World
+abbrev pub arrived : World → ℕ → Message → Option Reply → World
 arrived w clock l None =
     let i = brings l None in posted (answered w l.asked clock i) (record l { reply = Some (reply_now w l.asked clock i) })
 arrived w clock l (Some reply) = stepped w l.asker clock (brings l (Some reply))
 
-abbrev pub delivered : World → ℕ → Option Letter → World
+abbrev pub delivered : World → ℕ → Option Message → World
 delivered w clock None = w
 delivered w clock (Some l) = arrived w clock l l.reply
 
 -- ---- causes
--- what a letter to this host brings
-abbrev pub brought_to : ℕ → Option Letter → Option Input
+-- what a message to this host brings
+abbrev pub brought_to : ℕ → Option Message → Option Input
 brought_to h None = None
 brought_to h (Some l) = if goes_to l l.reply == h then Some (brings l l.reply) else None
 
 abbrev pub input_by : World → ℕ → Cause → Option Input
 input_by w h (ByClient i) = if is_client i then Some i else None
 input_by w h (ByInner i) = if is_inner i then Some i else None
-input_by w h (ByLetter j) = brought_to h (aged w.letters j)
+input_by w h (ByMessage j) = brought_to h (aged w.messages j)
 input_by w h (ByOpening c) = Some input.Open
 
 -- the configuration under which a cause has the host act
@@ -140,7 +140,7 @@ cut w h clock c (Some i) false = push w h (idle_stage w h c)
 abbrev pub happens : World → Event → World
 happens w (Client h clock i) = if is_client i then answered w h clock i else w
 happens w (Tell h stage clock place) = told_from w h clock place (aged (stages w h) stage)
-happens w (Deliver j clock) = delivered w clock (aged w.letters j)
+happens w (Deliver j clock) = delivered w clock (aged w.messages j)
 happens w (Inner h clock i) = if is_inner i then stepped w h clock i else w
 happens w (Reopen h clock c) = push w h (step_stage w h clock c input.Open)
 happens w (Reconfigure h c) = push w h (idle_stage w h c)
@@ -168,7 +168,7 @@ InBounds c clock i = (clock ≤ greatest_moment) × IsInput c i
 abbrev pub CauseInBounds : World → ℕ → ℕ → Cause → Type 0
 CauseInBounds w h clock (ByClient i) = InBounds (w.hosts h).now.config clock i
 CauseInBounds w h clock (ByInner i) = InBounds (w.hosts h).now.config clock i
-CauseInBounds w h clock (ByLetter j) = clock ≤ greatest_moment
+CauseInBounds w h clock (ByMessage j) = clock ≤ greatest_moment
 CauseInBounds w h clock (ByOpening c) = (clock ≤ greatest_moment) × Right w.names h c
 
 abbrev pub MayHappen : World → Event → Type 0

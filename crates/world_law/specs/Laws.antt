@@ -34,7 +34,7 @@ use Rattle.host_model.specs.declared.reply.Reply.{Reply}
 use Rattle.host_model.specs.declared.reply.Reply.TheVariants as reply
 use Rattle.host_model.specs.declared.task_row.TaskRow.{TaskRow}
 use Rattle.world_law.specs.Events.{reply_now, step_stage}
-use Rattle.world_law.specs.World.{Answer, Letter, Stage, World, aged, row_at, stages}
+use Rattle.world_law.specs.World.{Answer, Message, Stage, World, aged, row_at, stages}
 
 -- ---- the stages of each host
 -- in words: of each stage of each host
@@ -91,7 +91,7 @@ pub record Asks (q : Question) (r : RunRow) : Type 0 where
   pub test : r.test ≡ q.test
   pub window : r.question ≡ Some q.window
 
--- ---- letters
+-- ---- messages
 -- what an order binds its sender to
 abbrev pub BoundOrder : (RunKey → Option RunRow) → RunKey → OrderBody → Type 0
 BoundOrder find k (order.Propose p) = Shows find p.key (λ r. Holds p r)
@@ -112,13 +112,13 @@ BoundReply find k order.Confirm (reply.Confirmed m) = Shows find k (λ r. r.conf
 BoundReply find k order.Result (reply.Result text) = Shows find k (HasResult text)
 BoundReply find k body said = Unit {0}
 
-abbrev pub BackedBy : World → Letter → Option Reply → Type 0
+abbrev pub BackedBy : World → Message → Option Reply → Type 0
 BackedBy w l None = BoundOrder (row_at w l.asker) l.order.key l.order.body
 BackedBy w l (Some said) = BoundReply (row_at w l.asked) l.order.key l.order.body said
 
--- the sender's rows show what the letter says
+-- the sender's rows show what the message says
 abbrev pub AllBacked : World → Type 0
-AllBacked w = (j : ℕ) (l : Letter) → aged w.letters j ≡ Some l → BackedBy w l l.reply
+AllBacked w = (j : ℕ) (l : Message) → aged w.messages j ≡ Some l → BackedBy w l l.reply
 
 -- ---- what hosts know of each other
 -- the host of a name has accepted the run
@@ -144,14 +144,14 @@ abbrev pub SaysDiffers : Reply → Type 0
 SaysDiffers (reply.Denied (Differs kept sent)) = Unit {0}
 SaysDiffers said = ⊥
 
--- of a letter with a proposal, delivered now at this clock
-pub record ProposedOnce (w : World) (l : Letter) (p : Proposal) (clock : ℕ) : Type 0 where
+-- of a message with a proposal, delivered now at this clock
+pub record ProposedOnce (w : World) (l : Message) (p : Proposal) (clock : ℕ) : Type 0 where
   -- where the host accepted its key once, nothing changes: no row comes, and no moment of acceptance changes
   pub still : Has w l.asked p.key (λ r. IsSome r.accepted) → (step_stage w l.asked clock (w.hosts l.asked).now.config (input.Propose l.asker p)).book ≡ (w.hosts l.asked).now.book
   pub alike : SaysDiffers (reply_now w l.asked clock (input.Propose l.asker p)) → ⊥
 
 abbrev pub Once : World → Type 0
-Once w = (j : ℕ) (l : Letter) → aged w.letters j ≡ Some l → (p : Proposal) → l.order.body ≡ order.Propose p → (clock : ℕ) → ProposedOnce w l p clock
+Once w = (j : ℕ) (l : Message) → aged w.messages j ≡ Some l → (p : Proposal) → l.order.body ≡ order.Propose p → (clock : ℕ) → ProposedOnce w l p clock
 
 -- ---- runs that were started
 -- the stage in which a row of the key was accepted first, and that row

@@ -1,4 +1,4 @@
--- A world of hosts: their stages, the letters that were ever sent, and the answers that were given.
+-- A world of hosts: their stages, the messages that were ever sent, and the answers that were given.
 use Rattle.std.specs.Prelude.{◌==◌, ◌∷◌, List, None, Option, Some, [], bytes_eq, find, if◌then◌else◌, length, option_map, ℕ}
 use Rattle.ps_time.specs.declared.key.RunKey.{RunKey}
 use Rattle.run_states.specs.Life.{closed_state, first}
@@ -28,9 +28,9 @@ pub record Host : Type 0 where
   pub now : Stage
   pub before : List Stage
 
--- ---- letters
+-- ---- messages
 -- an order of one host to another; a reply is its order with what was answered, and goes the other way
-pub record Letter : Type 0 where
+pub record Message : Type 0 where
   -- the numbers of the two hosts
   pub asker : ℕ
   pub asked : ℕ
@@ -89,7 +89,7 @@ pub record World : Type 0 where
   -- every number has a host; one that takes no part never acts
   pub hosts : ℕ → Host
   -- all that were ever sent, the latest first
-  pub letters : List Letter
+  pub messages : List Message
   -- all that were ever given, the latest first
   pub answers : List Answer
 
@@ -97,7 +97,7 @@ pub record World : Type 0 where
 abbrev pub stages : World → ℕ → List Stage
 stages w h = (w.hosts h).now ∷ (w.hosts h).before
 
--- the stage, or the letter, of a number: they are counted from 0 as they came
+-- the stage, or the message, of a number: they are counted from 0 as they came
 abbrev pub aged : {A : Type 0} → List A → ℕ → Option A
 aged [] n = None
 aged (s ∷ older) n = if n == length older then Some s else aged older n
@@ -115,7 +115,7 @@ abbrev pub start : (ℕ → List ℕ) → (ℕ → Config) → World
 start names configs = record {
   names = names;
   hosts = λ h. record { now = record { config = configs h; book = empty_book }; before = [] };
-  letters = [];
+  messages = [];
   answers = [];
 }
 
@@ -124,8 +124,8 @@ start names configs = record {
 abbrev pub push : World → ℕ → Stage → World
 push w h s = record w { hosts = λ g. if g == h then record { now = s; before = stages w h } else w.hosts g }
 
-abbrev pub posted : World → Letter → World
-posted w l = record w { letters = l ∷ w.letters }
+abbrev pub posted : World → Message → World
+posted w l = record w { messages = l ∷ w.messages }
 
 abbrev pub noted : World → Answer → World
 noted w a = record w { answers = a ∷ w.answers }

@@ -35,7 +35,7 @@ pub fn law_kept()
     ensures { (names : ℕ → List ℕ) (configs : ℕ → Config) → ((h : ℕ) → Right names h (configs h)) → (events : List Event) → MayRun (start names configs) events → KeptAnswers (run events (start names configs)) }
 {}
 
-/// Each letter that was sent is backed by its sender's row.
+/// Each message that was sent is backed by its sender's row.
 pub fn law_backed()
     ensures { (names : ℕ → List ℕ) (configs : ℕ → Config) → ((h : ℕ) → Right names h (configs h)) → (events : List Event) → MayRun (start names configs) events → AllBacked (run events (start names configs)) }
 {}

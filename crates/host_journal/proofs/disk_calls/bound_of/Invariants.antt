@@ -5,9 +5,9 @@ use Rattle.host_journal.proofs.disk_calls.bound_of.Given as goal
 abbrev pub invariant-loop-twice : goal.invariant-loop-twice
 invariant-loop-twice g l = record {
   read : g.D.Disk.premise → IsRead g.D.Disk.seen g.D.Disk.may_leave g.D.Disk.moment g.D.Disk.left_since l.fn.disk l.disk;
-  went : g.D.Disk.went l.fn.disk l.disk;
+  calls_advance : g.D.Disk.calls_advance l.fn.disk l.disk;
   told : g.D.Disk.told l.disk ≡ g.D.Disk.told l.fn.disk;
-  calm : g.D.Disk.disk_faults l.disk ≡ g.D.Disk.disk_faults l.fn.disk;
+  no_fault : g.D.Disk.disk_faults l.disk ≡ g.D.Disk.disk_faults l.fn.disk;
   some : 0 < l.bound;
 }
 

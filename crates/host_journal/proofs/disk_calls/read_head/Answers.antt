@@ -11,9 +11,9 @@ loop-count-preserved g c =
       read = λ p. read_then g.D.Disk.seen g.D.Disk.may_leave g.D.Disk.moment g.D.Disk.left_since c.args.disk.now c.loop-count.disk c.read_part.new.disk (i.read p) (more.read p);
       so_far = λ p. read_longer (g.D.Disk.seen c.args.disk.now) c.loop-count.head c.read_part.new.bytes c.loop-count.count c.in_ok-more.more (i.so_far p)
           (subst (λ (l : List ℕ). ReadsAt l c.loop-count.count (drop c.loop-count.count c.read_part.new.bytes) c.in_ok-more.more) (i.read p).same (more.bytes p)) i.within more.front more.bound;
-      went = g.met.D.Disk.went_trans _ _ _ i.went more.went;
+      calls_advance = g.met.D.Disk.calls_advance_trans _ _ _ i.calls_advance more.calls_advance;
       told = more.told ∙ i.told;
-      calm = more.calm ∙ i.calm;
+      no_fault = more.no_fault ∙ i.no_fault;
       within = more.bound;
       same = more.len ∙ i.same;
     }

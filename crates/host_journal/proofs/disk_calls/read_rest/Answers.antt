@@ -16,7 +16,7 @@ loop-count-preserved g c =
       read = λ p. read_on g.D.Disk.seen g.D.Disk.may_leave g.D.Disk.moment g.D.Disk.left_since c.args.disk.now c.loop-count.disk c.read.new.self (i.read p) (c.read.ensures.seen p) (c.read.ensures.crash p) (c.read.ensures.time p);
       so_far = λ p. subst (ReadSoFar (g.D.Disk.seen c.args.disk.now)) (sym items) (read_more (g.D.Disk.seen c.args.disk.now) all buf count (i.so_far p)
           (subst (λ n. ReadsAt (g.D.Disk.seen c.args.disk.now) n buf count) size (subst (λ l. ReadsAt l c.len.result buf count) (i.read p).same (c.in-Ok-read.ensures.bytes p))) c.in-Ok-read.ensures.bound.0);
-      went = g.met.D.Disk.went_trans c.args.disk.now c.loop-count.disk c.read.new.self i.went c.read.ensures.went;
+      calls_advance = g.met.D.Disk.calls_advance_trans c.args.disk.now c.loop-count.disk c.read.new.self i.calls_advance c.read.ensures.calls_advance;
       told = c.read.ensures.told ∙ i.told;
-      calm = search rules;
+      no_fault = search rules;
     }

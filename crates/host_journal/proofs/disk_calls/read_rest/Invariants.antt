@@ -7,9 +7,9 @@ abbrev pub invariant-loop-count : goal.invariant-loop-count
 invariant-loop-count g l = record {
   read : g.D.Disk.premise → IsRead g.D.Disk.seen g.D.Disk.may_leave g.D.Disk.moment g.D.Disk.left_since l.fn.disk l.disk;
   so_far : g.D.Disk.premise → ReadSoFar (g.D.Disk.seen l.fn.disk) l.all.items;
-  went : g.D.Disk.went l.fn.disk l.disk;
+  calls_advance : g.D.Disk.calls_advance l.fn.disk l.disk;
   told : g.D.Disk.told l.disk ≡ g.D.Disk.told l.fn.disk;
-  calm : g.D.Disk.disk_faults l.disk ≡ g.D.Disk.disk_faults l.fn.disk;
+  no_fault : g.D.Disk.disk_faults l.disk ≡ g.D.Disk.disk_faults l.fn.disk;
 }
 
 abbrev pub decreases-loop-count : goal.decreases-loop-count

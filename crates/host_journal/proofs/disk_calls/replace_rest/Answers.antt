@@ -41,21 +41,21 @@ returns-clause-moments g c p =
 
 pub returns-in_err-cut-clause-told_first : goal.returns-in_err-cut-clause-told_first
 returns-in_err-cut-clause-told_first g c =
-    on_err _ c.from_residual.result (fails_now g.D.Disk.told g.D.Disk.disk_faults g.D.Disk.went g.met.D.Disk.went_refl g.met.D.Disk.went_trans c.args.disk.now c.cut.new.self (Cut 9) (Write 9 c.args.piece.now ∷ Sync ∷ []) c.cut.ensures.told c.in_err-cut.ensures.cause.failed c.cut.ensures.went)
+    on_err _ c.from_residual.result (fails_now g.D.Disk.told g.D.Disk.disk_faults g.D.Disk.calls_advance g.met.D.Disk.calls_advance_refl g.met.D.Disk.calls_advance_trans c.args.disk.now c.cut.new.self (Cut 9) (Write 9 c.args.piece.now ∷ Sync ∷ []) c.cut.ensures.told c.in_err-cut.ensures.cause.failed c.cut.ensures.calls_advance)
 
 pub returns-in_err-write_at-clause-told_first : goal.returns-in_err-write_at-clause-told_first
 returns-in_err-write_at-clause-told_first g c =
-    on_err _ c.from_residual-in_err-write_at.result (told_rest g.D.Disk.told g.D.Disk.disk_faults g.D.Disk.went g.met.D.Disk.went_refl g.met.D.Disk.went_trans c.args.disk.now c.cut.new.self c.write_at.new.self (Cut 9 ∷ []) (Write 9 c.args.piece.now ∷ Sync ∷ [])
-    (record { told = c.cut.ensures.told; calm = c.in_ok-cut.ensures.cause.ok; went = c.cut.ensures.went })
-    (fails_now g.D.Disk.told g.D.Disk.disk_faults g.D.Disk.went g.met.D.Disk.went_refl g.met.D.Disk.went_trans c.cut.new.self c.write_at.new.self (Write 9 c.args.piece.now) (Sync ∷ []) c.write_at.ensures.told c.in_err-write_at.ensures.cause.failed c.write_at.ensures.went))
+    on_err _ c.from_residual-in_err-write_at.result (told_rest g.D.Disk.told g.D.Disk.disk_faults g.D.Disk.calls_advance g.met.D.Disk.calls_advance_refl g.met.D.Disk.calls_advance_trans c.args.disk.now c.cut.new.self c.write_at.new.self (Cut 9 ∷ []) (Write 9 c.args.piece.now ∷ Sync ∷ [])
+    (record { told = c.cut.ensures.told; no_fault = c.in_ok-cut.ensures.cause.ok; calls_advance = c.cut.ensures.calls_advance })
+    (fails_now g.D.Disk.told g.D.Disk.disk_faults g.D.Disk.calls_advance g.met.D.Disk.calls_advance_refl g.met.D.Disk.calls_advance_trans c.cut.new.self c.write_at.new.self (Write 9 c.args.piece.now) (Sync ∷ []) c.write_at.ensures.told c.in_err-write_at.ensures.cause.failed c.write_at.ensures.calls_advance))
 
 pub returns-in_err-sync-clause-told_first : goal.returns-in_err-sync-clause-told_first
 returns-in_err-sync-clause-told_first g c =
-    on_err _ c.from_residual-in_err-sync.result (told_rest g.D.Disk.told g.D.Disk.disk_faults g.D.Disk.went g.met.D.Disk.went_refl g.met.D.Disk.went_trans c.args.disk.now c.cut.new.self c.sync.new.self (Cut 9 ∷ []) (Write 9 c.args.piece.now ∷ Sync ∷ [])
-    (record { told = c.cut.ensures.told; calm = c.in_ok-cut.ensures.cause.ok; went = c.cut.ensures.went })
-    (told_rest g.D.Disk.told g.D.Disk.disk_faults g.D.Disk.went g.met.D.Disk.went_refl g.met.D.Disk.went_trans c.cut.new.self c.write_at.new.self c.sync.new.self (Write 9 c.args.piece.now ∷ []) (Sync ∷ [])
-    (record { told = c.write_at.ensures.told; calm = c.in_ok-write_at.ensures.cause.ok; went = c.write_at.ensures.went })
-    (fails_now g.D.Disk.told g.D.Disk.disk_faults g.D.Disk.went g.met.D.Disk.went_refl g.met.D.Disk.went_trans c.write_at.new.self c.sync.new.self Sync [] c.sync.ensures.told c.in_err-sync.ensures.cause.failed c.sync.ensures.went)))
+    on_err _ c.from_residual-in_err-sync.result (told_rest g.D.Disk.told g.D.Disk.disk_faults g.D.Disk.calls_advance g.met.D.Disk.calls_advance_refl g.met.D.Disk.calls_advance_trans c.args.disk.now c.cut.new.self c.sync.new.self (Cut 9 ∷ []) (Write 9 c.args.piece.now ∷ Sync ∷ [])
+    (record { told = c.cut.ensures.told; no_fault = c.in_ok-cut.ensures.cause.ok; calls_advance = c.cut.ensures.calls_advance })
+    (told_rest g.D.Disk.told g.D.Disk.disk_faults g.D.Disk.calls_advance g.met.D.Disk.calls_advance_refl g.met.D.Disk.calls_advance_trans c.cut.new.self c.write_at.new.self c.sync.new.self (Write 9 c.args.piece.now ∷ []) (Sync ∷ [])
+    (record { told = c.write_at.ensures.told; no_fault = c.in_ok-write_at.ensures.cause.ok; calls_advance = c.write_at.ensures.calls_advance })
+    (fails_now g.D.Disk.told g.D.Disk.disk_faults g.D.Disk.calls_advance g.met.D.Disk.calls_advance_refl g.met.D.Disk.calls_advance_trans c.write_at.new.self c.sync.new.self Sync [] c.sync.ensures.told c.in_err-sync.ensures.cause.failed c.sync.ensures.calls_advance)))
 
 pub returns-clause-told : goal.returns-clause-told
 returns-clause-told g c =

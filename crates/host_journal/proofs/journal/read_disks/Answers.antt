@@ -19,24 +19,24 @@ returns-clause-pair g c p =
     ∙ c.in-Ok-2.is
 
 pub returns-in_err-one-clause-told_err : goal.returns-in_err-one-clause-told_err
-returns-in_err-one-clause-told_err g c _ = first_sync g.D.Disk.told g.D.Disk.disk_faults g.D.Disk.went g.met.D.Disk.went_refl g.met.D.Disk.went_trans c.args.first.now c.args.second.now c.read_front.new.disk c.read_front.ensures.told c.in_err-one.ensures.cause c.read_front.ensures.went
+returns-in_err-one-clause-told_err g c _ = first_sync g.D.Disk.told g.D.Disk.disk_faults g.D.Disk.calls_advance g.met.D.Disk.calls_advance_refl g.met.D.Disk.calls_advance_trans c.args.first.now c.args.second.now c.read_front.new.disk c.read_front.ensures.told c.in_err-one.ensures.cause c.read_front.ensures.calls_advance
 
 pub returns-in_err-two-clause-told_err : goal.returns-in_err-two-clause-told_err
 returns-in_err-two-clause-told_err g c _ = inr (record {
   mid = c.read_front.new.disk;
-  before = record { told = c.read_front.ensures.told; calm = c.in_ok-one.ensures.calm; went = c.read_front.ensures.went };
+  before = record { told = c.read_front.ensures.told; no_fault = c.in_ok-one.ensures.no_fault; calls_advance = c.read_front.ensures.calls_advance };
   still = refl;
   told = c.read_front-2.ensures.told;
   rose = inr c.in_err-two.ensures.cause;
-  went_one = g.met.D.Disk.went_refl c.read_front.new.disk;
-  went_other = c.read_front-2.ensures.went;
+  calls_advance_one = g.met.D.Disk.calls_advance_refl c.read_front.new.disk;
+  calls_advance_other = c.read_front-2.ensures.calls_advance;
 })
 
 pub returns-in_err-bytes-clause-told_err : goal.returns-in_err-bytes-clause-told_err
 returns-in_err-bytes-clause-told_err g c is =
-    behind_syncs g.D.Disk.told g.D.Disk.disk_faults g.D.Disk.went g.met.D.Disk.went_refl g.met.D.Disk.went_trans c.args.first.now c.args.second.now c.read_front.new.disk c.read_front-2.new.disk c.read_either.new.first c.read_either.new.second
-    (record { told = c.read_front.ensures.told; calm = c.in_ok-one.ensures.calm; went = c.read_front.ensures.went })
-    (record { told = c.read_front-2.ensures.told; calm = c.in_ok-two.ensures.calm; went = c.read_front-2.ensures.went })
+    behind_syncs g.D.Disk.told g.D.Disk.disk_faults g.D.Disk.calls_advance g.met.D.Disk.calls_advance_refl g.met.D.Disk.calls_advance_trans c.args.first.now c.args.second.now c.read_front.new.disk c.read_front-2.new.disk c.read_either.new.first c.read_either.new.second
+    (record { told = c.read_front.ensures.told; no_fault = c.in_ok-one.ensures.no_fault; calls_advance = c.read_front.ensures.calls_advance })
+    (record { told = c.read_front-2.ensures.told; no_fault = c.in_ok-two.ensures.no_fault; calls_advance = c.read_front-2.ensures.calls_advance })
     c.read_either.ensures.told_first c.read_either.ensures.told_second
     (c.read_either.ensures.fault (handed_on c.from_residual-in_err-bytes.result c.read_either.result c.in_err-bytes.field-0.0 OpenReason.DiskFault c.from_residual-in_err-bytes.ensures.1 c.in_err-bytes.was is))
-    c.read_either.ensures.went_first c.read_either.ensures.went_second
+    c.read_either.ensures.calls_advance_first c.read_either.ensures.calls_advance_second

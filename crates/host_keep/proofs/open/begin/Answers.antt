@@ -95,7 +95,7 @@ pub returns-in-Err-Disk-clause-halted : goal.returns-in-Err-Disk-clause-halted
 returns-in-Err-Disk-clause-halted g c = λ _.
     let is : c.apply.result ≡ Err disk_fault = cc in (
       c.apply.new.self,
-      met_in_step g.D.Disk.premise g.D.Disk.seen g.D.Disk.told g.D.Disk.disk_faults g.D.Disk.went c.args.clock c.args.keep c.apply.new.self c.requires.ready (c.apply.ensures.failed is),
+      met_in_step g.D.Disk.premise g.D.Disk.seen g.D.Disk.told g.D.Disk.disk_faults g.D.Disk.calls_advance c.args.clock c.args.keep c.apply.new.self c.requires.ready (c.apply.ensures.failed is),
       c.refused-in-Err-Disk.ensures.first,
       c.refused-in-Err-Disk.ensures.second,
     )
@@ -110,4 +110,4 @@ pub returns-in-Err-Memory-clause-unmoved : goal.returns-in-Err-Memory-clause-unm
 returns-in-Err-Memory-clause-unmoved g c = λ _.
     let is : c.apply.result ≡ Err no_memory = cc in
     told_back g.D.Disk.told c.args.keep.journal c.apply.new.self.journal c.refused-in-Err-Memory.result.first c.refused-in-Err-Memory.result.second [] c.refused-in-Err-Memory.ensures.first c.refused-in-Err-Memory.ensures.second
-    (subst (λ b. TellsIn g.D.Disk.told c.args.keep.journal c.apply.new.self.journal (sync_calls b)) c.requires.ready (c.apply.ensures.wanting is).told)
+    (subst (λ b. TellsIn g.D.Disk.told c.args.keep.journal c.apply.new.self.journal (sync_calls b)) c.requires.ready (c.apply.ensures.out_of_memory is).told)

@@ -35,25 +35,25 @@ returns-in-Err-clause-place g c = λ p place e.
     (c.in-Err.ensures.place p place (c.reason_of.ensures.place place e))
 
 -- the opening's calls, and then those of the first step
-pub returns-in-Ok-clause-went : goal.returns-in-Ok-clause-went
-returns-in-Ok-clause-went g c =
-    let went = g.D.Disk.went in
+pub returns-in-Ok-clause-calls_advance : goal.returns-in-Ok-clause-calls_advance
+returns-in-Ok-clause-calls_advance g c =
+    let calls_advance = g.D.Disk.calls_advance in
     let place = c.in-Ok.keep.journal in
-    let opened = c.in-Ok.ensures.went in
-    IfOk-weaker c.begin.result (λ k. went (first_disk place) (first_disk k.journal) × went (second_disk place) (second_disk k.journal))
-    (λ k. went c.args.first (first_disk k.journal) × went c.args.second (second_disk k.journal))
-    (λ k on. (g.met.D.Disk.went_trans c.args.first (first_disk place) (first_disk k.journal) opened.0 on.0, g.met.D.Disk.went_trans c.args.second (second_disk place) (second_disk k.journal) opened.1 on.1))
-    c.begin.ensures.went
+    let opened = c.in-Ok.ensures.calls_advance in
+    IfOk-weaker c.begin.result (λ k. calls_advance (first_disk place) (first_disk k.journal) × calls_advance (second_disk place) (second_disk k.journal))
+    (λ k. calls_advance c.args.first (first_disk k.journal) × calls_advance c.args.second (second_disk k.journal))
+    (λ k on. (g.met.D.Disk.calls_advance_trans c.args.first (first_disk place) (first_disk k.journal) opened.0 on.0, g.met.D.Disk.calls_advance_trans c.args.second (second_disk place) (second_disk k.journal) opened.1 on.1))
+    c.begin.ensures.calls_advance
 
-pub returns-in-Ok-clause-went_err : goal.returns-in-Ok-clause-went_err
-returns-in-Ok-clause-went_err g c =
-    let went = g.D.Disk.went in
+pub returns-in-Ok-clause-calls_advance_err : goal.returns-in-Ok-clause-calls_advance_err
+returns-in-Ok-clause-calls_advance_err g c =
+    let calls_advance = g.D.Disk.calls_advance in
     let place = c.in-Ok.keep.journal in
-    let opened = c.in-Ok.ensures.went in
-    IfErr-weaker c.begin.result (λ f. went (first_disk place) f.first × went (second_disk place) f.second)
-    (λ f. went c.args.first f.first × went c.args.second f.second)
-    (λ f on. (g.met.D.Disk.went_trans c.args.first (first_disk place) f.first opened.0 on.0, g.met.D.Disk.went_trans c.args.second (second_disk place) f.second opened.1 on.1))
-    c.begin.ensures.went_err
+    let opened = c.in-Ok.ensures.calls_advance in
+    IfErr-weaker c.begin.result (λ f. calls_advance (first_disk place) f.first × calls_advance (second_disk place) f.second)
+    (λ f. calls_advance c.args.first f.first × calls_advance c.args.second f.second)
+    (λ f on. (g.met.D.Disk.calls_advance_trans c.args.first (first_disk place) f.first opened.0 on.0, g.met.D.Disk.calls_advance_trans c.args.second (second_disk place) f.second opened.1 on.1))
+    c.begin.ensures.calls_advance_err
 
 -- the limits are refused by the first step alone, of the host for which the disks stand
 pub returns-in-Err-clause-limits : goal.returns-in-Err-clause-limits
@@ -88,18 +88,18 @@ returns-in-Ok-clause-any_moment g c = λ p.
     let later = started s.config s.book c.args.clock in
     let from = stored g.D.Disk.seen mid.journal in
     ok_three (λ k. Adds g.D.Disk.moment g.D.Disk.left_since mid.journal k.journal (LeftIn from (IsMade StandsNow from later)))
-    (λ k. g.D.Disk.went (first_disk mid.journal) (first_disk k.journal) × g.D.Disk.went (second_disk mid.journal) (second_disk k.journal))
+    (λ k. g.D.Disk.calls_advance (first_disk mid.journal) (first_disk k.journal) × g.D.Disk.calls_advance (second_disk mid.journal) (second_disk k.journal))
     (λ k. k.machine.standing.book ≡ step_book s.config s.book c.args.clock Open)
     (λ k. (before : Book) × (k.machine.standing.book ≡ step_book c.args.config before c.args.clock Open)
-    × IsStarting g.D.Disk.seen g.D.Disk.may_leave g.D.Disk.moment g.D.Disk.left_since g.D.Disk.went c.args.config c.args.clock c.args.first c.args.second before (first_disk k.journal) (second_disk k.journal))
+    × IsStarting g.D.Disk.seen g.D.Disk.may_leave g.D.Disk.moment g.D.Disk.left_since g.D.Disk.calls_advance c.args.config c.args.clock c.args.first c.args.second before (first_disk k.journal) (second_disk k.journal))
     (λ k adds called became. (
       s.book,
       subst (λ (x : Config). k.machine.standing.book ≡ step_book x s.book c.args.clock Open) c.in-Ok.ensures.fixed became,
-      starting g.D.Disk.seen g.D.Disk.may_leave g.D.Disk.moment g.D.Disk.left_since g.D.Disk.went (λ disk bytes now. g.met.D.Disk.only_now disk bytes p now) (λ disk. g.met.D.Disk.reads_now disk p)
-          c.args.config c.args.clock c.args.first c.args.second mid c.in-Ok.ensures.fixed (c.in-Ok.ensures.begun p) (c.in-Ok.ensures.stands p) (c.begin.ensures.stands p) (c.begin.ensures.each p) c.in-Ok.ensures.went
+      starting g.D.Disk.seen g.D.Disk.may_leave g.D.Disk.moment g.D.Disk.left_since g.D.Disk.calls_advance (λ disk bytes now. g.met.D.Disk.only_now disk bytes p now) (λ disk. g.met.D.Disk.reads_now disk p)
+          c.args.config c.args.clock c.args.first c.args.second mid c.in-Ok.ensures.fixed (c.in-Ok.ensures.begun p) (c.in-Ok.ensures.stands p) (c.begin.ensures.stands p) (c.begin.ensures.each p) c.in-Ok.ensures.calls_advance
           (first_disk k.journal) (second_disk k.journal) adds.first adds.second called,
     ))
-    c.begin.result (c.begin.ensures.adds p) c.begin.ensures.went (c.begin.ensures.book p)
+    c.begin.result (c.begin.ensures.adds p) c.begin.ensures.calls_advance (c.begin.ensures.book p)
 
 pub returns-in-Ok-clause-any_moment_err : goal.returns-in-Ok-clause-any_moment_err
 returns-in-Ok-clause-any_moment_err g c = λ p.
@@ -109,17 +109,17 @@ returns-in-Ok-clause-any_moment_err g c = λ p.
     let from = stored g.D.Disk.seen mid.journal in
     err_three (λ f. AddsOnly g.D.Disk.moment g.D.Disk.left_since (first_disk mid.journal) f.first (LeftIn from (IsMade StandsNow from later) false))
     (λ f. AddsOnly g.D.Disk.moment g.D.Disk.left_since (second_disk mid.journal) f.second (LeftIn from (IsMade StandsNow from later) true))
-    (λ f. g.D.Disk.went (first_disk mid.journal) f.first × g.D.Disk.went (second_disk mid.journal) f.second)
+    (λ f. g.D.Disk.calls_advance (first_disk mid.journal) f.first × g.D.Disk.calls_advance (second_disk mid.journal) f.second)
     (λ f. EachUnlessUndone g.D.Disk.seen g.D.Disk.may_leave g.D.Disk.moment g.D.Disk.left_since c.args.first c.args.second f.first f.second
     (λ x y. StandsAsBefore StandsNow StoodOnce (pair_of (g.D.Disk.seen c.args.first) (g.D.Disk.seen c.args.second)) (pair_of x y))
-    ⊎ ((before : Book) × IsStarting g.D.Disk.seen g.D.Disk.may_leave g.D.Disk.moment g.D.Disk.left_since g.D.Disk.went c.args.config c.args.clock c.args.first c.args.second before f.first f.second))
+    ⊎ ((before : Book) × IsStarting g.D.Disk.seen g.D.Disk.may_leave g.D.Disk.moment g.D.Disk.left_since g.D.Disk.calls_advance c.args.config c.args.clock c.args.first c.args.second before f.first f.second))
     (λ f adds adds_too called. inr (
       s.book,
-      starting g.D.Disk.seen g.D.Disk.may_leave g.D.Disk.moment g.D.Disk.left_since g.D.Disk.went (λ disk bytes now. g.met.D.Disk.only_now disk bytes p now) (λ disk. g.met.D.Disk.reads_now disk p)
-          c.args.config c.args.clock c.args.first c.args.second mid c.in-Ok.ensures.fixed (c.in-Ok.ensures.begun p) (c.in-Ok.ensures.stands p) (c.begin.ensures.stands p) (c.begin.ensures.each p) c.in-Ok.ensures.went
+      starting g.D.Disk.seen g.D.Disk.may_leave g.D.Disk.moment g.D.Disk.left_since g.D.Disk.calls_advance (λ disk bytes now. g.met.D.Disk.only_now disk bytes p now) (λ disk. g.met.D.Disk.reads_now disk p)
+          c.args.config c.args.clock c.args.first c.args.second mid c.in-Ok.ensures.fixed (c.in-Ok.ensures.begun p) (c.in-Ok.ensures.stands p) (c.begin.ensures.stands p) (c.begin.ensures.each p) c.in-Ok.ensures.calls_advance
           f.first f.second adds adds_too called,
     ))
-    c.begin.result (c.begin.ensures.adds_first p) (c.begin.ensures.adds_second p) c.begin.ensures.went_err
+    c.begin.result (c.begin.ensures.adds_first p) (c.begin.ensures.adds_second p) c.begin.ensures.calls_advance_err
 
 -- ---- the calls that are told
 pub returns-in-Ok-clause-told : goal.returns-in-Ok-clause-told
@@ -134,12 +134,12 @@ pub returns-in-Ok-clause-told_err : goal.returns-in-Ok-clause-told_err
 returns-in-Ok-clause-told_err g c =
     let mid = c.in-Ok.keep in
     IfErr-weaker c.begin.result
-    (λ f. f.reason ≡ DiskFault → (now : KeptHost g.row.D.Denot) × IsFirstFault g.D.Disk.premise g.D.Disk.seen g.D.Disk.told g.D.Disk.disk_faults g.D.Disk.went c.args.clock mid now × (f.first ≡ first_disk now.journal) × (f.second ≡ second_disk now.journal))
-    (λ f. f.reason ≡ DiskFault → TellsSome g.D.Disk.told g.D.Disk.disk_faults g.D.Disk.went c.args.first c.args.second f.first f.second (sync_calls false)
-    ⊎ (Unwritten g.D.Disk.premise g.D.Disk.seen g.D.Disk.told g.D.Disk.disk_faults g.D.Disk.went StandsNow c.args.first c.args.second f.first f.second
-    ⊎ Halted g.D.Disk.premise g.D.Disk.seen g.D.Disk.told g.D.Disk.disk_faults g.D.Disk.went c.args.clock c.args.first c.args.second f.first f.second))
-    (λ f halted e. inr (inr (halted_so g.D.Disk.premise g.D.Disk.seen g.D.Disk.told g.D.Disk.disk_faults g.D.Disk.went c.args.clock g.met.D.Disk.went_refl g.met.D.Disk.went_trans c.args.first c.args.second mid c.in-Ok.ensures.opened
-    c.in-Ok.ensures.ready c.in-Ok.ensures.calm c.in-Ok.ensures.went f.first f.second (halted e))))
+    (λ f. f.reason ≡ DiskFault → (now : KeptHost g.row.D.Denot) × IsFirstFault g.D.Disk.premise g.D.Disk.seen g.D.Disk.told g.D.Disk.disk_faults g.D.Disk.calls_advance c.args.clock mid now × (f.first ≡ first_disk now.journal) × (f.second ≡ second_disk now.journal))
+    (λ f. f.reason ≡ DiskFault → TellsSome g.D.Disk.told g.D.Disk.disk_faults g.D.Disk.calls_advance c.args.first c.args.second f.first f.second (sync_calls false)
+    ⊎ (Unwritten g.D.Disk.premise g.D.Disk.seen g.D.Disk.told g.D.Disk.disk_faults g.D.Disk.calls_advance StandsNow c.args.first c.args.second f.first f.second
+    ⊎ Halted g.D.Disk.premise g.D.Disk.seen g.D.Disk.told g.D.Disk.disk_faults g.D.Disk.calls_advance c.args.clock c.args.first c.args.second f.first f.second))
+    (λ f halted e. inr (inr (halted_so g.D.Disk.premise g.D.Disk.seen g.D.Disk.told g.D.Disk.disk_faults g.D.Disk.calls_advance c.args.clock g.met.D.Disk.calls_advance_refl g.met.D.Disk.calls_advance_trans c.args.first c.args.second mid c.in-Ok.ensures.opened
+    c.in-Ok.ensures.ready c.in-Ok.ensures.no_fault c.in-Ok.ensures.calls_advance f.first f.second (halted e))))
     c.begin.ensures.halted
 
 pub returns-in-Ok-clause-told_refused : goal.returns-in-Ok-clause-told_refused
@@ -147,14 +147,14 @@ returns-in-Ok-clause-told_refused g c =
     let mid = c.in-Ok.keep in
     IfErr-weaker c.begin.result (λ f. (f.reason ≡ DiskFault → ⊥) → TellsPair g.D.Disk.told (first_disk mid.journal) (second_disk mid.journal) f.first f.second [])
     (λ f. (f.reason ≡ DiskFault → ⊥) → TellsPair g.D.Disk.told c.args.first c.args.second f.first f.second (sync_calls false) ⊎ Unstarted g.D.Disk.premise g.D.Disk.seen g.D.Disk.told c.args.clock c.args.first c.args.second f.first f.second)
-    (λ f unmoved calm. inr (unstarted_so g.D.Disk.premise g.D.Disk.seen g.D.Disk.told c.args.clock c.args.first c.args.second mid c.in-Ok.ensures.opened f.first f.second (unmoved calm)))
+    (λ f unmoved no_fault. inr (unstarted_so g.D.Disk.premise g.D.Disk.seen g.D.Disk.told c.args.clock c.args.first c.args.second mid c.in-Ok.ensures.opened f.first f.second (unmoved no_fault)))
     c.begin.ensures.unmoved
 
 pub returns-in-Err-clause-told_err : goal.returns-in-Err-clause-told_err
 returns-in-Err-clause-told_err g c = λ e. ⊎_elim (λ syncs. inl syncs) (λ written. inr (inl written)) (c.in-Err.ensures.told_err (c.reason_of.ensures.disk e))
 
 pub returns-in-Err-clause-told_refused : goal.returns-in-Err-clause-told_refused
-returns-in-Err-clause-told_refused g c = λ calm. inl (c.in-Err.ensures.told_refused (c.reason_of.ensures.no_disk calm))
+returns-in-Err-clause-told_refused g c = λ no_fault. inl (c.in-Err.ensures.told_refused (c.reason_of.ensures.no_disk no_fault))
 
 pub returns-in-Err-clause-any_moment_err : goal.returns-in-Err-clause-any_moment_err
 returns-in-Err-clause-any_moment_err g c = λ p. inl (c.in-Err.ensures.unless_undone_err p)

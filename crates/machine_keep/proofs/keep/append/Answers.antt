@@ -8,4 +8,4 @@ returns-in-Ok-clause-told g c =
 
 pub returns-in-Err-clause-told_first : goal.returns-in-Err-clause-told_first
 returns-in-Err-clause-told_first g c =
-    counting_some g.D.Disk.told g.D.Disk.disk_faults g.D.Disk.went g.met.D.Disk.went_refl g.met.D.Disk.went_trans c.args.journal.now c.append.new.self c.append.ensures.kept c.append.ensures.other (append_calls c.args.journal.now.end c.args.bytes.now) c.in-Err.ensures.told_first
+    counting_some g.D.Disk.told g.D.Disk.disk_faults g.D.Disk.calls_advance g.met.D.Disk.calls_advance_refl g.met.D.Disk.calls_advance_trans c.args.journal.now c.append.new.self c.append.ensures.kept c.append.ensures.other (append_calls c.args.journal.now.end c.args.bytes.now) c.in-Err.ensures.told_first

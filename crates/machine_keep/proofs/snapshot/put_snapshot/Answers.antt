@@ -18,7 +18,7 @@ returns-in_err-snapshot-clause-told_first g c _ =
     let image = c.in_ok-image.image.bytes in (
       image,
       (c.in_ok-image.ensures.stands, omega (arith, c.len.ensures, c.if-len-gt-MOST_IMAGE_BYTES.false), omega (arith, c.generation.ensures, c.generation.type_inv, c.if-generation-eq18446744073709551615.false)),
-      turned_some g.D.Disk.told g.D.Disk.disk_faults g.D.Disk.went g.met.D.Disk.went_refl g.met.D.Disk.went_trans c.args.journal.now c.image_in.new.journal c.snapshot.new.self image c.image_in.ensures.same c.in_err-snapshot.ensures.told_first c.in_err-snapshot.ensures.kept.0 c.in_err-snapshot.ensures.kept.1,
+      turned_some g.D.Disk.told g.D.Disk.disk_faults g.D.Disk.calls_advance g.met.D.Disk.calls_advance_refl g.met.D.Disk.calls_advance_trans c.args.journal.now c.image_in.new.journal c.snapshot.new.self image c.image_in.ensures.same c.in_err-snapshot.ensures.told_first c.in_err-snapshot.ensures.kept.0 c.in_err-snapshot.ensures.kept.1,
     )
 
 pub returns-clause-turned : goal.returns-clause-turned

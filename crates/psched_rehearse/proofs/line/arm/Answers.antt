@@ -1,5 +1,5 @@
 use Rattle.rehearsal_lines.proofs.ResultLemmas.{on_ok}
 use Rattle.psched_rehearse.proofs.line.arm.Goals as goal
 
-pub returns-clause-scene : goal.returns-clause-scene
-returns-clause-scene c = λ hosts. on_ok c.add_said.result (c.in_ok-arm.ensures hosts)
+pub returns-clause-simulation : goal.returns-clause-simulation
+returns-clause-simulation c = λ hosts. on_ok c.add_said.result (c.in_ok-arm.ensures hosts)

@@ -5,25 +5,25 @@ use Rattle.simulated_machine.specs.Held.{Held}
 use Rattle.ps_disks.specs.MemoryDisk.{DiskState}
 use Rattle.world_law.specs.World.{Stage}
 use Rattle.rehearsal_lines.specs.Kept.{AreKeptOn}
-use Rattle.psched_rehearse.proofs.SeatLemmas.{none_left}
+use Rattle.psched_rehearse.proofs.SimulatedLemmas.{none_left}
 use Rattle.psched_rehearse.proofs.rehearse.disks_of.Goals as goal
 
 -- one more
-pub loop-seat-preserved : goal.loop-seat-preserved
-loop-seat-preserved c =
-    let made : List (DiskState × DiskState) = c.loop-seat.disks.items in
+pub loop-held_host-preserved : goal.loop-held_host-preserved
+loop-held_host-preserved c =
+    let made : List (DiskState × DiskState) = c.loop-held_host.disks.items in
     let pair = c.in_ok-into_disks.field-0 in
     record {
       can_next = tt;
       is_finite = tt;
       kept = λ more left.
-          let those : AreKeptOn (into_iter_items c.loop-seat.seat-iterator) (pair ∷ more) = subst (λ (xs : List (Held Stage)). AreKeptOn xs (pair ∷ more)) (sym c.in-Some.ensures.steps.0) (c.in_ok-into_disks.ensures, left) in
-          subst (AreKeptOn c.args.seats.items) (sym (ap (λ xs. xs ++ more) c.in_ok-push.ensures.items ∙ append_assoc made (pair ∷ []) more)) (c.loop-seat.invariant.kept (pair ∷ more) those);
+          let those : AreKeptOn (into_iter_items c.loop-held_host.held_host-iterator) (pair ∷ more) = subst (λ (xs : List (Held Stage)). AreKeptOn xs (pair ∷ more)) (sym c.in-Some.ensures.steps.0) (c.in_ok-into_disks.ensures, left) in
+          subst (AreKeptOn c.args.held_hosts.items) (sym (ap (λ xs. xs ++ more) c.in_ok-push.ensures.items ∙ append_assoc made (pair ∷ []) more)) (c.loop-held_host.invariant.kept (pair ∷ more) those);
     }
 
 -- none is left
 pub returns : goal.returns
 returns c =
-    let left : into_iter_items c.loop-seat.seat-iterator ≡ [] =
-    none_left (into_iter_items c.loop-seat.seat-iterator) (sym c.loop-seat.seat-iterator.rest.ok.0 ∙ c.in-None.ensures.steps.0) in
-    subst (AreKeptOn c.args.seats.items) (append-nil c.loop-seat.disks.items) (c.loop-seat.invariant.kept [] (subst (λ (ss : List (Held Stage)). AreKeptOn ss []) (sym left) tt))
+    let left : into_iter_items c.loop-held_host.held_host-iterator ≡ [] =
+    none_left (into_iter_items c.loop-held_host.held_host-iterator) (sym c.loop-held_host.held_host-iterator.rest.ok.0 ∙ c.in-None.ensures.steps.0) in
+    subst (AreKeptOn c.args.held_hosts.items) (append-nil c.loop-held_host.disks.items) (c.loop-held_host.invariant.kept [] (subst (λ (ss : List (Held Stage)). AreKeptOn ss []) (sym left) tt))

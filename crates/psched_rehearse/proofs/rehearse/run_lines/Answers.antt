@@ -6,7 +6,7 @@ use Rattle.rehearsal_script.specs.declared.script.ScriptHost.{ScriptHost}
 use Rattle.rehearsal_report.specs.Line.{line_text}
 use Rattle.rehearsal_model.specs.Moves.{Outcomes}
 use Rattle.rehearsal_model.specs.Plays.{MayLine}
-use Rattle.rehearsal_model.specs.Scenes.{Scene, scene_line}
+use Rattle.rehearsal_model.specs.Simulations.{Simulation, simulation_line}
 use Rattle.rehearsal_model.specs.Telling.{line_said}
 use Rattle.rehearsal_lines.specs.Playing.{IsPlaying}
 use Rattle.psched_rehearse.proofs.PlayLemmas.{HasCome, all_configs, all_told, last_low, one_more, playing, worlds_safe}
@@ -18,7 +18,7 @@ run_line-requires-clause-playing g c =
     let hosts = c.args.script.now.hosts in
     let come = c.loop-numbered.invariant.come in
     subst (λ (hs : List ScriptHost). IsPlaying hs c.loop-numbered.now) (sym c.as_slice-hosts.ensures)
-    (subst (IsPlaying hosts) come.scene_so (playing hosts c.requires.lawful.hosts come.play come.is))
+    (subst (IsPlaying hosts) come.simulation_so (playing hosts c.requires.lawful.hosts come.play come.is))
 
 pub loop-numbered-preserved : goal.loop-numbered-preserved
 loop-numbered-preserved g c =
@@ -32,7 +32,7 @@ loop-numbered-preserved g c =
     let hosts_are = c.as_slice-hosts.ensures in
     let i = c.loop-numbered.numbered-index in
     let l = c.numbered-item.result in
-    let b : Scene = c.loop-numbered.now in
+    let b : Simulation = c.loop-numbered.now in
     let report = c.loop-numbered.report in
     let within : i < length items = omega arith in
     let here : l ≡ get_or items i l = c.numbered-item.is in
@@ -46,7 +46,7 @@ loop-numbered-preserved g c =
           (subst (λ (xs : List Numbered). HasCome comes hosts lines xs c.args.report.now report b) left c.loop-numbered.invariant.come)
           is (subst (λ (x : Outcomes). MayLine x hosts b l.line) same (subst (λ (hs : List ScriptHost). MayLine now hs b l.line) hosts_are c.in_ok-run_line.ensures.may))
           c.run_line.new.report (c.in_ok-run_line.ensures.report ∙ (ap (λ (hs : List ScriptHost). report ++ line_text l.number (line_said now hs b l.line)) hosts_are ∙ ap (λ (x : Outcomes). report ++ line_text l.number (line_said x hosts b l.line)) same))
-          c.run_line.new.now (c.in_ok-run_line.ensures.scene ∙ (ap (λ (hs : List ScriptHost). scene_line now hs b l.line) hosts_are ∙ ap (λ (x : Outcomes). scene_line x hosts b l.line) same));
+          c.run_line.new.now (c.in_ok-run_line.ensures.simulation ∙ (ap (λ (hs : List ScriptHost). simulation_line now hs b l.line) hosts_are ∙ ap (λ (x : Outcomes). simulation_line x hosts b l.line) same));
     }
 
 -- none is left

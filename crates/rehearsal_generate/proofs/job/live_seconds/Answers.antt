@@ -1,6 +1,6 @@
 use Rattle.std.proofs.Common.{◌≡◌, ◌≤◌, ◌+◌, ◌∙◌, ap, arith, subst, suc, sym, ℕ}
 use Rattle.ps_time.specs.Numbers.{greatest_moment}
-use Rattle.rehearsal_model.specs.Scenes.{Scene}
+use Rattle.rehearsal_model.specs.Simulations.{Simulation}
 use Rattle.rehearsal_generate.specs.Shown.{IsShown}
 use Rattle.rehearsal_generate.specs.Work.{second, seconds, shows}
 use Rattle.rehearsal_generate.specs.declared.tally.Tally.{Tally}
@@ -14,7 +14,7 @@ loop-second-preserved c =
     let place = c.args.place in
     let start : ℕ = c.args.start in
     let n : ℕ = c.loop-second.second in
-    let b : Scene = c.loop-second.now in
+    let b : Simulation = c.loop-second.now in
     let t : Tally = c.loop-second.tally in
     let clock : ℕ = start + n + 1 in
     let low : clock ≤ greatest_moment = omega (arith, c.requires.clock) in
@@ -25,7 +25,7 @@ loop-second-preserved c =
           is
           ∙ (ap (second (shows hosts) place clock) c.loop-second.invariant.went
           ∙ ap (λ (k : ℕ). seconds (shows hosts) place start k (c.args.now.now, c.args.tally.now)) next);
-      shown = subst (λ (x : Scene × Tally). IsShown hosts x.0) (sym is) (shown_second hosts b c.loop-second.invariant.shown place clock c.requires.place low t);
+      shown = subst (λ (x : Simulation × Tally). IsShown hosts x.0) (sym is) (shown_second hosts b c.loop-second.invariant.shown place clock c.requires.place low t);
     }
 
 pub returns : goal.returns

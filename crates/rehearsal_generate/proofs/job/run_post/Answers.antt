@@ -1,7 +1,7 @@
 use Rattle.std.proofs.Common.{◌≤◌, arith, subst, sym, ℕ}
 use Rattle.ps_time.specs.Numbers.{greatest_moment}
 use Rattle.rehearsal_model.specs.Plays.{MayMake}
-use Rattle.rehearsal_model.specs.Scenes.{Scene}
+use Rattle.rehearsal_model.specs.Simulations.{Simulation}
 use Rattle.rehearsal_generate.specs.Posts.{post_of}
 use Rattle.rehearsal_generate.specs.Shown.{IsShown}
 use Rattle.rehearsal_generate.specs.Work.{moment_of_post, posting}
@@ -20,12 +20,12 @@ live_seconds-requires-clause-shown c =
     let hosts = c.args.hosts.now in
     let clock : ℕ = moment_of_post c.args.number in
     let low : clock ≤ greatest_moment = omega (arith, c.requires.number) in
-    subst (IsShown hosts) (sym (c.in_ok-post.ensures.scene hosts))
+    subst (IsShown hosts) (sym (c.in_ok-post.ensures.simulation hosts))
     (shown_posted hosts c.args.now.now c.requires.shown clock c.draw_post-drawn.result low c.draw_post-drawn.ensures.place c.in_ok-post.ensures.may)
 
 pub returns-clause-may : goal.returns-clause-may
 returns-clause-may c =
-    let b : Scene = c.args.now.now in
+    let b : Simulation = c.args.now.now in
     let clock : ℕ = moment_of_post c.args.number in
     ok_always (MayMake b (posting b clock (post_of c.args.tally.now.seed))) c.live_seconds.result
     (subst (λ (q : Post). MayMake b (posting b clock q)) c.draw_post-drawn.ensures.post c.in_ok-post.ensures.may)

@@ -1,7 +1,7 @@
 use Rattle.std.proofs.Common.{◌≡◌, ◌<◌, ◌+◌, List, arith, length, refl, subst, sym, ℕ}
 use Rattle.rehearsal_script.specs.Lawful.{AreLawfulHosts}
 use Rattle.rehearsal_script.specs.declared.script.ScriptHost.{ScriptHost}
-use Rattle.rehearsal_model.specs.Scenes.{first_play}
+use Rattle.rehearsal_model.specs.Simulations.{first_play}
 use Rattle.rehearsal_generate.specs.Shown.{Alike}
 use Rattle.rehearsal_generate.specs.Work.{plays, worked}
 use Rattle.rehearsal_generate.proofs.HostLemmas.{eight_work, lawful_work}

@@ -1,4 +1,4 @@
-use Rattle.rehearsal_model.specs.Scenes.{first_play}
+use Rattle.rehearsal_model.specs.Simulations.{first_play}
 use Rattle.rehearsal_generate.specs.Shown.{Alike}
 use Rattle.rehearsal_generate.specs.Work.{plays, worked}
 use Rattle.rehearsal_generate.proofs.job.run_posts.Given as goal

@@ -1,5 +1,5 @@
 use Rattle.std.proofs.Common.{◌∙◌, ap}
-use Rattle.rehearsal_model.specs.Scenes.{at_last}
+use Rattle.rehearsal_model.specs.Simulations.{at_last}
 use Rattle.rehearsal_generate.proofs.moves.crash.Goals as goal
 
 pub returns : goal.returns

@@ -1,7 +1,7 @@
 use Rattle.std.specs.Prelude.{codes}
 use Rattle.std.proofs.Common.{◌≡◌, ◌∙◌, IfOk, List, subst, ℕ}
 use Rattle.rehearsal_model.specs.Requests.{post as reading}
-use Rattle.rehearsal_model.specs.Scenes.{config_of}
+use Rattle.rehearsal_model.specs.Simulations.{config_of}
 use Rattle.rehearsal_generate.proofs.moves.read_post.Goals as goal
 
 pub returns-clause-value : goal.returns-clause-value

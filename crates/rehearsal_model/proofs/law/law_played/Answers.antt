@@ -1,7 +1,7 @@
-use Rattle.rehearsal_model.proofs.DeedLemmas.{first_on, line_on}
+use Rattle.rehearsal_model.proofs.ActionLemmas.{first_on, line_on}
 use Rattle.rehearsal_model.proofs.ReachLemmas.{safe}
 use Rattle.rehearsal_model.proofs.law.law_played.Goals as goal
-use Rattle.rehearsal_model.specs.Scenes.{show_by}
+use Rattle.rehearsal_model.specs.Simulations.{show_by}
 
 pub returns : goal.returns
 returns c = record {

@@ -1,7 +1,7 @@
 use Rattle.std.proofs.Common.{◌≡◌, drop}
 use Rattle.std.specs.List.{list_any}
 use Rattle.rehearsal_model.specs.Moves.{tells}
-use Rattle.rehearsal_model.specs.Scenes.{as_read}
+use Rattle.rehearsal_model.specs.Simulations.{as_read}
 use Rattle.rehearsal_model.specs.Seen.{message}
 use Rattle.rehearsal_state.proofs.turn.is_untold.Given as goal
 

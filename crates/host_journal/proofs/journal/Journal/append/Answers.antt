@@ -35,7 +35,7 @@ returns-in_err-write_and_sync-clause-which g c p =
 
 pub returns-in_err-write_and_sync-clause-told_first : goal.returns-in_err-write_and_sync-clause-told_first
 returns-in_err-write_and_sync-clause-told_first g c =
-    on_err _ c.from_residual.result (append_told_behind g.D.Disk.told g.D.Disk.disk_faults g.D.Disk.went g.met.D.Disk.went_refl g.met.D.Disk.went_trans _ _ c.self.view_is c.args.payload.now c.deref.result.now (c.deref.ensures.value ∙ c.put_record.ensures.items) c.write_and_sync.new.disk c.in_err-write_and_sync.ensures.told_first)
+    on_err _ c.from_residual.result (append_told_behind g.D.Disk.told g.D.Disk.disk_faults g.D.Disk.calls_advance g.met.D.Disk.calls_advance_refl g.met.D.Disk.calls_advance_trans _ _ c.self.view_is c.args.payload.now c.deref.result.now (c.deref.ensures.value ∙ c.put_record.ensures.items) c.write_and_sync.new.disk c.in_err-write_and_sync.ensures.told_first)
 
 pub invariant_of-self-in_err-write_and_sync-2 : goal.invariant_of-self-in_err-write_and_sync-2
 invariant_of-self-in_err-write_and_sync-2 g c = (
@@ -68,7 +68,7 @@ returns-in_err-write_and_sync-2-clause-which g c p =
 
 pub returns-in_err-write_and_sync-2-clause-told_first : goal.returns-in_err-write_and_sync-2-clause-told_first
 returns-in_err-write_and_sync-2-clause-told_first g c =
-    on_err _ c.from_residual-in_err-write_and_sync-2.result (append_told_gate g.D.Disk.told g.D.Disk.disk_faults g.D.Disk.went g.met.D.Disk.went_refl g.met.D.Disk.went_trans _ _ c.self.view_is c.args.payload.now c.deref.result.now (c.deref.ensures.value ∙ c.put_record.ensures.items) c.write_and_sync.new.disk c.write_and_sync-2.new.disk (record { told = c.in_ok-write_and_sync.ensures.told; calm = c.in_ok-write_and_sync.ensures.calm; went = c.write_and_sync.ensures.went }) c.in_err-write_and_sync-2.ensures.told_first)
+    on_err _ c.from_residual-in_err-write_and_sync-2.result (append_told_gate g.D.Disk.told g.D.Disk.disk_faults g.D.Disk.calls_advance g.met.D.Disk.calls_advance_refl g.met.D.Disk.calls_advance_trans _ _ c.self.view_is c.args.payload.now c.deref.result.now (c.deref.ensures.value ∙ c.put_record.ensures.items) c.write_and_sync.new.disk c.write_and_sync-2.new.disk (record { told = c.in_ok-write_and_sync.ensures.told; no_fault = c.in_ok-write_and_sync.ensures.no_fault; calls_advance = c.write_and_sync.ensures.calls_advance }) c.in_err-write_and_sync-2.ensures.told_first)
 
 pub invariant_of-self-2 : goal.invariant_of-self-2
 invariant_of-self-2 g c = (

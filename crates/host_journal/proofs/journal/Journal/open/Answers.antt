@@ -14,4 +14,4 @@ invariant_of-journal g c = (
 )
 
 pub returns-in-Ok-clause-places : goal.returns-in-Ok-clause-places
-returns-in-Ok-clause-places g c n less = place_fits n c.in-Ok.counted.list c.in-Ok.counted.start c.in-Ok.counted.end c.in-Ok.ensures.gates c.in-Ok.ensures.bound.0 less
+returns-in-Ok-clause-places g c n less = place_fits n c.in-Ok.counted.list c.in-Ok.counted.start c.in-Ok.counted.end c.in-Ok.ensures.gate_bytes c.in-Ok.ensures.bound.0 less

@@ -7,11 +7,11 @@ use Rattle.host_journal.proofs.TurnExits.{closing_exit, putting_exit, opening_ex
 use Rattle.host_journal.proofs.journal.Journal.snapshot.Goals as goal
 
 -- the disk that doesn't count went on, and the other one stayed
-other_went : {D : Type 0} (went : D → D → Type 0) → ((d : D) → went d d) → (s old : State D) → s ≡ old → (new : D) → went s.other new
-    → went (first_disk old) (if s.second then new else s.counting) × went (second_disk old) (if s.second then s.counting else new)
-other_went {D} went still s old is new on = subst (λ (o : State D). went (first_disk o) (if s.second then new else s.counting) × went (second_disk o) (if s.second then s.counting else new)) is (by_side s.second)
+other_calls_advance : {D : Type 0} (calls_advance : D → D → Type 0) → ((d : D) → calls_advance d d) → (s old : State D) → s ≡ old → (new : D) → calls_advance s.other new
+    → calls_advance (first_disk old) (if s.second then new else s.counting) × calls_advance (second_disk old) (if s.second then s.counting else new)
+other_calls_advance {D} calls_advance still s old is new on = subst (λ (o : State D). calls_advance (first_disk o) (if s.second then new else s.counting) × calls_advance (second_disk o) (if s.second then s.counting else new)) is (by_side s.second)
   where
-    by_side : (side : Bool) → went (if side then s.other else s.counting) (if side then new else s.counting) × went (if side then s.counting else s.other) (if side then s.counting else new)
+    by_side : (side : Bool) → calls_advance (if side then s.other else s.counting) (if side then new else s.counting) × calls_advance (if side then s.counting else s.other) (if side then s.counting else new)
     by_side true = (on, still s.counting)
     by_side false = (still s.counting, on)
 
@@ -185,34 +185,34 @@ returns-clause-durable g c p =
 
 pub returns-in_err-close_head-clause-told_first : goal.returns-in_err-close_head-clause-told_first
 returns-in_err-close_head-clause-told_first g c =
-    on_err _ c.from_residual.result (told_closing g.D.Disk.told g.D.Disk.disk_faults g.D.Disk.went g.met.D.Disk.went_refl g.met.D.Disk.went_trans _ _ c.self.view_is c.args.image.bytes c.put_image.new.buffer.items c.put_image.ensures.items c.close_head.new.disk c.in_err-close_head.ensures.told_first)
+    on_err _ c.from_residual.result (told_closing g.D.Disk.told g.D.Disk.disk_faults g.D.Disk.calls_advance g.met.D.Disk.calls_advance_refl g.met.D.Disk.calls_advance_trans _ _ c.self.view_is c.args.image.bytes c.put_image.new.buffer.items c.put_image.ensures.items c.close_head.new.disk c.in_err-close_head.ensures.told_first)
 
 pub returns-in_err-replace_rest-clause-told_first : goal.returns-in_err-replace_rest-clause-told_first
 returns-in_err-replace_rest-clause-told_first g c =
-    on_err _ c.from_residual-in_err-replace_rest.result (told_putting g.D.Disk.told g.D.Disk.disk_faults g.D.Disk.went g.met.D.Disk.went_refl g.met.D.Disk.went_trans _ _ c.self.view_is c.args.image.bytes c.deref.result.now (c.deref.ensures.value ∙ c.put_image.ensures.items) c.close_head.new.disk c.replace_rest.new.disk (record { told = c.in_ok-close_head.ensures.told; calm = c.in_ok-close_head.ensures.calm; went = c.close_head.ensures.went }) c.in_err-replace_rest.ensures.told_first)
+    on_err _ c.from_residual-in_err-replace_rest.result (told_putting g.D.Disk.told g.D.Disk.disk_faults g.D.Disk.calls_advance g.met.D.Disk.calls_advance_refl g.met.D.Disk.calls_advance_trans _ _ c.self.view_is c.args.image.bytes c.deref.result.now (c.deref.ensures.value ∙ c.put_image.ensures.items) c.close_head.new.disk c.replace_rest.new.disk (record { told = c.in_ok-close_head.ensures.told; no_fault = c.in_ok-close_head.ensures.no_fault; calls_advance = c.close_head.ensures.calls_advance }) c.in_err-replace_rest.ensures.told_first)
 
 pub returns-in_err-write_and_sync-clause-told_first : goal.returns-in_err-write_and_sync-clause-told_first
 returns-in_err-write_and_sync-clause-told_first g c =
-    on_err _ c.from_residual-in_err-write_and_sync.result (told_opening g.D.Disk.told g.D.Disk.disk_faults g.D.Disk.went g.met.D.Disk.went_refl g.met.D.Disk.went_trans _ _ c.self.view_is c.args.image.bytes c.deref.result.now (c.deref.ensures.value ∙ c.put_image.ensures.items) c.close_head.new.disk c.replace_rest.new.disk c.write_and_sync.new.disk (record { told = c.in_ok-close_head.ensures.told; calm = c.in_ok-close_head.ensures.calm; went = c.close_head.ensures.went }) (record { told = c.in_ok-replace_rest.ensures.told; calm = c.in_ok-replace_rest.ensures.calm; went = c.replace_rest.ensures.went }) c.in_err-write_and_sync.ensures.told_first)
+    on_err _ c.from_residual-in_err-write_and_sync.result (told_opening g.D.Disk.told g.D.Disk.disk_faults g.D.Disk.calls_advance g.met.D.Disk.calls_advance_refl g.met.D.Disk.calls_advance_trans _ _ c.self.view_is c.args.image.bytes c.deref.result.now (c.deref.ensures.value ∙ c.put_image.ensures.items) c.close_head.new.disk c.replace_rest.new.disk c.write_and_sync.new.disk (record { told = c.in_ok-close_head.ensures.told; no_fault = c.in_ok-close_head.ensures.no_fault; calls_advance = c.close_head.ensures.calls_advance }) (record { told = c.in_ok-replace_rest.ensures.told; no_fault = c.in_ok-replace_rest.ensures.no_fault; calls_advance = c.replace_rest.ensures.calls_advance }) c.in_err-write_and_sync.ensures.told_first)
 
 pub returns-clause-told : goal.returns-clause-told
 returns-clause-told g c =
-    told_done g.D.Disk.told g.D.Disk.disk_faults g.D.Disk.went g.met.D.Disk.went_refl g.met.D.Disk.went_trans _ _ c.self.view_is c.args.image.bytes c.deref.result.now (c.deref.ensures.value ∙ c.put_image.ensures.items) c.close_head.new.disk c.replace_rest.new.disk c.write_and_sync.new.disk c.swap.new.x c.in_ok-close_head.ensures.told c.in_ok-replace_rest.ensures.told c.in_ok-write_and_sync.ensures.told c.swap.ensures.x_after
+    told_done g.D.Disk.told g.D.Disk.disk_faults g.D.Disk.calls_advance g.met.D.Disk.calls_advance_refl g.met.D.Disk.calls_advance_trans _ _ c.self.view_is c.args.image.bytes c.deref.result.now (c.deref.ensures.value ∙ c.put_image.ensures.items) c.close_head.new.disk c.replace_rest.new.disk c.write_and_sync.new.disk c.swap.new.x c.in_ok-close_head.ensures.told c.in_ok-replace_rest.ensures.told c.in_ok-write_and_sync.ensures.told c.swap.ensures.x_after
 
 pub returns-in_err-close_head-clause-shut_err : goal.returns-in_err-close_head-clause-shut_err
 returns-in_err-close_head-clause-shut_err g c =
-    on_err _ c.from_residual.result (inl (ap (λ (s : State _). s.shut) c.self.view_is, shut_closing g.D.Disk.told g.D.Disk.disk_faults g.D.Disk.went g.met.D.Disk.went_refl g.met.D.Disk.went_trans _ _ c.self.view_is c.args.image.bytes c.put_image.new.buffer.items c.put_image.ensures.items c.close_head.new.disk c.in_err-close_head.ensures.told_first))
+    on_err _ c.from_residual.result (inl (ap (λ (s : State _). s.shut) c.self.view_is, shut_closing g.D.Disk.told g.D.Disk.disk_faults g.D.Disk.calls_advance g.met.D.Disk.calls_advance_refl g.met.D.Disk.calls_advance_trans _ _ c.self.view_is c.args.image.bytes c.put_image.new.buffer.items c.put_image.ensures.items c.close_head.new.disk c.in_err-close_head.ensures.told_first))
 
 pub returns-in_err-replace_rest-clause-shut_err : goal.returns-in_err-replace_rest-clause-shut_err
 returns-in_err-replace_rest-clause-shut_err g c =
-    on_err _ c.from_residual-in_err-replace_rest.result (inr (refl, shut_putting g.D.Disk.told g.D.Disk.disk_faults g.D.Disk.went g.met.D.Disk.went_refl g.met.D.Disk.went_trans _ _ c.self.view_is c.args.image.bytes c.deref.result.now (c.deref.ensures.value ∙ c.put_image.ensures.items) c.close_head.new.disk c.replace_rest.new.disk (record { told = c.in_ok-close_head.ensures.told; calm = c.in_ok-close_head.ensures.calm; went = c.close_head.ensures.went }) c.in_err-replace_rest.ensures.told_first))
+    on_err _ c.from_residual-in_err-replace_rest.result (inr (refl, shut_putting g.D.Disk.told g.D.Disk.disk_faults g.D.Disk.calls_advance g.met.D.Disk.calls_advance_refl g.met.D.Disk.calls_advance_trans _ _ c.self.view_is c.args.image.bytes c.deref.result.now (c.deref.ensures.value ∙ c.put_image.ensures.items) c.close_head.new.disk c.replace_rest.new.disk (record { told = c.in_ok-close_head.ensures.told; no_fault = c.in_ok-close_head.ensures.no_fault; calls_advance = c.close_head.ensures.calls_advance }) c.in_err-replace_rest.ensures.told_first))
 
 pub returns-in_err-write_and_sync-clause-shut_err : goal.returns-in_err-write_and_sync-clause-shut_err
 returns-in_err-write_and_sync-clause-shut_err g c =
-    on_err _ c.from_residual-in_err-write_and_sync.result (inr (refl, shut_opening g.D.Disk.told g.D.Disk.disk_faults g.D.Disk.went g.met.D.Disk.went_refl g.met.D.Disk.went_trans _ _ c.self.view_is c.args.image.bytes c.deref.result.now (c.deref.ensures.value ∙ c.put_image.ensures.items) c.close_head.new.disk c.replace_rest.new.disk c.write_and_sync.new.disk (record { told = c.in_ok-close_head.ensures.told; calm = c.in_ok-close_head.ensures.calm; went = c.close_head.ensures.went }) (record { told = c.in_ok-replace_rest.ensures.told; calm = c.in_ok-replace_rest.ensures.calm; went = c.replace_rest.ensures.went }) c.in_err-write_and_sync.ensures.told_first))
+    on_err _ c.from_residual-in_err-write_and_sync.result (inr (refl, shut_opening g.D.Disk.told g.D.Disk.disk_faults g.D.Disk.calls_advance g.met.D.Disk.calls_advance_refl g.met.D.Disk.calls_advance_trans _ _ c.self.view_is c.args.image.bytes c.deref.result.now (c.deref.ensures.value ∙ c.put_image.ensures.items) c.close_head.new.disk c.replace_rest.new.disk c.write_and_sync.new.disk (record { told = c.in_ok-close_head.ensures.told; no_fault = c.in_ok-close_head.ensures.no_fault; calls_advance = c.close_head.ensures.calls_advance }) (record { told = c.in_ok-replace_rest.ensures.told; no_fault = c.in_ok-replace_rest.ensures.no_fault; calls_advance = c.replace_rest.ensures.calls_advance }) c.in_err-write_and_sync.ensures.told_first))
 
-pub returns-in_err-write_and_sync-clause-went : goal.returns-in_err-write_and_sync-clause-went
-returns-in_err-write_and_sync-clause-went g c =
-    other_went g.D.Disk.went g.met.D.Disk.went_refl _ _ c.self.view_is c.write_and_sync.new.disk
-    (g.met.D.Disk.went_trans c.self.inside.other c.replace_rest.new.disk c.write_and_sync.new.disk
-    (g.met.D.Disk.went_trans c.self.inside.other c.close_head.new.disk c.replace_rest.new.disk c.close_head.ensures.went c.replace_rest.ensures.went) c.write_and_sync.ensures.went)
+pub returns-in_err-write_and_sync-clause-calls_advance : goal.returns-in_err-write_and_sync-clause-calls_advance
+returns-in_err-write_and_sync-clause-calls_advance g c =
+    other_calls_advance g.D.Disk.calls_advance g.met.D.Disk.calls_advance_refl _ _ c.self.view_is c.write_and_sync.new.disk
+    (g.met.D.Disk.calls_advance_trans c.self.inside.other c.replace_rest.new.disk c.write_and_sync.new.disk
+    (g.met.D.Disk.calls_advance_trans c.self.inside.other c.close_head.new.disk c.replace_rest.new.disk c.close_head.ensures.calls_advance c.replace_rest.ensures.calls_advance) c.write_and_sync.ensures.calls_advance)

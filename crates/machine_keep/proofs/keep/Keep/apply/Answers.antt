@@ -92,8 +92,8 @@ returns-clause-recovers g c p failed b d left left_too =
 pub returns-in_err-catch_up-clause-failed : goal.returns-in_err-catch_up-clause-failed
 returns-in_err-catch_up-clause-failed g c _ = inl c.in_err-catch_up.ensures.unfound
 
-pub returns-in_err-decided-clause-wanting : goal.returns-in_err-decided-clause-wanting
-returns-in_err-decided-clause-wanting g c _ =
+pub returns-in_err-decided-clause-out_of_memory : goal.returns-in_err-decided-clause-out_of_memory
+returns-in_err-decided-clause-out_of_memory g c _ =
     let found = c.in_ok-catch_up.ensures.found in
     record {
       stood = found.0;
@@ -105,8 +105,8 @@ returns-in_err-decided-clause-wanting g c _ =
       told = subst (λ k. TellsIn g.D.Disk.told c.args.self.now.journal k.journal (sync_calls (is_ready c.args.self.now.journal.pending))) (sym c.self.view_is) c.in_ok-catch_up.ensures.told;
     }
 
-pub returns-in_err-reply-clause-wanting : goal.returns-in_err-reply-clause-wanting
-returns-in_err-reply-clause-wanting g c e =
+pub returns-in_err-reply-clause-out_of_memory : goal.returns-in_err-reply-clause-out_of_memory
+returns-in_err-reply-clause-out_of_memory g c e =
     let found = c.in_ok-catch_up.ensures.found in
     let none : c.keep_decided.result ≡ Err no_memory = handed_on c.from_residual-in_err-reply.result c.keep_decided.result c.in_err-reply.field-0.0 no_memory c.from_residual-in_err-reply.ensures.1 c.in_err-reply.was e in
     let unmoved = c.keep_decided.ensures.unmoved none in
@@ -141,10 +141,10 @@ returns-in_err-reply-clause-failed g c e =
       image = broke.image;
       due = subst (λ s. IsDue g.M.Machine.stands_for (after_step g.M.Machine.after s step) c.self.inside.journal (option_map g.M.Machine.record_of step) broke.image) same broke.due;
       left = subst (λ s. Leaves g.M.Machine.after s step broke.image (g.M.Machine.state c.keep_decided.new.self.machine) c.keep_decided.new.self.unsure) same broke.left;
-      told = some_later g.D.Disk.told g.D.Disk.disk_faults g.D.Disk.went g.met.D.Disk.went_refl g.met.D.Disk.went_trans (first_disk old.journal) (second_disk old.journal) (first_disk c.self.inside.journal) (second_disk c.self.inside.journal) (first_disk c.keep_decided.new.self.journal) (second_disk c.keep_decided.new.self.journal)
+      told = some_later g.D.Disk.told g.D.Disk.disk_faults g.D.Disk.calls_advance g.met.D.Disk.calls_advance_refl g.met.D.Disk.calls_advance_trans (first_disk old.journal) (second_disk old.journal) (first_disk c.self.inside.journal) (second_disk c.self.inside.journal) (first_disk c.keep_decided.new.self.journal) (second_disk c.keep_decided.new.self.journal)
           (sync_calls (is_ready old.journal.pending)) (kept_calls c.self.inside.journal (option_map g.M.Machine.record_of step) broke.image)
-          (subst (λ k. MakesPair g.D.Disk.told g.D.Disk.disk_faults g.D.Disk.went (first_disk old.journal) (second_disk old.journal) (first_disk k.journal) (second_disk k.journal) (sync_calls (is_ready old.journal.pending))) (sym c.self.view_is)
-          (record { told = c.in_ok-catch_up.ensures.told; calm = c.in_ok-catch_up.ensures.calm; went = c.catch_up.ensures.went })) broke.told;
+          (subst (λ k. MakesPair g.D.Disk.told g.D.Disk.disk_faults g.D.Disk.calls_advance (first_disk old.journal) (second_disk old.journal) (first_disk k.journal) (second_disk k.journal) (sync_calls (is_ready old.journal.pending))) (sym c.self.view_is)
+          (record { told = c.in_ok-catch_up.ensures.told; no_fault = c.in_ok-catch_up.ensures.no_fault; calls_advance = c.catch_up.ensures.calls_advance })) broke.told;
     })
 
 pub returns-clause-answered : goal.returns-clause-answered
@@ -185,15 +185,15 @@ returns-in_err-reply-clause-broken g c e =
     let broke = c.keep_decided.ensures.breaks met in
     let step = c.in_ok-decided.decided.step in
     let at = ap (λ k. g.M.Machine.state k.machine) c.self.view_is ∙ found.2 in
-    inr (broken_so g.D.Disk.premise g.D.Disk.seen g.D.Disk.may_leave g.D.Disk.told g.D.Disk.disk_faults g.D.Disk.went g.met.D.Disk.went_refl g.met.D.Disk.went_trans g.M.Machine.state g.M.Machine.stands_for g.M.Machine.record_of g.M.Machine.answers g.M.Machine.follows g.M.Machine.after
+    inr (broken_so g.D.Disk.premise g.D.Disk.seen g.D.Disk.may_leave g.D.Disk.told g.D.Disk.disk_faults g.D.Disk.calls_advance g.met.D.Disk.calls_advance_refl g.met.D.Disk.calls_advance_trans g.M.Machine.state g.M.Machine.stands_for g.M.Machine.record_of g.M.Machine.answers g.M.Machine.follows g.M.Machine.after
     old c.keep_decided.new.self mid.journal c.args.call c.in_ok-decided.decided.reply step found.0 c.decide.new.self
     (subst (λ k. IsFound g.D.Disk.premise g.D.Disk.seen old.journal found.0 k.journal) (sym c.self.view_is) found.1)
     (c.decide.ensures.same ∙ at)
     (subst (λ s. g.M.Machine.answers s c.args.call c.in_ok-decided.decided.reply step) at c.in_ok-decided.ensures.answer)
     (subst (λ s. IfSome step (λ t. g.M.Machine.follows s t)) at c.in_ok-decided.ensures.follows)
     c.in_ok-decided.ensures.short
-    (subst (λ k. MakesPair g.D.Disk.told g.D.Disk.disk_faults g.D.Disk.went (first_disk old.journal) (second_disk old.journal) (first_disk k.journal) (second_disk k.journal) (sync_calls (is_ready old.journal.pending))) (sym c.self.view_is)
-    (record { told = c.in_ok-catch_up.ensures.told; calm = c.in_ok-catch_up.ensures.calm; went = c.catch_up.ensures.went }))
+    (subst (λ k. MakesPair g.D.Disk.told g.D.Disk.disk_faults g.D.Disk.calls_advance (first_disk old.journal) (second_disk old.journal) (first_disk k.journal) (second_disk k.journal) (sync_calls (is_ready old.journal.pending))) (sym c.self.view_is)
+    (record { told = c.in_ok-catch_up.ensures.told; no_fault = c.in_ok-catch_up.ensures.no_fault; calls_advance = c.catch_up.ensures.calls_advance }))
     broke.image broke.due broke.left broke.told broke.behind
     (λ p. subst (λ k. IsSound g.D.Disk.seen g.D.Disk.may_leave k.journal) (sym c.self.view_is) (c.known-2.ensures.sound p))
     (λ p. subst (λ k. (g.D.Disk.seen (first_disk k.journal) ≡ g.D.Disk.seen (first_disk old.journal)) × (g.D.Disk.seen (second_disk k.journal) ≡ g.D.Disk.seen (second_disk old.journal))) (sym c.self.view_is) (c.catch_up.ensures.read p))

@@ -22,7 +22,7 @@ returns-in_err-stood-clause-unfound g c =
     on_err _ c.from_residual.result (record {
       became = ap (λ k. g.M.Machine.state k.machine) c.self.view_is;
       unsure = ap (λ k. k.unsure) c.self.view_is;
-      told = subst (λ k. TellsSomeIn g.D.Disk.told g.D.Disk.disk_faults g.D.Disk.went k.journal c.reload.new.self (sync_calls (is_ready k.journal.pending))) c.self.view_is
-          (subst (λ b. TellsSome g.D.Disk.told g.D.Disk.disk_faults g.D.Disk.went (first_disk at) (second_disk at) (first_disk c.reload.new.self) (second_disk c.reload.new.self) (sync_calls b)) (sym failed)
-          (syncs_some g.D.Disk.told g.D.Disk.disk_faults g.D.Disk.went g.met.D.Disk.went_refl g.met.D.Disk.went_trans (first_disk at) (second_disk at) (first_disk c.reload.new.self) (second_disk c.reload.new.self) c.in_err-stood.ensures.told_err));
+      told = subst (λ k. TellsSomeIn g.D.Disk.told g.D.Disk.disk_faults g.D.Disk.calls_advance k.journal c.reload.new.self (sync_calls (is_ready k.journal.pending))) c.self.view_is
+          (subst (λ b. TellsSome g.D.Disk.told g.D.Disk.disk_faults g.D.Disk.calls_advance (first_disk at) (second_disk at) (first_disk c.reload.new.self) (second_disk c.reload.new.self) (sync_calls b)) (sym failed)
+          (syncs_some g.D.Disk.told g.D.Disk.disk_faults g.D.Disk.calls_advance g.met.D.Disk.calls_advance_refl g.met.D.Disk.calls_advance_trans (first_disk at) (second_disk at) (first_disk c.reload.new.self) (second_disk c.reload.new.self) c.in_err-stood.ensures.told_err));
     })

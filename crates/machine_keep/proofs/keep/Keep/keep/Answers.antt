@@ -78,10 +78,10 @@ returns-in_err-shorten-clause-breaks g c _ =
       image = Some met.0;
       due = (sym (many_same old mid turned same payload c.put.ensures.kept c.in_ok-put.ensures.end) ∙ met.1, snapshot_same old mid turned same payload c.put.ensures.kept c.in_ok-put.ensures.end g.M.Machine.stands_for (g.M.Machine.after (g.M.Machine.state c.args.self.now.machine) c.args.step) met.0 (subst (λ s. IsSnapshotOf g.M.Machine.stands_for s turned.generation met.0) became met.2));
       left = (ap (λ m. g.M.Machine.state m) c.shorten.ensures.machine ∙ became, c.shorten.ensures.unsure ∙ c.in_ok-put.ensures.sure);
-      told = kept_late g.D.Disk.told g.D.Disk.disk_faults g.D.Disk.went g.met.D.Disk.went_refl g.met.D.Disk.went_trans old mid same payload turned c.shorten.new.self.journal c.put.ensures.kept
-          (record { told = c.in_ok-put.ensures.told; calm = c.in_ok-put.ensures.calm; went = c.put.ensures.went }) met.0 met.3;
-      behind = late_behind g.D.Disk.told g.D.Disk.disk_faults g.D.Disk.went g.met.D.Disk.went_refl g.met.D.Disk.went_trans old mid same payload turned c.shorten.new.self.journal c.put.ensures.kept
-          (record { told = c.in_ok-put.ensures.told; calm = c.in_ok-put.ensures.calm; went = c.put.ensures.went }) met.0 met.3;
+      told = kept_late g.D.Disk.told g.D.Disk.disk_faults g.D.Disk.calls_advance g.met.D.Disk.calls_advance_refl g.met.D.Disk.calls_advance_trans old mid same payload turned c.shorten.new.self.journal c.put.ensures.kept
+          (record { told = c.in_ok-put.ensures.told; no_fault = c.in_ok-put.ensures.no_fault; calls_advance = c.put.ensures.calls_advance }) met.0 met.3;
+      behind = late_behind g.D.Disk.told g.D.Disk.disk_faults g.D.Disk.calls_advance g.met.D.Disk.calls_advance_refl g.met.D.Disk.calls_advance_trans old mid same payload turned c.shorten.new.self.journal c.put.ensures.kept
+          (record { told = c.in_ok-put.ensures.told; no_fault = c.in_ok-put.ensures.no_fault; calls_advance = c.put.ensures.calls_advance }) met.0 met.3;
     }
 
 pub returns-clause-keeps : goal.returns-clause-keeps
@@ -115,7 +115,7 @@ returns-in_err-put-clause-breaks g c _ =
       image = None;
       due = tt;
       left = (c.in_err-put.ensures.unsure.0 ∙ ap (λ k. g.M.Machine.state k.machine) c.self.view_is, c.in_err-put.ensures.unsure.1);
-      told = kept_early g.D.Disk.told g.D.Disk.disk_faults g.D.Disk.went g.met.D.Disk.went_refl g.met.D.Disk.went_trans old mid same (g.M.Machine.record_of c.args.step) c.put.new.self.journal c.in_err-put.ensures.told_first;
+      told = kept_early g.D.Disk.told g.D.Disk.disk_faults g.D.Disk.calls_advance g.met.D.Disk.calls_advance_refl g.met.D.Disk.calls_advance_trans old mid same (g.M.Machine.record_of c.args.step) c.put.new.self.journal c.in_err-put.ensures.told_first;
       behind = tt;
     }
 

@@ -82,20 +82,20 @@ pub returns-in-Ok-clause-told_err : goal.returns-in-Ok-clause-told_err
 returns-in-Ok-clause-told_err g c =
     let journal = c.in-Ok.journal in
     IfErr-weaker c.of_list.result _ _
-    (λ f some is. inr (unwritten_so g.D.Disk.premise g.D.Disk.seen g.D.Disk.told g.D.Disk.disk_faults g.D.Disk.went g.met.D.Disk.went_refl g.met.D.Disk.went_trans g.M.Machine.stands_for c.args.first c.args.second journal
+    (λ f some is. inr (unwritten_so g.D.Disk.premise g.D.Disk.seen g.D.Disk.told g.D.Disk.disk_faults g.D.Disk.calls_advance g.met.D.Disk.calls_advance_refl g.met.D.Disk.calls_advance_trans g.M.Machine.stands_for c.args.first c.args.second journal
     (record { ready = c.in-Ok.ensures.ready; at = λ p. read_at journal c.in-Ok.list _ (c.in-Ok.ensures.list p); shut = λ p. c.in-Ok.ensures.shut p })
-    (record { told = (c.in-Ok.ensures.told_first, c.in-Ok.ensures.told_second); calm = c.in-Ok.ensures.calm; went = c.in-Ok.ensures.went }) f.first f.second (some is)))
+    (record { told = (c.in-Ok.ensures.told_first, c.in-Ok.ensures.told_second); no_fault = c.in-Ok.ensures.no_fault; calls_advance = c.in-Ok.ensures.calls_advance }) f.first f.second (some is)))
     c.of_list.ensures.told_first
 
 pub returns-in-Ok-clause-told_refused : goal.returns-in-Ok-clause-told_refused
 returns-in-Ok-clause-told_refused g c =
     let journal = c.in-Ok.journal in
     IfErr-weaker c.of_list.result _ _
-    (λ f refused calm. refused_so g.D.Disk.told c.args.first c.args.second (first_disk journal) (second_disk journal) f.first f.second (c.in-Ok.ensures.told_first, c.in-Ok.ensures.told_second) (refused calm))
+    (λ f refused no_fault. refused_so g.D.Disk.told c.args.first c.args.second (first_disk journal) (second_disk journal) f.first f.second (c.in-Ok.ensures.told_first, c.in-Ok.ensures.told_second) (refused no_fault))
     c.of_list.ensures.refused
 
 pub returns-in-Err-clause-told_err : goal.returns-in-Err-clause-told_err
-returns-in-Err-clause-told_err g c is = inl (syncs_some g.D.Disk.told g.D.Disk.disk_faults g.D.Disk.went g.met.D.Disk.went_refl g.met.D.Disk.went_trans c.args.first c.args.second c.in-Err.fault.first c.in-Err.fault.second (c.in-Err.ensures.told_err is))
+returns-in-Err-clause-told_err g c is = inl (syncs_some g.D.Disk.told g.D.Disk.disk_faults g.D.Disk.calls_advance g.met.D.Disk.calls_advance_refl g.met.D.Disk.calls_advance_trans c.args.first c.args.second c.in-Err.fault.first c.in-Err.fault.second (c.in-Err.ensures.told_err is))
 
 pub returns-in-Ok-clause-form : goal.returns-in-Ok-clause-form
 returns-in-Ok-clause-form g c p =
