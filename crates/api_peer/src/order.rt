@@ -159,7 +159,7 @@ pub fn send_order(
     }
 }
 
-// Where the request is an order of a host that is known here, only memory may be out_of_memory.
+// Where the request is an order of a host that is known here, only memory may run out.
 fn understand(
     alloc: Global,
     config: &Config,

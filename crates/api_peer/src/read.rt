@@ -34,7 +34,7 @@ fn reader(alloc: Global, bytes: &[u8]) -> Result<Reader<WholeSource<'_>>, HttpFa
     }
 }
 
-/// The request that the bytes are. Where they are one, only memory may be out_of_memory.
+/// The request that the bytes are. Where they are one, only memory may run out.
 pub fn read_request(
     alloc: Global,
     fields: &mut FieldSpans,
@@ -52,7 +52,7 @@ pub fn read_request(
     }
 }
 
-/// The response that the bytes are. Where they are one, only memory may be out_of_memory.
+/// The response that the bytes are. Where they are one, only memory may run out.
 pub fn read_response(
     alloc: Global,
     fields: &mut FieldSpans,

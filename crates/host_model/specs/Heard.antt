@@ -79,7 +79,7 @@ abbrev pub close_if : Bool → Why → LeadMove
 close_if true why = Close why
 close_if false why = Nothing
 
--- the acceptance confirms the row: it is the last one that was out_of_memory, and the row is booked
+-- the acceptance confirms the row: it is the last one that was missing, and the row is booked
 abbrev pub completes : RunRow → ℕ → Bool
 completes r place = is_booked r && is_complete (change_other with_acceptance place r)
 

@@ -88,7 +88,7 @@ module _ (m : ℕ) (tasks : List TaskRow) (r : RunRow) where
       and_from (is_booked r) _ (and_from (is_some r.accepted) (not (is_some r.closed)) (is_some_of r.accepted wants.accepted) (not_some_of r.closed wants.unclosed))
       (accepted_all i r.others (λ j o apart at. wants.others (suc j) o (λ e. apart (cc (e))) at))
 
-  -- a row is confirmed by an acceptance exactly where no other one is out_of_memory
+  -- a row is confirmed by an acceptance exactly where no other one is missing
   pub confirmed_by_last : (place : ℕ) (o : Other) → r.confirmed ≡ None → other_at r place ≡ Some o → IsSome (effect m tasks (AcceptHeard r.key place) r).confirmed ↔ WantsOnly r place
   confirmed_by_last zero o unconfirmed there = cc
   confirmed_by_last (suc i) o unconfirmed there = (

@@ -1,4 +1,4 @@
--- Whether an acceptance is the last one that was out_of_memory, told place by place.
+-- Whether an acceptance is the last one that was missing, told place by place.
 use Rattle.std.specs.List.{list_all}
 use Rattle.std.specs.Prelude.{◌&&◌, ◌==◌, ◌||◌}
 use Rattle.std.proofs.Common.{◌≡◌, ◌+◌, ◌<◌, ℕ, zero, suc, true, false, List, [], ◌∷◌, refl, sym, ap, ap₂, ◌∙◌, arith}

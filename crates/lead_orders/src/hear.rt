@@ -26,7 +26,7 @@ use run_states::why::{Cause, Denial, Why};
 use std::alloc::Global;
 
 /// What an answer to an order changes: a fact that the run's row doesn't keep yet is kept, an acceptance that was the
-/// last one out_of_memory confirms the run, a denial or a loss closes it, and anything else changes nothing.
+/// last one missing confirms the run, a denial or a loss closes it, and anything else changes nothing.
 pub fn hear<R: Reading>(
     alloc: Global,
     rows: &R,

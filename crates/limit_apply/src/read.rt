@@ -242,7 +242,7 @@ impl Limits {
         }
     }
 
-    /// The configuration of a text that is one's own. So only memory may be out_of_memory.
+    /// The configuration of a text that is one's own. So only memory may run out.
     pub fn read_kept(alloc: Global, text: &str) -> Result<Limits, Memory>
         requires { IsLimitsText text.now }
         ensures { IfOk result (λ config. config_in text.now ≡ Ok config) }

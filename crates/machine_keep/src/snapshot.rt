@@ -19,8 +19,8 @@ use std::alloc::Global;
 /// No snapshot has more bytes.
 pub(crate) const MOST_IMAGE_BYTES: usize = 4_294_967_295;
 
-/// Puts a snapshot of the machine in place of all records. `StepFault::Memory` puts it off, and leaves all but the room: memory
-/// for it there was no memory, it has too many bytes, or the journal is in its last generation.
+/// Puts a snapshot of the machine in place of all records. `StepFault::Memory` puts it off, and leaves all but the room: there was
+/// no memory for it, it has too many bytes, or the journal is in its last generation.
 pub fn put_snapshot<M: Machine, D: Disk>(
     alloc: Global,
     machine: &M,

@@ -30,7 +30,7 @@ pub calls_advance_starved : (old new : DiskState) → new ≡ after_starved old 
 calls_advance_starved old new starved = calls_advance_once old new (inr (inr starved))
 
 -- ---- of any calls
--- memory that was out_of_memory once stays told
+-- memory that ran out once stays told
 stays_starved : (old new : DiskState) (states : List DiskState) → IsRun old states new → old.starved ≡ true → new.starved ≡ true
 stays_starved old new [] same is = ap (λ s. s.starved) same ∙ is
 stays_starved old new (s ∷ states) (inl read, run) is = stays_starved s new states run (ap (λ d. d.starved) read ∙ is)

@@ -62,7 +62,7 @@ abbrev pub faults_after : ℕ → List LoggedCall → ℕ
 faults_after faults [] = faults
 faults_after faults (l ∷ log) = faults_after (if l.done then faults else raised faults) log
 
--- Where memory wasn't out_of_memory: the calls that it noted, and what they have left.
+-- Where memory didn't run out: the calls that it noted, and what they have left.
 pub record IsAfter (old new : DiskState) (calls : List DiskCall) : Type 0 where
   pub start : new.history.start ≡ old.history.start
   pub log : new.history.log ≡ old.history.log ++ noted old.until_fault calls

@@ -11,7 +11,7 @@ HasLength Succeeded = ⊤
 HasLength (Failed error retry) = IfSome retry (λ wait. wait ≤ greatest_length)
 HasLength Memory = ⊤
 
--- the name, the outcomes that are left, the attempts so far, and whether memory was ever out_of_memory for these
+-- the name, the outcomes that are left, the attempts so far, and whether memory ever ran out for these
 pub record ArchiverState : Type 0 where
   pub name : List ℕ
   pub outcomes : List Tried

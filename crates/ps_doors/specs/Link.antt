@@ -28,7 +28,7 @@ abbrev pub answer_of : {A : Type 0} → (A → List ℕ) → Result A LinkFault 
 answer_of bytes (Ok reply) = Ok (bytes reply)
 answer_of bytes (Err fault) = Err fault
 
--- the replies that are left, what was asked so far, the calls, the count of faults, and whether memory was ever out_of_memory for what was asked
+-- the replies that are left, what was asked so far, the calls, the count of faults, and whether memory ever ran out for what was asked
 pub record LinkState : Type 0 where
   pub replies : List (List ℕ)
   pub asked : List Asked

@@ -126,7 +126,7 @@ impl<S: Source> Reader<S> {
         ensures refusal { IfErr result (λ fault. IfSome (prepend_known self.old.held (S.left self.old.source)) (λ input. Refuses requests limits input fault)) }
         ensures begun { IfErr result (λ fault. IfSome (prepend_known self.old.held (S.left self.old.source)) (λ input. IsBegun input fault)) }
 
-        // It doesn't give up by itself, and reads only what is out_of_memory.
+        // It doesn't give up by itself, and reads only what is missing.
         ensures fault { IsErrOf result HttpFault.ReadFault → Rose (S.read_faults self.old.source) (S.read_faults self.new.source) }
         ensures due { IsErrOf result HttpFault.ReadFault → WasDue requests limits self.old.held (S.left self.old.source) (S.left self.new.source) }
         ensures enough { IfOk result (λ o. IfSome o (λ _. WasEnough requests limits self.old.held self.new.held (S.left self.old.source) (S.left self.new.source))) }
@@ -169,7 +169,7 @@ impl<S: Source> Reader<S> {
         ensures body { IfOk result (λ r. length r.body ≤ limits.body) }
         ensures refusal { IfErr result (λ fault. IfSome (prepend_known self.old.held (S.left self.old.source)) (λ input. Refuses responses limits input fault)) }
 
-        // It doesn't give up by itself, and reads only what is out_of_memory.
+        // It doesn't give up by itself, and reads only what is missing.
         ensures fault { IsErrOf result HttpFault.ReadFault → Rose (S.read_faults self.old.source) (S.read_faults self.new.source) }
         ensures due { IsErrOf result HttpFault.ReadFault → WasDue responses limits self.old.held (S.left self.old.source) (S.left self.new.source) }
         ensures enough { IfOk result (λ _. WasEnough responses limits self.old.held self.new.held (S.left self.old.source) (S.left self.new.source)) }

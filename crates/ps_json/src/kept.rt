@@ -23,7 +23,7 @@ pub fn is_tree_text(alloc: Global, text: &str, most: usize) -> Result<bool, Memo
     }
 }
 
-/// The tree of a text that was kept. The text is one, so only memory may be out_of_memory.
+/// The tree of a text that was kept. The text is one, so only memory may run out.
 pub fn read_kept(alloc: Global, text: &Text) -> Result<Value, Memory>
     requires { IsTreeText 64 text.now }
     ensures { IfOk result (λ value. view value ≡ kept_tree (Some text.now)) }

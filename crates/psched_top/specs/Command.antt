@@ -52,6 +52,6 @@ takes_input (Some Help) = false
 takes_input (Some Version) = false
 takes_input None = false
 
--- memory may be out_of_memory to it, or to the reading of its words
+-- memory may run out to it, or to the reading of its words
 abbrev pub wants_memory : {Z : Type 0} → List (String Z) → Bool
 wants_memory words = is_generate (map string_bytes words) || takes_input (asked words)

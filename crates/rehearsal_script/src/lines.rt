@@ -1,4 +1,4 @@
-//! The lines of each kind. Where memory may be out_of_memory it is the outer error, and a reason the inner one.
+//! The lines of each kind. Where memory may run out it is the outer error, and a reason the inner one.
 ghost use Rattle.std.specs.Prelude.{◌≡◌, ◌≤◌, IfOk, drop, length};
 ghost use Rattle.rehearsal_script.specs.Line.{host_line, tools_line, limits_line, book_line, post_line, get_line, delete_line, turn_line, archive_line, crash_line, fail_line, deliver_line, repeat_line, lose_line, line_by_kind, limits_of};
 

@@ -88,7 +88,7 @@ fn take_each(
 
 /// Takes a record that was read into the book of the host with this number, and answers whether it may follow the book. Each
 /// change is tested by what it touches, against the book that the earlier ones left. Where the answer is no, or memory is
-/// out_of_memory, some of the changes may have been taken in: the book is of no use then.
+/// missing, some of the changes may have been taken in: the book is of no use then.
 pub fn take_record(
     alloc: Global,
     number: u16,

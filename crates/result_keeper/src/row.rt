@@ -18,7 +18,7 @@ use result_table::record::Record;
 use sqlite::{Error, ErrorCode, Row};
 use std::alloc::Global;
 
-/// Why a value was not read, where memory was not out_of_memory: there is none, or it is of another kind.
+/// Why a value was not read, where memory didn't run out: there is none, or it is of another kind.
 fn unread(error: Error) -> Result<(), Memory> {
     match error {
         Error::SqliteFailure(ErrorCode::OutOfMemory) => Err(Memory),

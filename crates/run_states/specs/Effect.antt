@@ -79,7 +79,7 @@ abbrev pub is_acceptance : Answer → Bool
 is_acceptance Accepted = true
 is_acceptance _ = false
 
--- an acceptance confirms where none is out_of_memory any more
+-- an acceptance confirms where none is missing any more
 abbrev pub confirmed_by : Answer → ℕ → RunRow → RunRow
 confirmed_by answer m r = if is_acceptance answer then confirmed_complete m r else r
 

@@ -69,7 +69,7 @@ impl RunRow {
         self.others.as_slice().iter().all(|other| other.accepted)
     }
 
-    // Keeps the answer of a participant. An acceptance confirms the run where none is out_of_memory any more.
+    // Keeps the answer of a participant. An acceptance confirms the run where none is missing any more.
     fn take_answer(&mut self, place: u8, answer: Answer, moment: Moment)
         ensures { self.new ≡ confirmed_by answer moment (change_other (with_answer answer) place self.old) }
     {

@@ -246,7 +246,7 @@ impl<M: Machine + Drop> SimulatedMachine<M> {
         Ok((first, second))
     }
 
-    /// Hands the disks back, which stand as they read for the state that is held. `Memory`, where memory was ever out_of_memory.
+    /// Hands the disks back, which stand as they read for the state that is held. `Memory`, where memory ever ran out.
     pub fn into_disks(self) -> Result<(MemoryDisk, MemoryDisk), Memory>
         ensures stands { IfOk result (λ disks. StandsAt M.stands_for (held M.state M.after self).state (held M.state M.after self).place
             (pair_of (⟦<MemoryDisk as Disk>⟧.seen disks.0) (⟦<MemoryDisk as Disk>⟧.seen disks.1))) }
@@ -294,7 +294,7 @@ impl<M: Machine> SimulatedMachine<M> {
     }
 
     /// Which of the calls that the next step makes is to fail, counted from 1 over both disks, where it makes as many; none, where
-    /// none of the most that it makes. `Memory`, where memory was ever out_of_memory.
+    /// none of the most that it makes. `Memory`, where memory ever ran out.
     pub fn fault_at(&self) -> Result<Option<u64>, Memory>
         ensures { IfOk result (λ number. number ≡ fault_at (held M.state M.after self.now)) }
     {
@@ -314,7 +314,7 @@ impl<M: Machine> SimulatedMachine<M> {
     }
 
     /// Sets an origin again, as a configuration (`Keep::configure`). What is kept stays, and what is unsynced. `Memory`, where memory
-    /// was ever out_of_memory.
+    /// was ever missing.
     pub fn configure(&mut self, origin: M::Origin) -> Result<(), Memory>
         requires { M.may_set (M.fixed (held M.state M.after self.old).state) (M.fixed_of origin) }
         ensures set { OnOk result (held M.state M.after self.new ≡ configured M.with_fixed (M.fixed_of origin) (held M.state M.after self.old)) }
