@@ -48,6 +48,7 @@ impl<'a> Parts<'a> {
         })
     }
 
+    /// How many parts there are.
     pub fn len(&self) -> usize
         ensures { result ≡ length self.now }
     {

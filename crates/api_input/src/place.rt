@@ -40,6 +40,7 @@ pub enum PeerPlace {
     Result(RunKey),
 }
 
+/// What a path names: something that anybody may ask for, or something of a run that peers ask for.
 #[derive(Clone, Copy, Debug, PartialEq, Eq)]
 pub enum Place {
     Public(PublicPlace),

@@ -48,6 +48,7 @@ impl Drop for SentOrder {
 }
 
 impl SentOrder {
+    /// The bytes of the request, given away.
     pub fn into_bytes(self) -> Items<u8>
         ensures { result ≡ self.bytes }
     {

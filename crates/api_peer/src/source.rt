@@ -20,6 +20,7 @@ impl<'a> Model for WholeSource<'a> {
 }
 
 impl<'a> WholeSource<'a> {
+    /// A source of these bytes, none of which is read yet.
     pub fn new(bytes: &'a [u8]) -> WholeSource<'a>
         ensures { result ≡ bytes.now }
     {

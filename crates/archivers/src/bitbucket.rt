@@ -13,6 +13,7 @@ use std::alloc::Global;
 pub struct Bitbucket;
 
 impl Bitbucket {
+    /// The archiver, which has no state.
     pub fn new() -> Bitbucket {
         Bitbucket
     }

@@ -17,6 +17,7 @@ use task_spec::archive::fails_by;
 pub struct Failer;
 
 impl Failer {
+    /// The archiver, which has no state: how often it failed is told to each attempt.
     pub fn new() -> Failer {
         Failer
     }

@@ -20,6 +20,7 @@ pub struct PlainArchivers {
 }
 
 impl PlainArchivers {
+    /// Both archivers.
     pub fn new() -> PlainArchivers {
         PlainArchivers {
             bitbucket: Bitbucket::new(),

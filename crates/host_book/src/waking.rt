@@ -38,7 +38,7 @@ pub(crate) fn renew(wakes: &mut [Option<Moment>], book: &IndexedBook, serial: Op
     }
 }
 
-// The same of the task at this place, counted from 0.
+// Looks anew when the task at this place wakes, counted from 0.
 fn renew_at(wakes: &mut [Option<Moment>], book: &IndexedBook, place: usize)
     ensures { wakes.new ≡ renewed (wake_in book.now.number book.now.book.rows) (Some (place + 1)) book.now.book.tasks wakes.old }
 {

@@ -86,7 +86,7 @@ impl<K: Kept> Gate<K> {
         Gate::starting_at(alloc, kept, 0)
     }
 
-    /// The same, with this as the first ticket, of at most 2^63: from there on each call answers
+    /// A gate over a state, and the first pass, with this as the first ticket, of at most 2^63: from there on each call answers
     /// `Spent`. So what a gate does at the end of its tickets can be seen without drawing them all.
     pub fn starting_at(
         alloc: Global,

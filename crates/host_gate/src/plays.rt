@@ -7,36 +7,42 @@ use crate::kept::Kept;
 use crate::view::View;
 use atomic_table::{Join, Play, Split};
 
+/// Reads the next ticket.
 pub struct Reads;
 
 impl<K: Kept> Play<Option<K>, View<K>> for Reads {
     ghost then = { read };
 }
 
+/// Draws the next ticket, where nobody else did since it was read.
 pub struct Draws;
 
 impl<K: Kept> Play<Option<K>, View<K>> for Draws {
     ghost then = { drawn };
 }
 
+/// Looks which ticket is served; where it is its own, the slot goes over to it.
 pub struct Looks;
 
 impl<K: Kept> Play<Option<K>, View<K>> for Looks {
     ghost then = { served K.grown };
 }
 
+/// Counts a change of the state.
 pub struct Counts;
 
 impl<K: Kept> Play<Option<K>, View<K>> for Counts {
     ghost then = { counts };
 }
 
+/// Ends a turn: the next ticket is served, and the slot goes home.
 pub struct Ends;
 
 impl<K: Kept> Play<Option<K>, View<K>> for Ends {
     ghost then = { ended };
 }
 
+/// Compares what two passes have seen last, as one goes into the other.
 pub struct Compares;
 
 impl<K: Kept> Play<Option<K>, View<K>> for Compares {

@@ -13,8 +13,10 @@ use atomic_table::{Seat, Shared};
 use std::snapshot::Snapshot;
 use std::sync::Wait;
 
+/// The words and the slot that all passes of a gate share.
 pub type Board<K> = Shared<Option<K>, View<K>, Snapshot<K>, Turns>;
 
+/// The seat at the table that a pass has.
 pub type PassSeat<K> = Seat<Option<K>, View<K>>;
 
 /// The ticket of the turn that closes a gate. Calls draw those below it.

@@ -19,6 +19,7 @@ pub enum Stage<K> {
     Leaves(u64, Mark<K>),
 }
 
+/// What is known of a seat: in which stage of a call it is, and what it has seen.
 pub struct View<K> {
     /// The number that was read last as the next ticket.
     pub read: u64,

@@ -186,7 +186,7 @@ fn crash_in_close(disk: MemoryDisk, shut: bool, image: Image) -> Result<MemoryDi
     }
 }
 
-// The same behind the sync of a closed head gate byte.
+// A write that begins behind the sync of a closed head gate byte, and a crash.
 fn crash_in_fill(
     disk: MemoryDisk,
     shut: bool,

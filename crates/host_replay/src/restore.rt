@@ -38,7 +38,7 @@ fn follow(
     Ok(Ok(book))
 }
 
-// The same from a snapshot of one format on.
+// The book from a snapshot of one format on.
 fn restore_in(
     alloc: Global,
     number: u16,

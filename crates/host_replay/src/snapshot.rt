@@ -67,7 +67,7 @@ fn parts_of(book: KeptBook) -> Parts
     }
 }
 
-/// The same, with what is looked up in it.
+/// The book of a snapshot, with what is looked up in it.
 pub fn open_snapshot(
     alloc: Global,
     number: u16,

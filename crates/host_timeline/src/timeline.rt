@@ -55,6 +55,7 @@ impl Model for Timeline {
 }
 
 impl Timeline {
+    /// A timeline without bookings, and without places for any.
     pub fn new(alloc: Global) -> Timeline
         ensures { result.list ≡ [] }
     {

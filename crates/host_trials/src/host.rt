@@ -75,7 +75,7 @@ impl KeptHost {
         }
     }
 
-    /// The same, or both disks where one of them failed.
+    /// The host for which the disks stand, opened at a clock in seconds since 1970 UTC; or both disks where one of them failed.
     pub(crate) fn unless_fault(
         alloc: Global,
         clock: Moment,

@@ -33,6 +33,7 @@ impl Duplicate for Ceiling {
     }
 }
 
+/// Up to which priority each may ask for a run.
 #[derive(Drop)]
 pub struct Priorities {
     /// The ceiling of those of whom no classifier holds that has one.
@@ -94,6 +95,7 @@ impl Drop for Limits {
 }
 
 impl Limits {
+    /// How many identifiers, classifiers, limits and applications there are.
     pub fn counts(&self) -> Counts
         ensures { result ≡ counts_of self.now }
     {
@@ -213,6 +215,7 @@ impl Limits {
         self.text.as_str()
     }
 
+    /// The same configuration once more.
     pub fn copy(&self, alloc: Global) -> Result<Limits, Memory>
         ensures { IfOk result (λ made. made ≡ self.now) }
     {

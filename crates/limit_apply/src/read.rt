@@ -194,7 +194,7 @@ fn read_parts(alloc: Global, value: Value) -> Result<(Lists, Priorities), LimitF
     Ok((lists, priorities))
 }
 
-/// The same of a tree without comments, whose names ascend. One that is accepted is flat, with whole numbers.
+/// The entries and priorities of a tree without comments, whose names ascend. One that is accepted is flat, with whole numbers.
 fn read_plain(alloc: Global, value: Value) -> Result<(Lists, Priorities), LimitFault>
     requires { IsPlain (view value) }
     ensures value { GivesUnless LimitFault.Memory result (parts_of (view value)) }
@@ -253,7 +253,7 @@ impl Limits {
         }
     }
 
-    /// The same, where this is its own text.
+    /// The configuration, where this is its own text.
     fn of_own(self, text: &str) -> Option<Limits>
         ensures { result ≡ of_own text.now (Ok self) }
     {

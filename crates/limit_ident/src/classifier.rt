@@ -12,6 +12,7 @@ use ps_time::memory::Memory;
 use std::alloc::Global;
 use std::marker::Model;
 
+/// A group of those who ask: of whom so many of its identifiers are true as it requires.
 #[derive(Drop)]
 pub struct Classifier {
     /// Places of identifiers.
@@ -71,6 +72,7 @@ impl Classifier {
 }
 
 impl Classifiers {
+    /// The classifiers of the entries that were read, in their order.
     pub fn from_entries(entries: Entries<Classifier>) -> Classifiers
         ensures { result ≡ entries }
     {
@@ -86,6 +88,7 @@ impl Classifiers {
         self.list.as_slice()
     }
 
+    /// How many classifiers there are.
     pub fn len(&self) -> usize
         ensures { result ≡ length self.now }
     {
@@ -100,6 +103,7 @@ impl Classifiers {
         self.list[index].value.holds(identifiers, asker)
     }
 
+    /// The same classifiers once more.
     pub fn copy(&self, alloc: Global) -> Result<Classifiers, Memory>
         ensures { IfOk result (λ made. made ≡ self.now) }
     {

@@ -59,6 +59,7 @@ impl Drop for Condition {
     }
 }
 
+/// A condition on who asks; inverted it is true exactly where the condition is not.
 #[derive(Drop)]
 pub struct Identifier {
     pub condition: Condition,
@@ -178,6 +179,7 @@ impl Identifier {
 }
 
 impl Identifiers {
+    /// The identifiers of the entries that were read, in their order.
     pub fn from_entries(entries: Entries<Identifier>) -> Identifiers
         ensures { result ≡ entries }
     {
@@ -192,6 +194,7 @@ impl Identifiers {
         self.list.as_slice()
     }
 
+    /// How many identifiers there are.
     pub fn len(&self) -> usize
         ensures { result ≡ length self.now }
     {
@@ -206,13 +209,14 @@ impl Identifiers {
         self.list[index].value.is_true(asker)
     }
 
-    /// The same, where a place past the end is one of no identifier, which isn't true.
+    /// Whether the identifier at this place is true of who asks; at a place past the end there is none, which isn't.
     pub(crate) fn is_true(&self, place: usize, asker: &KnownAsker) -> bool
         ensures { result ≡ identified_at self.now asker.now place }
     {
         place < self.len() && self.identifies(place, asker)
     }
 
+    /// The same identifiers once more.
     pub fn copy(&self, alloc: Global) -> Result<Identifiers, Memory>
         ensures { IfOk result (λ made. made ≡ self.now) }
     {

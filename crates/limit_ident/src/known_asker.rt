@@ -26,6 +26,7 @@ impl<'a> Model for KnownAsker<'a> {
 }
 
 impl<'a> KnownAsker<'a> {
+    /// Who asks, with the address read once for all identifiers.
     pub fn new(asker: &'a Asker) -> KnownAsker<'a>
         ensures { result ≡ asker.now }
     {

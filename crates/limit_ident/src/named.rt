@@ -84,6 +84,7 @@ impl<T> Entries<T> {
         }
     }
 
+    /// How many entries there are.
     pub fn len(&self) -> usize
         ensures { result ≡ length self.now }
     {
@@ -163,6 +164,7 @@ pub(crate) fn read_head<T>(
     Ok((name, fields))
 }
 
+/// The same places once more.
 pub fn copy_places(alloc: Global, places: &[usize]) -> Result<Items<usize>, Memory>
     ensures { IfOk result (λ made. made ≡ places.now) }
 {

@@ -20,6 +20,7 @@ impl Duplicate for Bounds {
 }
 
 impl Bounds {
+    /// Whether the number lies within the bounds, both of which are taken in.
     pub fn contains(self, number: u64) -> bool
         ensures { result ≡ lies self number }
     {

@@ -56,6 +56,7 @@ impl Drop for Rule {
     }
 }
 
+/// A rule for runs; inverted it holds exactly where the rule does not.
 #[derive(Drop)]
 pub struct Limit {
     pub rule: Rule,

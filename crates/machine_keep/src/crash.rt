@@ -55,7 +55,7 @@ impl<M: Machine + Drop> Keep<M, MemoryDisk> {
         }
     }
 
-    /// The same of a machine whose last call met a fault. Its step begins with a sync of the first disk and one of the second,
+    /// A crash in the step of a machine whose last call met a fault. Its step begins with a sync of the first disk and one of the second,
     /// which count too: from the third call on it is as `crash_in` with two calls less, in the state that is found to stand.
     pub fn crash_in_again(
         self,

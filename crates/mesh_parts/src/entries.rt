@@ -46,7 +46,7 @@ pub fn read_entries(
     }
 }
 
-/// The same, where there have to be 1 to 64.
+/// The members of the object that is the value of the member `name`, of which there have to be 1 to 64, by their names.
 pub fn read_counted(
     alloc: Global,
     value: &Value,

@@ -219,8 +219,8 @@ module _ (old new : DiskState) (call : ℕ) (ready : IsArmed old call) (calls_ad
   none_of true is h same = absurd (omega (arith, same, ready.few, h.faults, some_failed old.faults (noted old.until_fault (made_since old new)) (omega (arith, ready.few)) is))
 
   pub spared : counted new.faults ≡ counted old.faults → IsSpared old new
-  spared calm =
-      let same : new.faults ≡ old.faults = omega (arith, calm, ready.few) in
+  spared no_fault =
+      let same : new.faults ≡ old.faults = omega (arith, no_fault, ready.few) in
       let fed = still_fed new.starved refl same in
       let h = fed_after old new calls_advance ready.reads fed in
       let all = all_done old.until_fault (made_since old new) (none_of (failed_in (noted old.until_fault (made_since old new))) refl h same) in

@@ -53,6 +53,7 @@ impl Model for History {
 }
 
 impl History {
+    /// A disk with these bytes, which a sync has made sure of.
     pub fn new(alloc: Global, bytes: Vec<u8>) -> History
         ensures { result ≡ record { start = bytes.items; log = [] } }
     {
@@ -66,16 +67,19 @@ impl History {
         }
     }
 
+    /// The allocator of its buffers.
     pub fn alloc(&self) -> Global {
         self.alloc
     }
 
+    /// The bytes as a read finds them.
     pub fn bytes(&self) -> &[u8]
         ensures bytes { result.now ≡ bytes_now self.now }
     {
         &self.bytes
     }
 
+    /// How many calls it tells: the writes, cuts and syncs so far, with those that failed.
     pub fn calls(&self) -> u64
         ensures { result ≡ length self.now.log }
     {

@@ -57,7 +57,7 @@ impl MemoryDisk {
     pub fn new(alloc: Global, bytes: Vec<u8>, failing: Vec<u64>) -> MemoryDisk
         ensures disk { result ≡ new_disk bytes.items failing.items }
         ensures size { AreBounded (IsImage result.history) }
-        ensures calm { failing.items ≡ [] → IsArmed result 0 }
+        ensures no_fault { failing.items ≡ [] → IsArmed result 0 }
     {
         let history = History::new(alloc, bytes);
         history.known();
@@ -118,9 +118,9 @@ impl MemoryDisk {
         ensures disk { IfOk result (λ disk. disk ≡ new_disk (image_bytes image self.history) []) }
         ensures image { IfOk result (λ disk. IsImage self.history (bytes_now disk.history)) }
         ensures size { IfOk result (λ disk. AreBounded (IsImage disk.history)) }
-        ensures calm { IfOk result (λ disk. IsArmed disk 0) }
+        ensures no_fault { IfOk result (λ disk. IsArmed disk 0) }
 
-        // The same in the words of the trait: a crash may leave these bytes, and then only these.
+        // In the words of the trait: a crash may leave these bytes, and then only these.
         ensures left { IfOk result (λ disk. ⟦<MemoryDisk as Disk>⟧.may_leave self (⟦<MemoryDisk as Disk>⟧.seen disk)) }
         ensures only { IfOk result (λ disk. Only (⟦<MemoryDisk as Disk>⟧.seen disk) (⟦<MemoryDisk as Disk>⟧.may_leave disk)) }
     {

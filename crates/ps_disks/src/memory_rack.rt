@@ -109,7 +109,7 @@ impl Rack for MemoryRack {
         ensures size { IfOk result (λ pair. AreBounded (IsImage pair.0.history) × AreBounded (IsImage pair.1.history)) }
         ensures later { counted self.old.faults ≤ counted self.new.faults }
         ensures failed { IsErrOf result rack_failed → counted self.new.faults ≡ raised (counted self.old.faults) }
-        ensures calm { (IsErrOf result rack_failed → ⊥) → counted self.new.faults ≡ counted self.old.faults }
+        ensures no_fault { (IsErrOf result rack_failed → ⊥) → counted self.new.faults ≡ counted self.old.faults }
         ensures opens { Opens folder.now self.old self.new result }
     {
         if self.calls.next_fails() || self.shelf.is_out(folder) {
@@ -128,7 +128,7 @@ impl Rack for MemoryRack {
         ensures others { LeavesOthers folder.now (KeepsPair self.old) (KeepsPair self.new) }
         ensures open_others { LeavesOpen folder.now (λ f. IsTrue (is_out f self.old)) (λ f. IsTrue (is_out f self.new)) }
         ensures rose { 0 < counted first.faults + counted second.faults → counted self.new.faults ≡ raised (counted self.old.faults) }
-        ensures calm { counted first.faults + counted second.faults ≡ 0 → counted self.new.faults ≡ counted self.old.faults }
+        ensures no_fault { counted first.faults + counted second.faults ≡ 0 → counted self.new.faults ≡ counted self.old.faults }
         ensures after { self.new ≡ after_close folder.now first second self.old }
     {
         if first.faults() != 0 || second.faults() != 0 {

@@ -98,7 +98,7 @@ pub trait Rack {
         ensures open_others { LeavesOpen folder.now (is_open self.old) (is_open self.new) }
         ensures later { rack_faults self.old ≤ rack_faults self.new }
         ensures failed { IsErrOf result rack_failed → rack_faults self.new ≡ raised (rack_faults self.old) }
-        ensures calm { (IsErrOf result rack_failed → ⊥) → rack_faults self.new ≡ rack_faults self.old };
+        ensures no_fault { (IsErrOf result rack_failed → ⊥) → rack_faults self.new ≡ rack_faults self.old };
 
     /// Gives an opened pair back. Takes no memory.
     fn close_pair(&mut self, folder: &str, first: Self::Disk, second: Self::Disk)
@@ -107,7 +107,7 @@ pub trait Rack {
         ensures others { tells_pairs → LeavesOthers folder.now (keeps_pair self.old) (keeps_pair self.new) }
         ensures open_others { LeavesOpen folder.now (is_open self.old) (is_open self.new) }
         ensures rose { 0 < Self.Disk.disk_faults first + Self.Disk.disk_faults second → rack_faults self.new ≡ raised (rack_faults self.old) }
-        ensures calm { Self.Disk.disk_faults first + Self.Disk.disk_faults second ≡ 0 → rack_faults self.new ≡ rack_faults self.old };
+        ensures no_fault { Self.Disk.disk_faults first + Self.Disk.disk_faults second ≡ 0 → rack_faults self.new ≡ rack_faults self.old };
 
     // A folder has one pair.
     ghost one_pair: { (rack : Self) (folder : List ℕ) (a b c d : Self.Disk) → tells_pairs → keeps_pair rack folder a b → keeps_pair rack folder c d → (c ≡ a) × (d ≡ b) };

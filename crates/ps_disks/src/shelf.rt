@@ -12,6 +12,7 @@ use ps_time::text::Text;
 use std::alloc::Global;
 use std::marker::Model;
 
+/// The pairs of disks of a rack in memory, by their folders, and which of them are out.
 #[derive(Drop)]
 pub struct Shelf {
     // It has room for those that are out, too.
@@ -31,6 +32,7 @@ impl Model for Shelf {
 }
 
 impl Shelf {
+    /// A shelf with these pairs, none of which is out.
     pub fn new(alloc: Global, pairs: Vec<(Text, MemoryDisk, MemoryDisk)>) -> Shelf
         ensures { result ≡ record { pairs = pairs.items; out = [] } }
     {
@@ -40,12 +42,14 @@ impl Shelf {
         }
     }
 
+    /// The pairs that are not out, with their folders.
     pub fn pairs(&self) -> &[(Text, MemoryDisk, MemoryDisk)]
         ensures { result.now ≡ self.now.pairs }
     {
         self.pairs.as_slice()
     }
 
+    /// Whether the pair of the folder is out.
     pub fn is_out(&self, folder: &str) -> bool
         ensures { result ≡ is_some (first_by (bytes_eq folder.now) self.now.out) }
     {

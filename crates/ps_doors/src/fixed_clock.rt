@@ -24,6 +24,7 @@ impl Model for FixedClock {
 }
 
 impl FixedClock {
+    /// A clock that always gives this moment, in seconds since 1970 UTC.
     pub fn new(moment: Moment) -> FixedClock
         requires { moment ≤ greatest_moment }
         ensures { result ≡ moment }

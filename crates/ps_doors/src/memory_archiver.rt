@@ -43,6 +43,7 @@ impl Drop for MemoryArchiver {
 }
 
 impl MemoryArchiver {
+    /// An archiver of this name, whose attempts come to these outcomes, one after another.
     pub fn new(alloc: Global, name: Text, outcomes: Vec<Tried>) -> MemoryArchiver
         requires { All HasLength outcomes.items }
         ensures { result ≡ record { name = name; outcomes = outcomes.items; attempts = []; starved = false } }

@@ -188,7 +188,7 @@ impl Porch for MemoryPorch {
         most: Option<u64>,
     ) -> Result<Vec<MemoryDoor>, PorchFault>
         ensures number { IfOk result (λ doors. length doors.items ≡ number) }
-        ensures calm { IfOk result (λ doors. All (λ d. counted d.faults ≡ 0) doors.items) }
+        ensures no_fault { IfOk result (λ doors. All (λ d. counted d.faults ≡ 0) doors.items) }
         ensures unused { IfOk result (λ doors. All (λ d. IsUnused (Some d.given) (Some d.returned.back)) doors.items) }
         ensures shares { IfOk result (λ doors. All (λ d. HasShare most (Some (length d.guests))) doors.items) }
         ensures open { OnOk result (0 < self.new.shut.out) }

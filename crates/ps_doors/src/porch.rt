@@ -76,7 +76,7 @@ pub trait Porch {
         most: Option<u64>,
     ) -> Result<Vec<Self::Door>, PorchFault>
         ensures number { IfOk result (λ doors. length doors.items ≡ number) }
-        ensures calm { IfOk result (λ doors. All (λ d. Self.Door.door_faults d ≡ 0) doors.items) }
+        ensures no_fault { IfOk result (λ doors. All (λ d. Self.Door.door_faults d ≡ 0) doors.items) }
         ensures unused { IfOk result (λ doors. All (λ d. IsUnused (Self.Door.given d) (Self.Door.returned d)) doors.items) }
         ensures shares { IfOk result (λ doors. All (λ d. HasShare most (Self.Door.share d)) doors.items) }
         ensures open { OnOk result (is_open self.new) }

@@ -25,6 +25,7 @@ impl<T> Model for Returned<T> {
 }
 
 impl<T: Drop> Returned<T> {
+    /// Nothing is out, and nothing came back.
     pub fn new(alloc: Global) -> Returned<T>
         ensures { result ≡ record { back = []; out = 0 } }
     {

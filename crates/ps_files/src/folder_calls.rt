@@ -92,6 +92,7 @@ pub struct SystemFolders<R> {
 }
 
 impl<R: Files<File = File>> SystemFolders<R> {
+    /// The calls on the file system that the runtime gives.
     pub fn new(rt: R) -> SystemFolders<R> {
         SystemFolders { rt }
     }

@@ -31,6 +31,7 @@ pub struct FolderRack<C> {
 }
 
 impl<R: Files<File = File>> FolderRack<SystemFolders<R>> {
+    /// A rack over the file system, without a fault so far.
     pub fn new(rt: R) -> FolderRack<SystemFolders<R>>
         ensures { ⟦<FolderRack<SystemFolders<R>> as Rack>⟧.rack_faults result ≡ 0 }
     {
@@ -85,7 +86,7 @@ impl<C: FolderCalls> Rack for FolderRack<C> {
         ensures counts { IfOk result (λ pair. (counted pair.0.faults ≡ 0) × (counted pair.1.faults ≡ 0)) }
         ensures later { counted self.old.faults ≤ counted self.new.faults }
         ensures failed { IsErrOf result rack_failed → counted self.new.faults ≡ raised (counted self.old.faults) }
-        ensures calm { (IsErrOf result rack_failed → ⊥) → counted self.new.faults ≡ counted self.old.faults }
+        ensures no_fault { (IsErrOf result rack_failed → ⊥) → counted self.new.faults ≡ counted self.old.faults }
         ensures steps { OnOk result (OpensFolder folder.now (C.steps self.old.calls) (C.steps self.new.calls)) }
     {
         match open_files(&mut self.calls, alloc, folder) {

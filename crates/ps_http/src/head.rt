@@ -280,7 +280,7 @@ fn whole_response(
     }
 }
 
-/// The same for a response.
+/// The head of a response, with its length and what its fields say, or why it is refused.
 pub fn response_head(
     alloc: Global,
     bytes: &[u8],

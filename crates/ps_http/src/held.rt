@@ -36,6 +36,7 @@ pub fn read_between<S: Source>(
     source.read(&mut bytes[from..to])
 }
 
+/// What was read of a source and not used yet, of at most 16,384 bytes.
 #[derive(Drop)]
 pub struct Held {
     bytes: Vec<u8>,
@@ -53,6 +54,7 @@ impl Model for Held {
 }
 
 impl Held {
+    /// Nothing held yet. All memory is taken here.
     pub fn new(alloc: Global) -> Result<Held, Memory>
         ensures { IfOk result (λ held. held ≡ []) }
     {
@@ -60,6 +62,7 @@ impl Held {
         Ok(Held { bytes, count: 0 })
     }
 
+    /// How many bytes are held.
     pub fn len(&self) -> usize
         ensures value { result ≡ length self.now }
         ensures bound { result ≤ 16384 }
@@ -67,6 +70,7 @@ impl Held {
         self.count
     }
 
+    /// The bytes that are held, in the order in which they were read.
     pub fn as_slice(&self) -> &[u8]
         ensures { result.now ≡ self.now }
     {

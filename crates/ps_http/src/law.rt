@@ -18,7 +18,7 @@ pub fn law_requests_read_again()
     ensures { RequestsReadAgain }
 {}
 
-/// The same of `response_bytes`, where the status has three digits, its phrase is one of visible
+/// The bytes that `response_bytes` writes of a response are read again as that response, where the status has three digits, its phrase is one of visible
 /// bytes and blanks, there are methods only for 405, a field's value without white space at its
 /// ends, and head and body are within the limits.
 pub fn law_responses_read_again()

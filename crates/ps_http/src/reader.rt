@@ -40,6 +40,7 @@ impl Model for FieldSpans {
 }
 
 impl FieldSpans {
+    /// Room for the fields of the longest head, 5,461 of them.
     pub fn new(alloc: Global) -> Result<FieldSpans, Memory> {
         let spans = vec![in alloc; EMPTY_HEADER_SPAN; FIELDS_ROOM]?;
         Ok(FieldSpans { spans })

@@ -24,6 +24,7 @@ pub struct ReaderSource<R> {
 }
 
 impl<R: Read> ReaderSource<R> {
+    /// A source over the reader, without a fault so far.
     pub fn new(reader: R) -> ReaderSource<R>
         ensures left { ⟦<ReaderSource<R> as Source>⟧.left result ≡ R.remaining reader }
         ensures faults { ⟦<ReaderSource<R> as Source>⟧.read_faults result ≡ 0 }
@@ -104,6 +105,7 @@ pub struct WriterSink<W> {
 }
 
 impl<W: Write> WriterSink<W> {
+    /// A sink over the writer, without a fault so far.
     pub fn new(writer: W) -> WriterSink<W>
         ensures written { ⟦<WriterSink<W> as Sink>⟧.written result ≡ W.contents writer }
         ensures faults { ⟦<WriterSink<W> as Sink>⟧.write_faults result ≡ 0 }

@@ -4,6 +4,7 @@ ghost use Rattle.ps_ports.specs.Memory.{no_calls, fails_next, called};
 
 use std::marker::Model;
 
+/// The numbers of the calls that are to fail, counted from 0, and how many were made.
 #[derive(Drop)]
 pub struct FailingCalls {
     failing: Vec<u64>,

@@ -19,12 +19,14 @@ impl Model for Faults {
 }
 
 impl Faults {
+    /// No fault yet.
     pub fn none() -> Faults
         ensures { result ≡ 0 }
     {
         Faults { count: 0 }
     }
 
+    /// How many faults there were; at 2^64 - 1 the count stands still.
     pub fn count(&self) -> u64
         ensures { result ≡ self.now }
     {

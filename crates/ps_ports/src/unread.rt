@@ -3,6 +3,7 @@ ghost use Rattle.std.specs.Prelude.{◌≡◌, length, take, drop, min};
 
 use std::marker::Model;
 
+/// Bytes of which a front was read.
 #[derive(Drop)]
 pub struct Unread {
     bytes: Vec<u8>,
@@ -20,12 +21,14 @@ impl Model for Unread {
 }
 
 impl Unread {
+    /// These bytes, none of which is read yet.
     pub fn new(bytes: Vec<u8>) -> Unread
         ensures { result ≡ bytes.items }
     {
         Unread { bytes, place: 0 }
     }
 
+    /// The bytes that are left.
     pub fn as_slice(&self) -> &[u8]
         ensures { result.now ≡ self.now }
     {

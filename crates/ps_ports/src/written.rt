@@ -5,6 +5,7 @@ use ps_time::memory::Memory;
 use std::alloc::Global;
 use std::marker::Model;
 
+/// The bytes that were written, and whether memory ran out for some.
 #[derive(Drop)]
 pub struct Written {
     bytes: Vec<u8>,
@@ -20,6 +21,7 @@ impl Model for Written {
 }
 
 impl Written {
+    /// These bytes, as if they had been written.
     pub fn new(bytes: Vec<u8>) -> Written
         ensures { result ≡ record { bytes = bytes.items; starved = false } }
     {
@@ -29,12 +31,14 @@ impl Written {
         }
     }
 
+    /// Nothing written yet.
     pub fn empty(alloc: Global) -> Written
         ensures { result ≡ record { bytes = []; starved = false } }
     {
         Written::new(Vec::new(alloc))
     }
 
+    /// The bytes that were written.
     pub fn as_slice(&self) -> &[u8]
         ensures { result.now ≡ self.now.bytes }
     {
@@ -48,6 +52,7 @@ impl Written {
         self.starved
     }
 
+    /// Writes bytes behind the others: all of them, or none where memory runs out.
     pub fn append(&mut self, bytes: &[u8]) -> Result<(), Memory>
         ensures ok { OnOk result (self.new ≡ record { bytes = self.old.bytes ++ bytes.now; starved = self.old.starved }) }
         ensures err { OnErr result (self.new ≡ record { bytes = self.old.bytes; starved = true }) }

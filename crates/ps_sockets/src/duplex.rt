@@ -17,6 +17,7 @@ pub struct Duplex<R, W> {
 }
 
 impl<R: Read, W: Write> Duplex<R, W> {
+    /// A stream of the two, without a fault so far.
     pub fn new(reader: R, writer: W) -> Duplex<R, W>
         ensures left { ⟦<Duplex<R, W> as Source>⟧.left result ≡ R.remaining reader }
         ensures written { ⟦<Duplex<R, W> as Sink>⟧.written result ≡ W.contents writer }

@@ -22,6 +22,7 @@ pub struct SocketLink<C> {
 }
 
 impl<C: Connector> SocketLink<C> {
+    /// A link without a fault so far.
     pub fn new(connector: C) -> SocketLink<C>
         ensures { ⟦<SocketLink<C> as Link>⟧.link_faults result ≡ 0 }
     {

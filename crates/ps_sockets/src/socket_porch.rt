@@ -19,6 +19,7 @@ pub struct SocketPorch<B> {
 }
 
 impl<B: Binder> SocketPorch<B> {
+    /// A porch without a fault so far.
     pub fn new(binder: B) -> SocketPorch<B>
         ensures { result.faults ≡ 0 }
     {
@@ -56,7 +57,7 @@ fn open_doors<B: Binder>(
     most: Option<u64>,
 ) -> Result<Vec<SocketDoor<B::Listener>>, PorchFault>
     ensures number { IfOk result (λ doors. length doors.items ≡ number) }
-    ensures calm { IfOk result (λ doors. All (λ d. d.faults ≡ 0) doors.items) }
+    ensures no_fault { IfOk result (λ doors. All (λ d. d.faults ≡ 0) doors.items) }
     ensures shares { IfOk result (λ doors. All (λ d. HasShare most d.share) doors.items) }
 {
     let listener = binder.bind(address)?;
@@ -107,7 +108,7 @@ where
         most: Option<u64>,
     ) -> Result<Vec<SocketDoor<B::Listener>>, PorchFault>
         ensures number { IfOk result (λ doors. length doors.items ≡ number) }
-        ensures calm { IfOk result (λ doors. All (λ d. counted d.faults ≡ 0) doors.items) }
+        ensures no_fault { IfOk result (λ doors. All (λ d. counted d.faults ≡ 0) doors.items) }
         ensures unused { IfOk result (λ doors. All (λ _. ⊤ × ⊤) doors.items) }
         ensures shares { IfOk result (λ doors. All (λ d. HasShare most d.share) doors.items) }
         ensures count { counted self.new.faults ≡ porch_faults_after (counted self.old.faults) result }

@@ -234,8 +234,8 @@ fn doors_share_connections(rt: HostRuntime) -> Result<(), Fail> {
 #[test]
 fn errors_at_a_door(rt: HostRuntime) -> Result<(), Fail> {
     let alloc = rt.alloc();
-    let mut calm = SocketPorch::new(Scripted::new(alloc, &HARMLESS));
-    assert!(rt; letters(&mut calm, alloc) == *b"nnsc" && calm.faults() == 0);
+    let mut no_fault = SocketPorch::new(Scripted::new(alloc, &HARMLESS));
+    assert!(rt; letters(&mut no_fault, alloc) == *b"nnsc" && no_fault.faults() == 0);
     let mut broken = SocketPorch::new(Scripted::new(alloc, &BROKEN));
     assert!(rt; letters(&mut broken, alloc) == *b"fscc" && broken.faults() == 1);
     Ok(())

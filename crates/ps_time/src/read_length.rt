@@ -39,7 +39,7 @@ fn split_count(text: &[u8], designator: u8) -> (Option<u64>, &[u8])
     (Some(count), &rest[1..])
 }
 
-/// The same of seconds, with the digits of their fraction.
+/// The seconds that a text begins with, the digits of their fraction as a number, and what follows; all of it where no `S` does.
 #[tactic(auto, unfolding(crate::specs::Length::seconds_at))]
 fn split_seconds(text: &[u8]) -> (u64, u64, &[u8])
     ensures value { (result.0, result.1, result.2.now) ≡ seconds_at text.now }

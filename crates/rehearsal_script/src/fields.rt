@@ -40,6 +40,7 @@ fn texts_of(alloc: Global, parts: &[&str]) -> Result<Items<Text>, Memory>
 }
 
 impl<'a> Fields<'a> {
+    /// The parts of a text between separators, one at least; the separator is ASCII.
     pub fn cut(alloc: Global, text: &'a str, separator: char) -> Result<Fields<'a>, Memory>
         requires { separator < 128 }
         ensures { IfOk result (λ s. s ≡ slice_split (λ b. b == separator) text.now) }
@@ -49,6 +50,7 @@ impl<'a> Fields<'a> {
         })
     }
 
+    /// How many fields there are.
     pub fn len(&self) -> usize
         ensures { result ≡ length self.now }
     {

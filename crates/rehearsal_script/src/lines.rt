@@ -18,6 +18,7 @@ use ps_time::name::is_host_name;
 use ps_time::text::Text;
 use std::alloc::Global;
 
+/// What was read, or the reason for a refusal; memory may run out in place of either.
 pub type Read<T> = Result<Result<T, Reason>, Memory>;
 
 /// What a line says.

@@ -20,6 +20,7 @@ pub fn read_number(field: &str, low: u64, high: u64) -> Option<u64>
     }
 }
 
+/// A moment in seconds since 1970 UTC: 1 to 10 digits, at most `MAX_MOMENT`.
 pub fn read_moment(field: &str) -> Option<Moment>
     ensures { result ≡ moment_of field.now }
 {
@@ -34,6 +35,7 @@ pub fn read_numeral(field: &str) -> Option<u64>
     read_decimal(field, 1, 10)
 }
 
+/// What a crash leaves of a write: `old`, `new` or `torn`.
 pub fn read_image(field: &str) -> Option<Image>
     ensures { result ≡ image_of field.now }
 {

@@ -98,7 +98,7 @@ impl Rehearsal {
         self.held_hosts.as_slice()
     }
 
-    /// The same, given away.
+    /// The hosts, given away.
     pub fn into_held_hosts(self) -> Vec<SimulatedHost>
         ensures { result.items ≡ self.held_hosts }
     {
@@ -168,7 +168,7 @@ impl Rehearsal {
         held_host.act(alloc, clock, input)
     }
 
-    // The same, of a host that isn't to stop.
+    // What comes of a step of a host that isn't to stop.
     fn make(
         &mut self,
         alloc: Global,
@@ -339,7 +339,7 @@ impl Rehearsal {
         self.messages.get(position.saturating_sub(1) as usize)
     }
 
-    /// The same, where there is one.
+    /// The message at a place among those of the hosts, from 1 on, where there is one.
     pub fn message_at(&self, position: u64) -> &Message
         requires { position - 1 < length self.now.messages }
         ensures { message (as_read self.now) position ≡ Some result.now }

@@ -30,6 +30,7 @@ pub struct KeeperArchiver<K, C> {
 }
 
 impl<K: Keeper + Drop, C: Clock + Drop> KeeperArchiver<K, C> {
+    /// The archiver over a keeper and a clock.
     pub fn new(keeper: K, clock: C) -> KeeperArchiver<K, C>
         ensures { result ≡ record { keeper = keeper; clock = clock } }
     {

@@ -135,7 +135,7 @@ impl Other {
         }
     }
 
-    /// The same once more.
+    /// The same answers once more.
     pub fn copy(&self, alloc: Global) -> Result<Other, Memory>
         ensures { IfOk result (λ made. made ≡ self.now) }
     {

@@ -63,7 +63,7 @@ impl<D: Disk> KeptHost<D> {
         &self.keep
     }
 
-    /// The same, given back.
+    /// The host as it is kept, given back.
     pub fn into_keep(self) -> Keep<Host, D>
         ensures { self ≡ seen_of result }
     {

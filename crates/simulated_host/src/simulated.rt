@@ -283,7 +283,7 @@ fn open_on(
     }
 }
 
-// The same on what a crash left of disks.
+// The host for what a crash left of disks, opened at a clock.
 fn reopen_on(
     alloc: Global,
     config: Config,

@@ -389,7 +389,7 @@ fn unsynced_after(was_ready: bool, unsynced: Option<bool>, first: u64, second: u
     }
 }
 
-// The same of the call with this number of a record and a snapshot.
+// Of which disk something is unsynced behind a fault in the call of this number of a record and a snapshot.
 fn unsynced_at(number: u64, second: u64) -> Option<bool>
     ensures { result ≡ unsynced_disk_broken number second }
 {
@@ -419,7 +419,7 @@ fn failing_at(is_ready: bool, is_second: bool, first: u64, second: u64) -> Optio
     }
 }
 
-// The same of a record and a snapshot.
+// Which call is to fail of those of a record and a snapshot.
 fn failing_kept(is_second: bool, first: u64, second: u64) -> Option<u64>
     ensures kept { result ≡ failing first second (four is_second ++ seven (not is_second)) }
     ensures log_bounded { IfSome result (λ number. number ≤ 11) }

@@ -6,7 +6,7 @@ use Rattle.ps_sockets.specs.declared.socket_door.SocketDoor.{SocketDoor}
 use Rattle.ps_sockets.proofs.socket_porch.open_doors.Goals as goal
 
 pub loop-place-init : goal.loop-place-init
-loop-place-init g c = record { number = search (rules, tests); calm = search (rules, tests); shares = search (rules, tests); left = whole_share c.args.most }
+loop-place-init g c = record { number = search (rules, tests); no_fault = search (rules, tests); shares = search (rules, tests); left = whole_share c.args.most }
 
 pub loop-place-preserved : goal.loop-place-preserved
 loop-place-preserved g c =
@@ -15,9 +15,9 @@ loop-place-preserved g c =
     let share = share_of_share c.args.most c.loop-place.left c.take_share-share.result c.loop-place.invariant.left c.take_share-share.ensures.share in
     record {
       number = omega (arith, ap length pushed, length-append before (c.new.result ∷ []), c.loop-place.invariant.number);
-      calm =
+      no_fault =
           subst (All (λ (d : SocketDoor g.row.B-Listener.Denot). d.faults ≡ 0)) (sym pushed)
-          (All_more (λ (d : SocketDoor g.row.B-Listener.Denot). d.faults ≡ 0) before c.new.result c.loop-place.invariant.calm c.new.ensures.faults);
+          (All_more (λ (d : SocketDoor g.row.B-Listener.Denot). d.faults ≡ 0) before c.new.result c.loop-place.invariant.no_fault c.new.ensures.faults);
       shares =
           subst (All (λ (d : SocketDoor g.row.B-Listener.Denot). HasShare c.args.most d.share)) (sym pushed)
           (All_more (λ (d : SocketDoor g.row.B-Listener.Denot). HasShare c.args.most d.share) before c.new.result c.loop-place.invariant.shares
