@@ -1,5 +1,4 @@
 //! What the bodies of answers of peers tell.
-ghost use Rattle.std.specs.List.{list_all};
 ghost use Rattle.std.specs.Prelude.{◌≡◌, ◌≤◌, All, None, true, IfOk, IfSome, OnOk, codes, length, map};
 ghost use Rattle.serde_json.specs.View.{view};
 ghost use Rattle.ps_json.specs.Answer.{GivesUnless};
@@ -12,15 +11,12 @@ ghost use Rattle.run_states.specs.LawfulRow.{IsWindow};
 ghost use Rattle.host_model.specs.Conditions.{IsAnswer, IsFreeHeard, IsResultHeard};
 ghost use Rattle.host_model.specs.InputLength.{heard_texts, most_input_texts};
 ghost use Rattle.host_model.specs.RecordLength.{answer_bytes};
-ghost use Rattle.plugin_core.specs.ReadTest.{all_differ};
-ghost use Rattle.task_spec.specs.ReadTask.{is_tool};
 ghost use Rattle.api_body.specs.Bodies.{ended, text_at};
 ghost use Rattle.api_answer.specs.Told.{IsTier, moment_told, flag_in, flag_told, moment_of, window_from, window_of, window_in, windows_in, are_tools, tools_in, first_in, second_in, tiers_in, after_tiers, free_told, result_in, state_named, state_in, outcome_by, outcome_told};
 
 use api_body::bodies::{take_moment, take_text};
 use host_model::order::PeerAnswer;
-use plugin_core::participants::is_named;
-use plugin_tool::choice::read_tool;
+use plugin_core::read_test::all_differ;
 use ps_json::fault::JsonFault;
 use ps_json::fields::Fields;
 use ps_json::kinds::{read_boolean, read_list, read_text};
@@ -36,6 +32,7 @@ use run_states::state::State;
 use serde_json::Value;
 use std::alloc::Global;
 use task_spec::fault::TaskFault;
+use task_spec::read_task::all_tools;
 
 /// The most windows in a tier of an answer.
 const MOST_WINDOWS: usize = 128;
@@ -162,32 +159,10 @@ fn read_names(alloc: Global, values: Vec<Value>) -> Result<Items<Text>, TaskFaul
     Ok(names)
 }
 
-/// Whether each is the name of a tool.
-fn are_known(names: &[Text]) -> bool
-    ensures { result ≡ list_all is_tool names.now }
-{
-    for name in names {
-        if read_tool(name.as_str()).is_none() {
-            return false;
-        }
-    }
-    true
-}
-
-/// Whether no name stands there twice.
-fn all_differ(names: &[Text]) -> bool
-    ensures { result ≡ all_differ names.now }
-{
-    match names {
-        [] => true,
-        [name, rest @ ..] => !is_named(rest, name.as_str()) && all_differ(rest),
-    }
-}
-
 fn are_tools(names: &[Text]) -> bool
     ensures { result ≡ are_tools names.now }
 {
-    names.len() <= ALL_TOOLS && are_known(names) && all_differ(names)
+    names.len() <= ALL_TOOLS && all_tools(names) && all_differ(names)
 }
 
 fn take_tools(alloc: Global, fields: &mut Fields) -> Result<Items<Text>, TaskFault>

@@ -1,13 +1,13 @@
 //! What a book looks up, made for rows that are there already.
 ghost use Rattle.std.specs.Prelude.{◌≡◌, ◌+◌, ◌<◌, ◌≤◌, [], IfOk, length};
 ghost use Rattle.run_states.specs.Rows.{IsAscendingRows};
-ghost use Rattle.part_core.specs.Reservations.{booking_of, bookings_of};
+ghost use Rattle.part_core.specs.Reservations.{bookings_of};
 ghost use Rattle.host_model.specs.Lawful.{NoClash};
 ghost use Rattle.host_book.specs.Restore.{with_found, IsFree};
 
-use host_timeline::booking::{Booking, firm_from};
+use host_timeline::booking::Booking;
 use host_timeline::timeline::Timeline;
-use plugin_core::test_spec::class_of;
+use part_core::reservations::booking_of;
 use ps_time::memory::Memory;
 use run_states::row::RunRow;
 use std::alloc::Global;
@@ -45,24 +45,5 @@ fn book(timeline: &mut Timeline, found: Option<Booking>)
 {
     if let Some(booking) = found {
         timeline.book(booking);
-    }
-}
-
-// What the row reserves.
-fn booking_of(row: &RunRow) -> Option<Booking>
-    ensures { result ≡ booking_of row.now }
-{
-    if !row.is_booked() {
-        return None;
-    }
-    match row.interval {
-        Some(interval) => Some(Booking {
-            key: row.key,
-            class: class_of(&row.test),
-            interval,
-            priority: row.priority,
-            firm_from: firm_from(interval.start, row.started.is_some()),
-        }),
-        None => None,
     }
 }

@@ -10,10 +10,10 @@ use Rattle.serde_json.specs.Data.{Data, null, boolean, number, string, array, ob
 use Rattle.serde_json.specs.View.{view, items_view, items_of, members_view}
 use Rattle.serde_json.specs.declared.value.Value.{Value}
 use Rattle.serde_json.proofs.Views.{Entry}
-use Rattle.ps_json.specs.Fields.{is_comment}
+use Rattle.ps_json.specs.Fields.{is_comment, with_plain}
 use Rattle.std.specs.Ordering.{match_ordering}
 use Rattle.limit_ident.specs.Plain.{AreAbove, IsPlain, ArePlainItems, ArePlain}
-use Rattle.limit_apply.specs.Bare.{bare, bare_items, bare_members, with_plain}
+use Rattle.limit_apply.specs.Bare.{bare, bare_items, bare_members}
 
 -- ---- comments are left out once
 

@@ -1,6 +1,6 @@
 -- Trees without their comments.
 use Rattle.std.specs.Prelude.{ℕ, List, if◌then◌else◌}
-use Rattle.serde_json.specs.Data.{Data, null, boolean, number, string, array, object, Items, no_items, item, Members, no_members, member, put}
+use Rattle.serde_json.specs.Data.{Data, null, boolean, number, string, array, object, Items, no_items, item, Members, no_members, member}
 use Rattle.serde_json.specs.Written.{compact_text}
 use Rattle.ps_json.specs.Fields.{is_comment}
 
@@ -21,10 +21,6 @@ abbrev mutual
   pub bare_members : Members → Members
   bare_members no_members = no_members
   bare_members (member k d ms) = if is_comment k then bare_members ms else member k (bare d) (bare_members ms)
-
--- a member put to the others, unless it is a comment
-abbrev pub with_plain : List ℕ → Data → Members → Members
-with_plain k d ms = if is_comment k then ms else put k d ms
 
 -- the compact text of what is left
 abbrev pub bare_text : Data → List ℕ

@@ -2,17 +2,16 @@
 ghost use Rattle.std.specs.Prelude.{◌≡◌, IfOk, IfSome, IsSome, OnOk, Ok};
 ghost use Rattle.serde_json.specs.View.{view, items_view, members_view};
 ghost use Rattle.serde_json.specs.Written.{compact_text};
-ghost use Rattle.ps_json.specs.Fields.{is_comment};
 ghost use Rattle.ps_json.specs.Tree.{tree_of};
 ghost use Rattle.limit_ident.specs.Plain.{IsPlain, ArePlainItems, ArePlain, IsFlat};
-ghost use Rattle.limit_apply.specs.Bare.{bare, bare_items, bare_members, with_plain};
+ghost use Rattle.limit_apply.specs.Bare.{bare, bare_items, bare_members};
 
-use ps_json::fields::is_comment;
+use ps_json::fields::put_plain;
 use ps_json::shape::{is_deeper, is_whole};
 use ps_json::tree::{MAX_DEPTH, write_text};
 use ps_time::memory::Memory;
 use ps_time::text::Text;
-use serde_json::{Map, Value, put};
+use serde_json::{Map, Value};
 use std::alloc::Global;
 
 /// A copy without the members whose names begin with `#`, at every depth.
@@ -54,22 +53,6 @@ fn copy_members(alloc: Global, members: &Map<String, Value>) -> Result<Map<Strin
         put_plain(alloc, &mut copies, name.as_str(), copy)?;
     }
     Ok(copies)
-}
-
-/// Puts a member to the others, unless it is a comment.
-fn put_plain(
-    alloc: Global,
-    copies: &mut Map<String, Value>,
-    name: &str,
-    value: Value,
-) -> Result<(), Memory>
-    ensures { OnOk result (members_view copies.new.entries ≡ with_plain name.now (view value) (members_view copies.old.entries)) }
-{
-    if is_comment(name) {
-        return Ok(());
-    }
-    put(copies, alloc, name, value)?;
-    Ok(())
 }
 
 /// The compact text of a tree whose numbers are whole and which isn't deeper than a tree may be. It is read

@@ -10,9 +10,9 @@ use Rattle.serde_json.specs.Data.{Data, item, member, put}
 use Rattle.serde_json.specs.View.{view, items_view, items_of, members_view}
 use Rattle.serde_json.specs.declared.value.Value.{Value}
 use Rattle.serde_json.proofs.Views.{Entry}
-use Rattle.ps_json.specs.Fields.{is_comment}
+use Rattle.ps_json.specs.Fields.{is_comment, with_plain}
 use Rattle.mesh_parts.specs.declared.group.Pair.{Pair}
-use Rattle.mesh_parts.specs.Fill.{filled, filled_items, filled_members, with_plain}
+use Rattle.mesh_parts.specs.Fill.{filled, filled_items, filled_members}
 
 below_middle : (first : Entry) (es : List Entry) (e : Entry) (more : List Entry) → AllByRecursion (λ y. string_cmp first.0 y ≡ Less) (keys_of (es ++ e ∷ more)) → string_cmp first.0 e.0 ≡ Less
 below_middle first [] e more h = h.0

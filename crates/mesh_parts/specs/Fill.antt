@@ -1,7 +1,7 @@
 -- Trees without comments, in which templates give way to the hosts of a pair.
 use Rattle.std.specs.Prelude.{ℕ, List, Bool, false, ◌||◌, Option, Some, None, if◌then◌else◌, bytes_eq, codes}
 use Rattle.std.specs.Option.{unwrap_or}
-use Rattle.serde_json.specs.Data.{Data, null, boolean, number, string, array, object, Items, no_items, item, Members, no_members, member, put}
+use Rattle.serde_json.specs.Data.{Data, null, boolean, number, string, array, object, Items, no_items, item, Members, no_members, member}
 use Rattle.ps_json.specs.Fields.{is_comment}
 use Rattle.mesh_parts.specs.declared.group.Pair.{Pair}
 
@@ -31,10 +31,6 @@ abbrev mutual
   filled_members pair no_members = no_members
   filled_members pair (member k d ms) =
       if is_comment k then filled_members pair ms else member k (filled pair d) (filled_members pair ms)
-
--- a member put to the others, unless it is a comment
-abbrev pub with_plain : List ℕ → Data → Members → Members
-with_plain k d ms = if is_comment k then ms else put k d ms
 
 -- whether some text of a tree is exactly this one
 abbrev mutual

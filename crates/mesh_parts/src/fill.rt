@@ -1,12 +1,12 @@
 //! Trees without comments, in which templates give way to the hosts of a pair.
 ghost use Rattle.std.specs.Prelude.{◌≡◌, IfOk, OnOk, option_copied, string_bytes};
 ghost use Rattle.serde_json.specs.View.{view, items_view, members_view};
-ghost use Rattle.mesh_parts.specs.Fill.{stands_for, filled, filled_items, filled_members, with_plain, mentions, items_mention, members_mention};
+ghost use Rattle.mesh_parts.specs.Fill.{stands_for, filled, filled_items, filled_members, mentions, items_mention, members_mention};
 
 use crate::group::Pair;
-use ps_json::fields::is_comment;
+use ps_json::fields::put_plain;
 use ps_time::memory::Memory;
-use serde_json::{Map, Value, put};
+use serde_json::{Map, Value};
 use std::alloc::Global;
 
 /// The text that stands for the first host of a pair.
@@ -73,22 +73,6 @@ fn fill_members(
         put_plain(alloc, &mut copies, name.as_str(), copy)?;
     }
     Ok(copies)
-}
-
-/// Puts a member to the others, unless it is a comment.
-fn put_plain(
-    alloc: Global,
-    copies: &mut Map<String, Value>,
-    name: &str,
-    value: Value,
-) -> Result<(), Memory>
-    ensures { OnOk result (members_view copies.new.entries ≡ with_plain name.now (view value) (members_view copies.old.entries)) }
-{
-    if is_comment(name) {
-        return Ok(());
-    }
-    put(copies, alloc, name, value)?;
-    Ok(())
 }
 
 /// Whether some text of a tree is exactly this one. Names of members don't count.

@@ -7,4 +7,5 @@ pub mod confirm;
 pub mod decision;
 pub mod fit;
 pub mod reading;
+pub mod reservations;
 pub mod settled;

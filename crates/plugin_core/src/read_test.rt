@@ -180,7 +180,7 @@ fn read_names(alloc: Global, values: Vec<Value>, name: &str) -> Result<Items<Tex
 }
 
 /// Whether no name stands there twice.
-fn all_differ(names: &[Text]) -> bool
+pub fn all_differ(names: &[Text]) -> bool
     ensures { result ≡ all_differ names.now }
 {
     for index in 0..names.len() {

@@ -2,7 +2,7 @@
 use Rattle.std.specs.Prelude.{ℕ, ◌+◌, List, [], ◌∷◌, Bool, false, ◌==◌, if◌then◌else◌, bytes_eq, Option, Some, None, Result, Ok, Err, ⊤}
 use Rattle.std.specs.Ordering.{nat_cmp, match_ordering}
 use Rattle.std.specs.Cmp.Lexicographic.{slice_cmp}
-use Rattle.serde_json.specs.Data.{Data, Members, no_members, member}
+use Rattle.serde_json.specs.Data.{Data, Members, no_members, member, put}
 use Rattle.serde_json.specs.Find.{get_member}
 use Rattle.ps_json.specs.declared.fault.JsonFault.{JsonFault}
 use Rattle.ps_json.specs.declared.fault.JsonFault.TheVariants.{Missing, Unknown}
@@ -57,3 +57,7 @@ behind_next (member k d ms) = if is_comment k then behind_next ms else ms
 abbrev pub members_count : Members → ℕ
 members_count no_members = 0
 members_count (member k d ms) = members_count ms + 1
+
+-- a member put to the others, unless it is a comment
+abbrev pub with_plain : List ℕ → Data → Members → Members
+with_plain k d ms = if is_comment k then ms else put k d ms

@@ -1,14 +1,15 @@
 //! The members of an object, each taken once.
-ghost use Rattle.std.specs.Prelude.{◌≡◌, ◌<◌, option_map, IfSome};
+ghost use Rattle.std.specs.Prelude.{◌≡◌, ◌<◌, option_map, IfSome, OnOk};
 ghost use Rattle.serde_json.specs.Find.{get_member};
-ghost use Rattle.serde_json.specs.View.{view};
+ghost use Rattle.serde_json.specs.View.{members_view, view};
 ghost use Rattle.ps_json.specs.Answer.{GivesUnless, seen_as};
-ghost use Rattle.ps_json.specs.Fields.{without_member, need_of, end_of, is_comment, least_unknown, next_of, behind_next, members_count};
+ghost use Rattle.ps_json.specs.Fields.{without_member, need_of, end_of, is_comment, least_unknown, next_of, behind_next, members_count, with_plain};
 ghost use Rattle.ps_json.specs.Kinds.{members_of};
 
 use crate::fault::JsonFault;
+use ps_time::memory::Memory;
 use ps_time::text::Text;
-use serde_json::{Map, Value};
+use serde_json::{Map, Value, put};
 use std::alloc::Global;
 use std::marker::Model;
 
@@ -95,4 +96,20 @@ pub fn is_comment(name: &str) -> bool
     ensures { result ≡ is_comment name.now }
 {
     matches!(name.as_bytes(), [b'#', ..])
+}
+
+/// Puts a member to the others, unless it is a comment.
+pub fn put_plain(
+    alloc: Global,
+    members: &mut Map<String, Value>,
+    name: &str,
+    value: Value,
+) -> Result<(), Memory>
+    ensures { OnOk result (members_view members.new.entries ≡ with_plain name.now (view value) (members_view members.old.entries)) }
+{
+    if is_comment(name) {
+        return Ok(());
+    }
+    put(members, alloc, name, value)?;
+    Ok(())
 }

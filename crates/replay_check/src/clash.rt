@@ -1,15 +1,14 @@
 //! Whether what the rows of a book reserve is apart.
 ghost use Rattle.std.specs.Prelude.{◌≡◌, ◌+◌, ◌<◌, ◌≤◌, ◌↔◌, [], IfOk, IsFalse, IsTrue, length};
 ghost use Rattle.run_states.specs.Rows.{IsAscendingRows};
-ghost use Rattle.part_core.specs.Reservations.{booking_of};
 ghost use Rattle.host_timeline.specs.Booking.{conflicting};
 ghost use Rattle.host_model.specs.Lawful.{NoClash};
 ghost use Rattle.host_book.specs.Restore.{with_found, IsFree};
 ghost use Rattle.replay_check.specs.NewKey.{HasNewKey};
 
-use host_timeline::booking::{Booking, firm_from};
+use host_timeline::booking::Booking;
 use host_timeline::timeline::Timeline;
-use plugin_core::test_spec::class_of;
+use part_core::reservations::booking_of;
 use ps_time::memory::Memory;
 use run_states::row::RunRow;
 use std::alloc::Global;
@@ -65,23 +64,4 @@ fn has_conflict(timeline: &Timeline, booking: &Booking) -> bool
     timeline
         .next_conflict(booking.class, &booking.interval, None)
         .is_some()
-}
-
-// What the row reserves.
-fn booking_of(row: &RunRow) -> Option<Booking>
-    ensures { result ≡ booking_of row.now }
-{
-    if !row.is_booked() {
-        return None;
-    }
-    match row.interval {
-        Some(interval) => Some(Booking {
-            key: row.key,
-            class: class_of(&row.test),
-            interval,
-            priority: row.priority,
-            firm_from: firm_from(interval.start, row.started.is_some()),
-        }),
-        None => None,
-    }
 }

@@ -51,6 +51,18 @@ pub struct Rest {
     pub priority: i16,
 }
 
+/// Whether each is the name of a tool.
+pub fn all_tools(names: &[Text]) -> bool
+    ensures { result ≡ list_all is_tool names.now }
+{
+    for name in names {
+        if read_tool(name.as_str()).is_none() {
+            return false;
+        }
+    }
+    true
+}
+
 fn take_schema(alloc: Global, fields: &mut Fields) -> Result<u64, TaskFault>
     ensures value { GivesUnless TaskFault.Memory result (optional 1 schema (codes "schema") fields.old) }
     ensures rest { fields.new ≡ without_member (codes "schema") fields.old }

@@ -6,7 +6,8 @@ use Rattle.std.specs.String.{string_cmp}
 use Rattle.serde_json.proofs.Views.{Entry}
 use Rattle.serde_json.specs.View.{view, items_view, members_view}
 use Rattle.limit_ident.specs.Plain.{ArePlainItems, ArePlain}
-use Rattle.limit_apply.specs.Bare.{bare, with_plain}
+use Rattle.ps_json.specs.Fields.{with_plain}
+use Rattle.limit_apply.specs.Bare.{bare}
 use Rattle.limit_apply.proofs.BareLemmas.{bare-next, items_copied, plain_with, plain_items-push}
 use Rattle.limit_apply.proofs.bare.+bare.Goals as goal
 

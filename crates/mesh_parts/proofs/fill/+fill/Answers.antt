@@ -4,7 +4,8 @@ use Rattle.std.specs.Map.{keys_of}
 use Rattle.std.specs.String.{string_cmp}
 use Rattle.serde_json.proofs.Views.{Entry}
 use Rattle.serde_json.specs.View.{view}
-use Rattle.mesh_parts.specs.Fill.{filled, with_plain}
+use Rattle.ps_json.specs.Fields.{with_plain}
+use Rattle.mesh_parts.specs.Fill.{filled}
 use Rattle.mesh_parts.proofs.FillLemmas.{filled-next, items_filled}
 use Rattle.mesh_parts.proofs.fill.+fill.Goals as goal
 

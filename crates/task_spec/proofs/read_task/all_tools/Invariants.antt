@@ -1,7 +1,7 @@
 use Rattle.std.proofs.Common.{◌≡◌, drop}
 use Rattle.std.specs.List.{list_all}
 use Rattle.task_spec.specs.ReadTask.{is_tool}
-use Rattle.api_answer.proofs.told.are_known.Given as goal
+use Rattle.task_spec.proofs.read_task.all_tools.Given as goal
 
 -- those so far
 abbrev pub invariant-loop-name : goal.invariant-loop-name
