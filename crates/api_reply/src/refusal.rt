@@ -3,9 +3,9 @@ ghost use Rattle.std.specs.Prelude.{◌≡◌, IfOk};
 ghost use Rattle.serde_json.specs.View.{view};
 ghost use Rattle.api_reply.specs.Errors.{body_error, json_error, refusal_allow, refusal_error, refusal_status, refused};
 
+use crate::respond::body_bytes;
+use crate::shown::{write_error, write_error_with};
 use api_input::refusal::Refusal;
-use api_reply::respond::body_bytes;
-use api_reply::shown::{write_error, write_error_with};
 use ps_http::message::Response;
 use ps_json::fault::JsonFault;
 use ps_time::memory::Memory;
