@@ -1,4 +1,4 @@
-//! Seats of gatherers.
+//! Machines of gatherers.
 
 use machine_keep_tests::gatherer::Gatherer;
 use ps_disks::memory_disk::MemoryDisk;
