@@ -1,10 +1,10 @@
 # make rehearse SCRIPT=FILE         writes the report on a script
 # make validate-limits LIMITS=FILE  says whether a configuration of limits is valid
-# make build                        leaves psched at build/psched, proved: what the gate built, where no source is newer
+# make build                        leaves psched at build/psched, proved: what CI built, where no source is newer
 # make examples                     runs examples/ on build/psched
-# make test                         the gate: every proof and test, then the examples
-# make edits                        tries the edits that must fail and that the gate leaves out
-# make gate-cost                    the gate, and the processor seconds that each crate takes in it
+# make test                         CI: every proof and test, then the examples
+# make edits                        tries the edits that must fail and that CI leaves out
+# make gate-cost                    CI, and the processor seconds that each crate takes in it
 # make bench                        times build/psched, the opening of journals, requests, steps of a host, kept hosts, and reports on stored results
 .PHONY: rehearse validate-limits build examples test edits gate-cost bench
 
