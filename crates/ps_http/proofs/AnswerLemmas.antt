@@ -1,5 +1,5 @@
 -- From what was read of an input to what the whole input is.
-use Rattle.std.proofs.Common.{◌≡◌, ◌≤◌, ◌<◌, ◌+◌, ◌-◌, ◌⊎◌, inl, inr, ℕ, zero, suc, List, [], ◌∷◌, ◌++◌, length, take, drop, refl, sym, ap, subst, ◌∙◌, arith, append_assoc, append-nil, length-append, length-take, take-append-drop, Option, Some, None, Ok, Err}
+use Rattle.std.proofs.Common.{◌≡◌, false, ◌≤◌, ◌<◌, ◌+◌, ◌-◌, ◌⊎◌, inl, inr, ℕ, zero, suc, List, [], ◌∷◌, ◌++◌, length, take, drop, refl, sym, ap, subst, ◌∙◌, arith, append_assoc, append-nil, length-append, length-take, take-append-drop, Option, Some, None, Ok, Err}
 use Rattle.std.specs.Prelude.{IfSome, ⊤}
 use Rattle.std.specs.Io.KnownBytes.{Consumes, IsAtEnd, prepend_known}
 use Rattle.std.proofs.KnownBytes.{Consumes-trans}
@@ -9,6 +9,7 @@ use Rattle.ps_http.specs.Answer.{Kind, HeadSays, EndsInBody, Refuses, TakesMessa
 use Rattle.ps_http.specs.Body.{Short, HasBody, BodyFault}
 use Rattle.ps_http.specs.Collected.{Added, IsEnough}
 use Rattle.ps_http.specs.Head.{IsHeaded, IsRefused, HeadFault}
+use Rattle.ps_http.specs.Lines.{has_head_end}
 use Rattle.ps_http.specs.declared.fault.HttpFault.{HttpFault}
 use Rattle.ps_http.specs.declared.fault.HttpFault.TheVariants.{BadHead, NoLength, TooLarge, EndInside, ReadFault, AfterRefusal, Memory}
 use Rattle.ps_http.specs.declared.message.HttpLimits.{HttpLimits}
@@ -165,7 +166,20 @@ module _ {H M : Type 0} (kind : Kind H M) (lawful : Lawful kind) (limits : HttpL
   body_refusal message size n AfterRefusal old left mid rest a h no_fault = absurd no_fault
   body_refusal message size n Memory old left mid rest a h no_fault = input_is (λ input. Refuses kind limits input Memory) old held left mid a (λ more is. tt)
 
-  -- a read was due inside a body, and inside a head
+  -- a head that isn't whole and not too long is the rest of the input
+  pub head_ended : (n : ℕ) (rest : Option (List ℕ)) → IsEnough limits.head held rest → HeadFault kind limits front (EndInside n) → IsAtEnd rest
+  head_ended n rest (inl ended) (count, few, unended) = absurd (false≢true (sym (lawful.unended front unended) ∙ ended))
+  head_ended n rest (inr (inl enough)) (count, few, unended) = absurd (omega (arith, enough, few, length-take limits.head held))
+  head_ended n rest (inr (inr ended)) fault = ended
+
+  -- a read was due inside a head, and inside a body
+  pub head_due : (n : ℕ) (old : List ℕ) (left rest : Option (List ℕ)) → Added old held left rest → HeadFault kind limits front (EndInside n) → WasDue kind limits old left rest
+  head_due n old left rest a (count, few, unended) =
+      let short : length held < limits.head = omega (arith, few, length-take limits.head held) in
+      let all : front ≡ held = take_all limits.head held (omega (arith, short)) in
+      let open_end : has_head_end held ≡ false = ap has_head_end (sym all) ∙ lawful.unended front unended in
+      (a.came, a.consumed, inl (subst (λ l. (length l < limits.head) × (has_head_end l ≡ false)) a.added (short, open_end)))
+
   pub body_due : (message : M) (size n : ℕ) (old : List ℕ) (left mid rest : Option (List ℕ)) → Added old held left mid → IsHeaded kind limits front message size n
       → Short (length held) (size + n) mid rest → WasDue kind limits old left rest
   body_due message size n old left mid rest a h s =

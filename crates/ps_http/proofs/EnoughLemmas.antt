@@ -132,7 +132,7 @@ module _ {H M : Type 0} (kind : Kind H M) (limits : HttpLimits) where
   in_time BadHead old now left rest f = f.1
   in_time NoLength old now left rest f = f.1
   in_time TooLarge old now left rest f = f.1
-  in_time (EndInside n) old now left rest f = tt
+  in_time (EndInside n) old now left rest f = (f.1, f.2)
   in_time ReadFault old now left rest f = tt
   in_time AfterRefusal old now left rest f = tt
   in_time Memory old now left rest f = tt

@@ -10,7 +10,7 @@ use Rattle.ps_http.specs.Next.{HasHead, FaultAt}
 use Rattle.ps_http.specs.declared.fault.HttpFault.{HttpFault}
 use Rattle.ps_http.specs.declared.fault.HttpFault.TheVariants.{BadHead, NoLength, TooLarge, EndInside, ReadFault, AfterRefusal, Memory}
 use Rattle.ps_http.specs.declared.message.HttpLimits.{HttpLimits}
-use Rattle.ps_http.proofs.AnswerLemmas.{input_is, head_refuses, body_refusal, body_due, head_held}
+use Rattle.ps_http.proofs.AnswerLemmas.{input_is, head_refuses, head_due, head_ended, body_refusal, body_due, head_held}
 use Rattle.ps_http.proofs.CollectLemmas.{take_upto}
 use Rattle.ps_http.proofs.EnoughLemmas.{bad_enough, unsaid_enough, long_enough}
 use Rattle.ps_http.proofs.KindLemmas.{Lawful}
@@ -31,7 +31,8 @@ module _ {H M : Type 0} (kind : Kind H M) (lawful : Lawful kind) (limits : HttpL
   by_head BadHead old held left rest c f = (head_refuses kind lawful limits held BadHead old left rest c.0 c.1 f, bad_enough kind lawful limits old held held left rest c f)
   by_head NoLength old held left rest c f = (head_refuses kind lawful limits held NoLength old left rest c.0 c.1 f, unsaid_enough kind lawful limits old held held left rest c f)
   by_head TooLarge old held left rest c f = (head_refuses kind lawful limits held TooLarge old left rest c.0 c.1 f, long_enough kind lawful limits old held held left rest c f)
-  by_head (EndInside n) old held left rest c f = head_refuses kind lawful limits held (EndInside n) old left rest c.0 c.1 f
+  by_head (EndInside n) old held left rest c f =
+      (head_refuses kind lawful limits held (EndInside n) old left rest c.0 c.1 f, head_due kind lawful limits held n old left rest c.0 f, head_ended kind lawful limits held n rest c.1 f)
   by_head ReadFault old held left rest c f = absurd f
   by_head AfterRefusal old held left rest c f = absurd f
   by_head Memory old held left rest c f = head_refuses kind lawful limits held Memory old left rest c.0 c.1 f
@@ -45,8 +46,11 @@ module _ {H M : Type 0} (kind : Kind H M) (lawful : Lawful kind) (limits : HttpL
   fault_at_body message size n BadHead old held now left mid rest h f = absurd f
   fault_at_body message size n NoLength old held now left mid rest h f = absurd f
   fault_at_body message size n TooLarge old held now left mid rest h f = absurd f
-  fault_at_body message size n (EndInside k) old held now left mid rest h f =
-      body_refusal kind lawful limits held message size n (EndInside k) old left mid rest h.added h.headed f
+  fault_at_body message size n (EndInside k) old held now left mid rest h f = (
+    body_refusal kind lawful limits held message size n (EndInside k) old left mid rest h.added h.headed f,
+    body_due kind lawful limits held message size n old left mid rest h.added h.headed f.0,
+    f.2,
+  )
   fault_at_body message size n ReadFault old held now left mid rest h f = body_due kind lawful limits held message size n old left mid rest h.added h.headed f
   fault_at_body message size n AfterRefusal old held now left mid rest h f = absurd f
   fault_at_body message size n Memory old held now left mid rest h f =
@@ -62,7 +66,7 @@ module _ {H M : Type 0} (kind : Kind H M) (limits : HttpLimits) where
   refuses BadHead old now left rest f = f.0
   refuses NoLength old now left rest f = f.0
   refuses TooLarge old now left rest f = f.0
-  refuses (EndInside n) old now left rest f = f
+  refuses (EndInside n) old now left rest f = f.0
   refuses ReadFault old now left rest f = always (prepend_known old left)
   refuses AfterRefusal old now left rest f = absurd f
   refuses Memory old now left rest f = f

@@ -117,12 +117,12 @@ abbrev pub WasEnoughOrEnd : {H M : Type 0} → Kind H M → HttpLimits → List 
 WasEnoughOrEnd kind limits held now old new =
     (came : List ℕ) × Consumes old new came × AsWanted kind limits held came now × (¬ (IsDue kind limits (held ++ came)) ⊎ IsAtEnd new)
 
--- no refusal while a read is due: bytes that can begin no head are refused at the head's end, or at that of the input
+-- no refusal while a read is due: bytes that can begin no head are refused at the head's end, or at that of the input; an end inside a message is met where a read is due
 abbrev pub RefusedInTime : {H M : Type 0} → Kind H M → HttpLimits → HttpFault → List ℕ → List ℕ → Option (List ℕ) → Option (List ℕ) → Type 0
 RefusedInTime kind limits BadHead held now old new = WasEnoughOrEnd kind limits held now old new
 RefusedInTime kind limits TooLarge held now old new = WasEnough kind limits held now old new
 RefusedInTime kind limits NoLength held now old new = WasEnough kind limits held now old new
-RefusedInTime kind limits (EndInside n) held now old new = ⊤
+RefusedInTime kind limits (EndInside n) held now old new = WasDue kind limits held old new × IsAtEnd new
 RefusedInTime kind limits ReadFault held now old new = ⊤
 RefusedInTime kind limits AfterRefusal held now old new = ⊤
 RefusedInTime kind limits Memory held now old new = ⊤

@@ -1,6 +1,6 @@
 -- The head that was read from a source.
 use Rattle.std.specs.Prelude.{◌≤◌, ℕ, List, length, take, Option, IfSome}
-use Rattle.std.specs.Io.KnownBytes.{prepend_known}
+use Rattle.std.specs.Io.KnownBytes.{prepend_known, IsAtEnd}
 use Rattle.ps_http.specs.Answer.{Kind, Refuses, WasDue, WasEnough, WasEnoughOrEnd}
 use Rattle.ps_http.specs.Collected.{Added, IsWanted}
 use Rattle.ps_http.specs.Head.{IsHeaded}
@@ -25,5 +25,5 @@ FaultAt kind limits old now NoLength left rest =
     IfSome (prepend_known old left) (λ input. Refuses kind limits input NoLength) × WasEnough kind limits old now left rest
 FaultAt kind limits old now TooLarge left rest =
     IfSome (prepend_known old left) (λ input. Refuses kind limits input TooLarge) × WasEnough kind limits old now left rest
-FaultAt kind limits old now (EndInside n) left rest = IfSome (prepend_known old left) (λ input. Refuses kind limits input (EndInside n))
+FaultAt kind limits old now (EndInside n) left rest = IfSome (prepend_known old left) (λ input. Refuses kind limits input (EndInside n)) × WasDue kind limits old left rest × IsAtEnd rest
 FaultAt kind limits old now Memory left rest = IfSome (prepend_known old left) (λ input. Refuses kind limits input Memory)

@@ -93,6 +93,21 @@ impl<S: Drop> Reader<S> {
 }
 
 impl<S> Reader<S> {
+    /// A reader over a source, of which nothing is read yet. Without memory the source is given back.
+    pub fn over(alloc: Global, source: S) -> Result<Reader<S>, S>
+        ensures made { IfOk result (λ r. r ≡ record { source = source; held = []; refused = false }) }
+        ensures back { IfErr result (λ s. s ≡ source) }
+    {
+        match Held::new(alloc) {
+            Ok(held) => Ok(Reader {
+                source,
+                held,
+                refused: false,
+            }),
+            Err(_) => Err(source),
+        }
+    }
+
     /// The source, as far as it was read. What the reader holds is let go.
     pub fn into_source(self) -> S
         ensures { result ≡ self.source }

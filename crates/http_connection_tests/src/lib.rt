@@ -1,0 +1,7 @@
+//! The tests of http_connection, over its public items.
+#![tactic(auto)]
+
+#[cfg(test)]
+mod pieces;
+#[cfg(test)]
+mod tests;
