@@ -12,11 +12,11 @@ use Rattle.ps_disks.specs.declared.rack.RackFault.TheVariants.{Failed, Memory}
 use Rattle.std.specs.declared.io.ErrorKind.{ErrorKind}
 use Rattle.std.specs.declared.io.ErrorKind.TheVariants.{OutOfMemory}
 
--- A new pair. The first disk: the magic, an open gate, the generation 1 in eight bytes, an empty snapshot's length in four, a closed gate.
+-- A new pair. The first disk: the magic, an open gate byte, the generation 1 in eight bytes, an empty snapshot's length in four, a closed gate byte.
 abbrev pub fresh_first : List ℕ
 fresh_first = codes "PSCHJRN1" ++ 1 ∷ 0 ∷ 0 ∷ 0 ∷ 0 ∷ 0 ∷ 0 ∷ 0 ∷ 1 ∷ 0 ∷ 0 ∷ 0 ∷ 0 ∷ 0 ∷ []
 
--- the second: the magic and a closed gate
+-- the second: the magic and a closed gate byte
 abbrev pub fresh_second : List ℕ
 fresh_second = codes "PSCHJRN1" ++ 0 ∷ []
 

@@ -11,11 +11,11 @@ use std::alloc::{AllocError, Global};
 use std::io;
 use std::io::ErrorKind;
 
-/// The first disk of a new pair: the magic, an open gate, the generation 1, an empty snapshot, a closed
-/// gate.
+/// The first disk of a new pair: the magic, an open gate byte, the generation 1, an empty snapshot, a closed gate
+/// byte.
 pub const FRESH_FIRST: [u8; 22] = *b"PSCHJRN1\x01\0\0\0\0\0\0\0\x01\0\0\0\0\0";
 
-/// The second: the magic and a closed gate.
+/// The second: the magic and a closed gate byte.
 pub const FRESH_SECOND: [u8; 9] = *b"PSCHJRN1\0";
 
 /// Why no pair was opened.

@@ -134,7 +134,7 @@ where
 
     ghost is_out = { λ _. Unit {0} };
 
-    // Memory for the address is found first, so that no connection is lost for want of it.
+    // Memory for the address is found first, so that no connection is lost where there is none.
     fn accept(&mut self, alloc: Global) -> Accepted<L::Stream>
         ensures address { HasAddress result }
         ensures closed { is_closed result ≡ is_used_up self.old.share }

@@ -38,7 +38,7 @@ failing call = simulation_played hosts (first_simulation hosts) 0 (Action.Fails 
 abbrev booked : ℕ → Simulation
 booked call = simulation_line plain hosts (failing call) booking
 
--- the third call fails: the gate of the record isn't open, and the next step books
+-- the third call fails: the gate byte of the record isn't open, and the next step books
 third : (line_said plain hosts (failing 3) booking ≡ codes "503 {\"error\":\"disk\"}") × (line_said plain hosts (booked 3) booking ≡ codes "accepted 00010000-0000-8001-8000-000000010000")
 unfolding digits uuid_on_literals escape_byte length_text_of record_length snapshot_length
 third = (refl, refl)

@@ -7,7 +7,7 @@ use ps_time::memory::Memory;
 use std::alloc::Global;
 use std::test::Fail;
 
-// examples/usual-limits.json
+// examples/limits/usual-limits.json
 static USUAL: &str =
     r#"{"identifiers":[{"name":"everybody","type":"always","data":{}},{"name":"local","type":"ip-cidr-list","data":{"cidrs":["127.0.0.0/8","::1/128"]}},{"name":"friends","type":"ip-cidr-list","data":{"cidrs":["10.1.0.0/16","192.0.2.0/24"]}},{"name":"hostile","type":"ip-cidr-list","data":{"cidrs":["198.51.100.0/24"]}}],"classifiers":[{"name":"hostiles","identifiers":["hostile"]},{"name":"locals","identifiers":["local"]},{"name":"friends","identifiers":["friends"]},{"name":"default","identifiers":["everybody"]}],"limits":[{"name":"always","type":"pass-fail","data":{"pass":true}},{"name":"never","type":"pass-fail","data":{"pass":false}},{"name":"innocuous","type":"test-type","data":{"types":["idle","idlebgm"]}},{"name":"idle-short","type":"test","data":{"test":"idle","limit":{"duration":{"range":{"lower":"PT1S","upper":"PT10M"}}}}}],"applications":[{"classifier":"hostiles","apply":[{"require":"all","limits":["never"]}],"stop-on-failure":true},{"classifier":"locals","apply":[{"require":"all","limits":["always"]}]},{"classifier":"friends","apply":[{"require":"any","limits":["innocuous"]}]},{"classifier":"default","apply":[{"require":"any","limits":["idle-short"]}]}],"priorities":{"default":0,"classifiers":[{"classifier":"locals","ceiling":100}]}}"#;
 
