@@ -11,8 +11,8 @@ use std::alloc::{AllocError, Global};
 use std::io;
 use std::io::ErrorKind;
 
-/// The first disk of a new pair: the magic, an open gate byte, the generation 1, an empty snapshot, a closed gate
-/// byte.
+/// The first disk of a new pair: the magic, an open gate byte, the generation 1, an empty snapshot,
+/// a closed gate byte.
 pub const FRESH_FIRST: [u8; 22] = *b"PSCHJRN1\x01\0\0\0\0\0\0\0\x01\0\0\0\0\0";
 
 /// The second: the magic and a closed gate byte.
