@@ -2,7 +2,7 @@
 //! prints how often it was. The status is 2 for other words, and 1 without memory.
 #![tactic(auto)]
 
-use api_input::understand::read_input;
+use api_input::understand::understand;
 use host_model::config::Config;
 use limit_apply::limits::Limits;
 use ps_http::message::Request;
@@ -101,7 +101,7 @@ fn a_host(alloc: Global) -> Result<Config, Memory> {
 }
 
 fn is_understood(alloc: Global, config: &Config, request: &Request) -> bool {
-    read_input(alloc, config, request, "10.0.0.9", 1000).is_ok()
+    understand(alloc, config, request, "10.0.0.9", 1000).is_ok()
 }
 
 fn count_understood(alloc: Global, config: &Config, request: &Request, count: u32) -> u64 {

@@ -297,7 +297,7 @@ fn read_at(
 
 /// What a request from this address asks of the host with this configuration at this moment, in seconds since 1970
 /// UTC; or why it is refused, by the first of the tests of path, method, peer key, query and body that it fails.
-pub fn read_input(
+pub fn understand(
     alloc: Global,
     config: &Config,
     request: &Request,

@@ -20,7 +20,7 @@ use crate::bounds_law::law_request;
 use crate::read::{MOST_BODY, read_request};
 use crate::request::{find_named, order_request};
 use api_input::refusal::Refusal;
-use api_input::understand::read_input;
+use api_input::understand::understand;
 use host_model::config::{Config, Peer};
 use host_model::input::Input;
 use host_model::order::{Order, OrderBody};
@@ -161,7 +161,7 @@ pub fn send_order(
 }
 
 // Where the request is an order of a host that is known here, only memory may run out.
-fn understand(
+fn understand_order(
     alloc: Global,
     config: &Config,
     request: &Request,
@@ -170,7 +170,7 @@ fn understand(
     requires { clock ≤ MAX_MOMENT }
     ensures { (i : Asked) → ((address : List ℕ) (m : ℕ) → understood config.now request.now address m ≡ Ok i) → GivesUnless Refusal.Memory result (Ok i) }
 {
-    read_input(alloc, config, request, "127.0.0.1", clock)
+    understand(alloc, config, request, "127.0.0.1", clock)
 }
 
 /// What the bytes of an order ask the host with this configuration at a clock, in seconds since 1970 UTC.
@@ -189,7 +189,7 @@ pub fn receive_order(
     let Ok(request) = read_request(alloc, fields, bytes) else {
         return Err(Memory);
     };
-    let asked = understand(alloc, config, &request, clock);
+    let asked = understand_order(alloc, config, &request, clock);
     drop(request);
     match asked {
         Ok(input) => Ok(input),

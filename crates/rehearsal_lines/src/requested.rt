@@ -11,7 +11,7 @@ ghost use Rattle.rehearsal_model.specs.Requests.{asks, delete, get, is_target, i
 
 use api_body::bodies::MOST_BODY;
 use api_input::refusal::Refusal;
-use api_input::understand::read_input;
+use api_input::understand::understand;
 use api_reply::refusal::refuse;
 use api_reply::respond::body_bytes;
 use api_reply::shown::write_error;
@@ -187,7 +187,7 @@ fn understand(
     ensures value { IfOk result (λ asked. asked ≡ or_refused (understood config.now request.now address.now clock)) }
     ensures input { IfOk result (λ asked. IfOk asked (IsInput config.now)) }
 {
-    match read_input(alloc, config, request, address, clock) {
+    match understand(alloc, config, request, address, clock) {
         Ok(input) => Ok(Ok(input)),
         Err(Refusal::Memory) => Err(Memory),
         Err(refusal) => {

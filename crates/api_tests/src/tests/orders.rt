@@ -5,7 +5,7 @@ use crate::tests::given::a_host;
 use crate::tests::orders_given::an_order;
 use api_answer::heard::heard;
 use api_input::refusal::Refusal;
-use api_input::understand::read_input;
+use api_input::understand::understand;
 use api_peer::request::order_request;
 use host_model::config::Config;
 use host_model::input::Input;
@@ -36,7 +36,7 @@ fn is_input(read: Result<Input, Refusal>) -> bool {
 // Whether the other host takes the request.
 fn is_taken(alloc: Global, other: &Config, request: Option<Request>) -> bool {
     match request {
-        Some(request) => is_input(read_input(alloc, other, &request, "10.0.0.9", 1000)),
+        Some(request) => is_input(understand(alloc, other, &request, "10.0.0.9", 1000)),
         None => false,
     }
 }

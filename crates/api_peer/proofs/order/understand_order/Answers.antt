@@ -4,8 +4,8 @@ use Rattle.ps_json.specs.Answer.{GivesUnless}
 use Rattle.host_model.specs.declared.input.Input.{Input}
 use Rattle.api_input.specs.declared.refusal.Refusal.{Refusal}
 use Rattle.api_input.specs.declared.refusal.Refusal.TheVariants.{Memory}
-use Rattle.api_peer.proofs.order.understand.Goals as goal
+use Rattle.api_peer.proofs.order.understand_order.Goals as goal
 
 pub returns : goal.returns
 returns c = λ i means.
-    subst (λ (want : Result Input Refusal). GivesUnless Memory c.read_input.result want) (means (codes "127.0.0.1") c.args.clock) c.read_input.ensures.value
+    subst (λ (want : Result Input Refusal). GivesUnless Memory c.understand.result want) (means (codes "127.0.0.1") c.args.clock) c.understand.ensures.value
