@@ -173,10 +173,10 @@ fn read_request(
         return Ok(Err(refusal(alloc, 413, "too large")?));
     }
     let request = request_to(alloc, method, target, body)?;
-    understand(alloc, config, &request, address, clock)
+    asked(alloc, config, &request, address, clock)
 }
 
-fn understand(
+fn asked(
     alloc: Global,
     config: &Config,
     request: &Request,
