@@ -1,4 +1,10 @@
--- What the lead makes of a run once every other participant has told when it is free.
+-- What the lead makes of a run once every other participant has told when it is free. The entry is `plan_run`, the last one
+-- here. Its steps, in their order:
+-- 1. `is_answered`: only a row all of whose answers are heard is planned;
+-- 2. `own_answer` and `wanted_tools`: the lead's own answer, and the tools that the task names;
+-- 3. `plan`: the tool that all have (`planned_with`), and then the start (`common_start`, `planned_at`);
+-- 4. `change_of_plan`: without a tool or a start the row is closed; with both it is accepted, unless `objection`, of
+--    `Fits`, speaks against it (`unless_objected`).
 use Rattle.std.specs.List.{list_all}
 use Rattle.std.specs.Prelude.{◌&&◌, ◌+◌, ◌∷◌, Bool, List, None, Option, Some, [], filter_map, if◌then◌else◌, is_some, map, max, not, ℕ}
 use Rattle.ps_time.specs.Span.{Range}
