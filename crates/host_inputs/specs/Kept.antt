@@ -11,7 +11,7 @@ use Rattle.host_model.specs.declared.task_row.TaskRow.{TaskRow}
 use Rattle.part_core.specs.Seen.{Seen}
 
 -- a book without its rows and its moment
-pub record Kept : Type 0 where
+pub record BesideRows : Type 0 where
   -- the limits that were set, numbered from 1
   pub epochs : List Limits
   -- for each accepted run the number of its epoch
@@ -20,7 +20,7 @@ pub record Kept : Type 0 where
   pub tasks : List TaskRow
 
 -- the book of a host that keeps this beside its rows
-abbrev pub book_of : ℕ → List RunRow → Kept → Book
+abbrev pub book_of : ℕ → List RunRow → BesideRows → Book
 book_of m rows kept = record { moment = m; epochs = kept.epochs; pairs = kept.pairs; tasks = kept.tasks; rows = rows }
 
 -- the archive is tried again within bounds
@@ -35,7 +35,7 @@ HasPolicies t = All HasPolicy t.task.archives
 pub record WholeBook : Type 0 where
   -- its rows at the moment, and the limits in force
   pub seen : Seen
-  pub kept : Kept
+  pub kept : BesideRows
 
 -- these are the rows that are seen, and the tasks are within bounds
 pub record IsWhole (seen : Seen) (list : List RunRow) (tasks : List TaskRow) : Type 0 where

@@ -39,13 +39,13 @@ abbrev pub answers_of : RunRow → List FreeAnswer
 answers_of r = filter_map (λ o. o.free) r.others
 
 -- the starts of a window from 5 s after m on; none where that is past its last
-abbrev pub from_now : ℕ → Range → Range
-from_now m w = record { first = max w.first (m + plan_lead); last = w.last }
+abbrev pub startable_window : ℕ → Range → Range
+startable_window m w = record { first = max w.first (m + plan_lead); last = w.last }
 
 -- the least start that all have in common
 abbrev pub common_start : ℕ → Option Range → List FreeAnswer → Option Choice
 common_start m None answers = None
-common_start m (Some w) answers = earliest (from_now m w) (map (λ a. a.tiers) answers)
+common_start m (Some w) answers = earliest (startable_window m w) (map (λ a. a.tiers) answers)
 
 -- with the start that was found, if there is one
 abbrev pub planned_at : Option Choice → Tool → Planned
