@@ -6,7 +6,7 @@ use Rattle.ps_time.specs.Key.{key_cmp}
 use Rattle.ps_time.specs.Numbers.{keeping}
 use Rattle.ps_time.specs.declared.key.RunKey.{RunKey}
 use Rattle.limit_apply.specs.Limits.{Config as Limits}
-use Rattle.run_states.specs.Life.{first}
+use Rattle.run_states.specs.Life.{first_there}
 use Rattle.run_states.specs.Purging.{rest_of}
 use Rattle.run_states.specs.Rows.{find_row}
 use Rattle.run_states.specs.declared.row.RunRow.{RunRow}
@@ -53,10 +53,10 @@ find_append p (x ∷ xs) ys a e = go (p x) e (find_append p xs ys a)
     go false e ih = ih e
 
 pub closed_serial : (m serial : ℕ) (t : TaskRow) → (close_task m serial t).serial ≡ t.serial
-closed_serial m serial t = elim (t.serial == serial) as (λ b. (cond b (record t { closed = first t.closed (Some m) }) t).serial ≡ t.serial) [ true ↦ refl | false ↦ refl ]
+closed_serial m serial t = elim (t.serial == serial) as (λ b. (cond b (record t { closed = first_there t.closed (Some m) }) t).serial ≡ t.serial) [ true ↦ refl | false ↦ refl ]
 
 closed_task : (m serial : ℕ) (t : TaskRow) → TaskEvolves t (close_task m serial t)
-closed_task m serial t = elim (t.serial == serial) as (λ b. TaskEvolves t (cond b (record t { closed = first t.closed (Some m) }) t)) [
+closed_task m serial t = elim (t.serial == serial) as (λ b. TaskEvolves t (cond b (record t { closed = first_there t.closed (Some m) }) t)) [
   | true ↦ record { serial = refl; task = refl; asker = refl; posted = refl; closed = first_keeps t.closed (Some m) }
   | false ↦ TaskEvolves-refl t
 ]

@@ -3,7 +3,7 @@ use Rattle.std.proofs.Common.{◌≡◌, ◌≤◌, ℕ, List, Option, Some, Non
 use Rattle.archive_retry.specs.declared.state.ArchiveState.{ArchiveState}
 use Rattle.run_states.specs.declared.answer.Other.{Other}
 use Rattle.run_states.specs.declared.row.RunRow.{RunRow}
-use Rattle.run_states.specs.Life.{first}
+use Rattle.run_states.specs.Life.{first_there}
 use Rattle.run_states.specs.Purging.{later_of, rest_of}
 use Rattle.host_model.specs.Grown.{Remains, AllEvolve, OtherEvolves, ArchiveEvolves, Evolves}
 
@@ -13,7 +13,7 @@ Remains-refl o a e = e
 pub Remains-trans : {A : Type 0} (o p q : Option A) → Remains o p → Remains p q → Remains o q
 Remains-trans o p q f g a e = g a (f a e)
 
-pub first_keeps : {A : Type 0} (o p : Option A) → Remains o (first o p)
+pub first_keeps : {A : Type 0} (o p : Option A) → Remains o (first_there o p)
 first_keeps None p a e = cc
 first_keeps (Some b) p a e = e
 

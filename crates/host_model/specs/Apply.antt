@@ -30,7 +30,7 @@ use Rattle.ps_time.specs.Key.{key_cmp}
 use Rattle.ps_time.specs.Sorted.{insert_key, without_key}
 use Rattle.ps_time.specs.declared.key.RunKey.{RunKey}
 use Rattle.limit_apply.specs.Limits.{Config as Limits}
-use Rattle.run_states.specs.Life.{first, settled_rows}
+use Rattle.run_states.specs.Life.{first_there, settled_rows}
 use Rattle.run_states.specs.Rows.{find_row, lift_row, put_row}
 use Rattle.run_states.specs.declared.row.RunRow.{RunRow}
 use Rattle.run_states.specs.Preemption.{give_way}
@@ -86,7 +86,7 @@ pairs_after c pairs = without_pair (purged_key c) (put_pair (new_pair c) pairs)
 
 -- ---- the tasks and the epochs: nothing of them goes
 abbrev pub close_task : ℕ → ℕ → TaskRow → TaskRow
-close_task m serial t = if t.serial == serial then record t { closed = first t.closed (Some m) } else t
+close_task m serial t = if t.serial == serial then record t { closed = first_there t.closed (Some m) } else t
 
 -- a posted task is the last one; a closed one keeps the moment at which it was closed first
 abbrev pub tasks_after : ℕ → Change → List TaskRow → List TaskRow

@@ -20,7 +20,7 @@ use Rattle.plugin_core.specs.Kind.{test_kind}
 use Rattle.plugin_core.specs.Participants.{is_named, participants}
 use Rattle.plugin_core.specs.TestSpec.{test_class, test_length}
 use Rattle.limit_apply.specs.Limits.{Config as Limits, permits_of}
-use Rattle.run_states.specs.Life.{first}
+use Rattle.run_states.specs.Life.{first_there}
 use Rattle.run_states.specs.declared.proposal.Proposal.{Proposal}
 use Rattle.run_states.specs.declared.row.RunRow.{RunRow}
 use Rattle.run_states.specs.declared.why.Denial.{Denial}
@@ -79,22 +79,22 @@ conflict_denial (Some r) = Some (Conflict r.key)
 -- Without one the limits permit the run: see `unobjected_granted` of `proofs/FitLemmas`.
 abbrev pub objection : List (List ℕ) → Limits → List RunRow → ℕ → Proposal → Option Denial
 objection installed l rows m p =
-    first (unless (has_tool installed p) (NoTool p.tool)) (
-    first (unless (nat_le m p.start) (Past m p.start)) (
-    first (limits_denial (verdict_of l p)) (
+    first_there (unless (has_tool installed p) (NoTool p.tool)) (
+    first_there (unless (nat_le m p.start) (Past m p.start)) (
+    first_there (limits_denial (verdict_of l p)) (
     conflict_denial (firm_conflict p.key (test_class p.test) (wanted_span p) p.priority m rows))))
 
 -- there is no place for more rows, or they keep as many bytes of results as a book takes
 abbrev pub full_denial : List RunRow → ℕ → Option Denial
 full_denial rows bytes =
-    first (unless (nat_lt (length rows) most_rows) (Full Runs (length rows))) (unless (nat_lt bytes most_kept_bytes) (Full Results bytes))
+    first_there (unless (nat_lt (length rows) most_rows) (Full Runs (length rows))) (unless (nat_lt bytes most_kept_bytes) (Full Results bytes))
 
 -- the first reason that speaks against it at m; None where it fits
 -- It is None exactly where `Fits` of `Fitting` holds: see `fits_exactly` of `proofs/FitLemmas`.
 abbrev pub denial_of : Place → List RunRow → ℕ → Proposal → Option Denial
 denial_of place rows m p =
-    first (unless (is_named place.name (participants p.test place.lead)) NotParticipant) (
-    first (objection place.installed place.limits rows m p) (full_denial rows place.bytes))
+    first_there (unless (is_named place.name (participants p.test place.lead)) NotParticipant) (
+    first_there (objection place.installed place.limits rows m p) (full_denial rows place.bytes))
 
 -- nothing speaks against it
 -- In words of rows it is `Fits` of `Fitting`: see `fits_decided` of `proofs/FitLemmas`.

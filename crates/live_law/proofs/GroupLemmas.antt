@@ -7,7 +7,7 @@ use Rattle.std.proofs.lemmas.List.Elements.{recursion_from_All}
 use Rattle.ps_time.specs.Span.{Range}
 use Rattle.ps_time.specs.declared.key.RunKey.{RunKey}
 use Rattle.run_states.specs.Conflict.{in_conflict}
-use Rattle.run_states.specs.Life.{close_row, first, settled_row, settled_rows}
+use Rattle.run_states.specs.Life.{close_row, first_there, settled_row, settled_rows}
 use Rattle.run_states.specs.Preemption.{Incoming, give_way}
 use Rattle.run_states.specs.Purging.{is_long_past, keeping, later_of, rest_of}
 use Rattle.run_states.specs.Rows.{IsAscendingRows, find_row}
@@ -52,11 +52,11 @@ record StaysIdle (self m : ℕ) (s r : RunRow) : Type 0 where
 
 -- once it is closed at the moment it is idle, and not long past
 module _ (self m : ℕ) (s r : RunRow) (kept : StaysIdle self m s r) (c : Closing) (at : c.moment ≡ m) (open_row : is_some r.closed ≡ false) where
-  closing_is : (o : Option Closing) → is_some o ≡ false → first o (Some c) ≡ Some c
+  closing_is : (o : Option Closing) → is_some o ≡ false → first_there o (Some c) ≡ Some c
   closing_is None e = refl
   closing_is (Some x) e = cc
 
-  closed : first r.closed (Some c) ≡ Some c
+  closed : first_there r.closed (Some c) ≡ Some c
   closed = closing_is r.closed open_row
 
   abbrev gone : RunRow

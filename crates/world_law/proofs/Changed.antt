@@ -7,7 +7,7 @@ use Rattle.ps_time.specs.Span.{Range, Span, span_of}
 use Rattle.ps_time.specs.declared.key.RunKey.{RunKey}
 use Rattle.ps_time.proofs.PictureLemmas.{and_true}
 use Rattle.run_states.specs.Effect.{accept_row, change_other, confirmed_if, is_alone, is_complete, with_acceptance, with_free, with_result, with_told}
-use Rattle.run_states.specs.Life.{first, is_booked}
+use Rattle.run_states.specs.Life.{first_there, is_booked}
 use Rattle.run_states.specs.LawfulRow.{HasOrigin, Reserves}
 use Rattle.run_states.specs.Life.{confirm_row, end_row}
 use Rattle.run_states.specs.declared.answer.Other.{Other}
@@ -253,7 +253,7 @@ module _ (names : ℕ → List ℕ) (self m : ℕ) (i : Input) (c : Config) (d :
       timed = λ y. inl (subst (λ o. IsSome o) like.accepted y);
     }
       where
-        ends : (o : Option Ending) → w.ended ≡ o → (y : Ending) → first o (Some x) ≡ Some y → (q.ended ≡ Some y) ⊎ (length y.body ≤ most_result_bytes)
+        ends : (o : Option Ending) → w.ended ≡ o → (y : Ending) → first_there o (Some x) ≡ Some y → (q.ended ≡ Some y) ⊎ (length y.body ≤ most_result_bytes)
         ends None f y h = let same : x ≡ y = cc in inr (subst (λ z. length z.body ≤ most_result_bytes) same bound)
         ends (Some z) f y h = inl (sym like.ended ∙ f ∙ h)
 
@@ -305,7 +305,7 @@ module _ (names : ℕ → List ℕ) (self m : ℕ) (i : Input) (c : Config) (d :
       span_same = ap (λ t. span_of start (test_length t)) like.test
 
       at_span : made.interval ≡ Some (planned_span start q)
-      at_span = ap (λ o. first o (Some (planned_span start w))) (like.interval ∙ unreserved self a.tasks a.moment q row_is none) ∙ ap Some span_same
+      at_span = ap (λ o. first_there o (Some (planned_span start w))) (like.interval ∙ unreserved self a.tasks a.moment q row_is none) ∙ ap Some span_same
 
       cause : (r : RunRow) → r.interval ≡ made.interval → r.asker ≡ w.asker → r.test ≡ w.test → r.priority ≡ w.priority → AcceptCause c d r
       cause r same asker test priority = (
