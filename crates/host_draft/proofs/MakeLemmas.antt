@@ -5,7 +5,7 @@ use Rattle.std.specs.Prelude.{IsSome}
 use Rattle.std.specs.Ordering.{is_eq}
 use Rattle.ps_time.specs.Key.{key_cmp}
 use Rattle.ps_time.specs.declared.key.RunKey.{RunKey}
-use Rattle.limit_apply.specs.Limits.{Config as Limits}
+use Rattle.limit_apply.specs.Limits.{LimitsConfig as Limits}
 use Rattle.run_states.specs.Life.{first_there}
 use Rattle.run_states.specs.ResultBytes.{result_bytes, row_bytes}
 use Rattle.run_states.specs.Rows.{change_row, find_row, lift_row, put_row}

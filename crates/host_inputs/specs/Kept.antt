@@ -3,7 +3,7 @@ use Rattle.std.specs.Prelude.{◌≡◌, ◌≤◌, All, List, length, ℕ}
 use Rattle.ps_time.specs.Numbers.{most_tasks}
 use Rattle.ps_time.specs.declared.key.RunKey.{RunKey}
 use Rattle.archive_retry.specs.Bounds.{IsPolicy}
-use Rattle.limit_apply.specs.Limits.{Config as Limits}
+use Rattle.limit_apply.specs.Limits.{LimitsConfig as Limits}
 use Rattle.run_states.specs.declared.row.RunRow.{RunRow}
 use Rattle.task_spec.specs.declared.task.Archive.{Archive}
 use Rattle.host_model.specs.Book.{Book}

@@ -5,7 +5,7 @@ use Rattle.std.proofs.Common.{◌≡◌, ◌≤◌, ◌<◌, ◌+◌, ℕ, zero,
 use Rattle.ps_time.specs.Key.{key_cmp}
 use Rattle.ps_time.specs.Numbers.{keeping}
 use Rattle.ps_time.specs.declared.key.RunKey.{RunKey}
-use Rattle.limit_apply.specs.Limits.{Config as Limits}
+use Rattle.limit_apply.specs.Limits.{LimitsConfig as Limits}
 use Rattle.run_states.specs.Life.{first_there}
 use Rattle.run_states.specs.Purging.{rest_of}
 use Rattle.run_states.specs.Rows.{find_row}

@@ -5,7 +5,7 @@ use Rattle.std.proofs.Common.{◌≡◌, ◌≤◌, ◌<◌, ◌+◌, ℕ, zero,
 use Rattle.std.proofs.lemmas.List.{length-map}
 use Rattle.std.proofs.lemmas.List.Elements.{All-map, All-push, All-weaker}
 use Rattle.ps_time.specs.Numbers.{most_tasks}
-use Rattle.limit_apply.specs.Limits.{Config as Limits}
+use Rattle.limit_apply.specs.Limits.{LimitsConfig as Limits}
 use Rattle.limit_apply.specs.Read.{IsKept}
 use Rattle.run_states.specs.Life.{first_there}
 use Rattle.run_states.specs.LawfulRow.{IsUpTo}

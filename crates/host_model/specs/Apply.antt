@@ -29,7 +29,7 @@ use Rattle.std.specs.Prelude.{◌++◌, ◌==◌, ◌∷◌, List, None, Option,
 use Rattle.ps_time.specs.Key.{key_cmp}
 use Rattle.ps_time.specs.Sorted.{insert_key, without_key}
 use Rattle.ps_time.specs.declared.key.RunKey.{RunKey}
-use Rattle.limit_apply.specs.Limits.{Config as Limits}
+use Rattle.limit_apply.specs.Limits.{LimitsConfig as Limits}
 use Rattle.run_states.specs.Life.{first_there, settled_rows}
 use Rattle.run_states.specs.Rows.{find_row, lift_row, put_row}
 use Rattle.run_states.specs.declared.row.RunRow.{RunRow}

@@ -19,7 +19,7 @@ use Rattle.plugin_tool.specs.Choice.{is_tool_for}
 use Rattle.plugin_core.specs.Kind.{test_kind}
 use Rattle.plugin_core.specs.Participants.{is_named, participants}
 use Rattle.plugin_core.specs.TestSpec.{test_class, test_length}
-use Rattle.limit_apply.specs.Limits.{Config as Limits, permits_of}
+use Rattle.limit_apply.specs.Limits.{LimitsConfig as Limits, permits_of}
 use Rattle.run_states.specs.Life.{first_there}
 use Rattle.run_states.specs.declared.proposal.Proposal.{Proposal}
 use Rattle.run_states.specs.declared.row.RunRow.{RunRow}

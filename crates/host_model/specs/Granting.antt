@@ -6,7 +6,7 @@ use Rattle.ps_time.specs.declared.asker.Verdict.TheVariants.{Permitted}
 use Rattle.ps_time.specs.declared.key.RunKey.{RunKey}
 use Rattle.plugin_core.specs.declared.test_spec.TestSpec.{TestSpec}
 use Rattle.limit_apply.specs.Application.{passes}
-use Rattle.limit_apply.specs.Limits.{Config as Limits, ceiling_of, holds_at, permits_of}
+use Rattle.limit_apply.specs.Limits.{LimitsConfig as Limits, ceiling_of, holds_at, permits_of}
 use Rattle.limit_apply.specs.declared.application.Application.{Application}
 use Rattle.run_states.specs.Preemption.{planned_span}
 use Rattle.run_states.specs.Rows.{find_row}

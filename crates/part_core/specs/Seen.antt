@@ -5,7 +5,7 @@ use Rattle.ps_time.specs.declared.class.Class.{Class}
 use Rattle.ps_time.specs.declared.key.RunKey.{RunKey}
 use Rattle.ps_time.specs.declared.moment.TheConstants.{MAX_MOMENT}
 use Rattle.plugin_core.specs.TestSpec.{test_class}
-use Rattle.limit_apply.specs.Limits.{Config as Limits}
+use Rattle.limit_apply.specs.Limits.{LimitsConfig as Limits}
 use Rattle.run_states.specs.Content.{kept_proposal, same_content}
 use Rattle.run_states.specs.Life.{HasMoments, first_there, is_booked}
 use Rattle.run_states.specs.Preemption.{conflicts, firm_conflict}
