@@ -6,7 +6,7 @@ use Rattle.std.specs.Result.{result_ok}
 use Rattle.ps_time.specs.Moment.{moment_of}
 use Rattle.ps_time.specs.Span.{Span}
 use Rattle.ps_time.specs.declared.moment.Round.TheVariants.{Up}
-use Rattle.run_states.specs.Life.{first}
+use Rattle.run_states.specs.Life.{first_there}
 use Rattle.api_input.specs.Routes.{is_empty}
 
 -- how much is shown where no end is given, in seconds
@@ -42,7 +42,7 @@ from_to _ _ = None
 
 -- by the parts between ampersands
 abbrev pub window_by : ℕ → List (List ℕ) → Option Span
-window_by now (a ∷ []) = first (from_start (moment_in (codes "start") a)) (to_end now (moment_in (codes "end") a))
+window_by now (a ∷ []) = first_there (from_start (moment_in (codes "start") a)) (to_end now (moment_in (codes "end") a))
 window_by now (a ∷ b ∷ []) = from_to (moment_in (codes "start") a) (moment_in (codes "end") b)
 window_by now _ = None
 

@@ -9,7 +9,7 @@ use Rattle.ps_time.specs.declared.key.RunKey.{RunKey}
 use Rattle.plugin_core.specs.Participants.{is_named, participants}
 use Rattle.run_states.specs.Content.{kept_proposal, same_content}
 use Rattle.run_states.specs.LawfulRow.{IsDenial}
-use Rattle.run_states.specs.Life.{closed_state, first, is_active}
+use Rattle.run_states.specs.Life.{closed_state, first_there, is_active}
 use Rattle.run_states.specs.Rows.{find_row}
 use Rattle.run_states.specs.declared.answer.FreeAnswer.{FreeAnswer}
 use Rattle.run_states.specs.declared.proposal.Proposal.{Proposal}
@@ -95,7 +95,7 @@ denial_told lead (denial.Closed s) is alike widths objects = tt
 denial_told lead denial.NotParticipant is alike widths objects = tt
 denial_told lead (denial.NoTool tool) is alike widths objects = tt
 
-first_in : (o p : Option Denial) → IfSome o Objects → IfSome p Objects → IfSome (first o p) Objects
+first_in : (o p : Option Denial) → IfSome o Objects → IfSome p Objects → IfSome (first_there o p) Objects
 first_in None p one other = other
 first_in (Some d) p one other = one
 

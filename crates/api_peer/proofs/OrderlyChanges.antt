@@ -7,7 +7,7 @@ use Rattle.ps_time.specs.Key.{key_cmp}
 use Rattle.ps_time.specs.declared.key.RunKey.{RunKey}
 use Rattle.run_states.specs.Conflict.{in_conflict}
 use Rattle.run_states.specs.Effect.{accept_row, change_other, confirmed_if, with_acceptance, with_free, with_result, with_told}
-use Rattle.run_states.specs.Life.{close_row, closed_by, first, lapse_of, settled_row, settled_rows}
+use Rattle.run_states.specs.Life.{close_row, closed_by, first_there, lapse_of, settled_row, settled_rows}
 use Rattle.run_states.specs.Preemption.{Incoming, give_way, planned_span}
 use Rattle.run_states.specs.Rows.{find_row, put_row}
 use Rattle.run_states.specs.declared.answer.Other.{Other}
@@ -132,7 +132,7 @@ module _ (name : List ℕ) where
   IsOwnTask t = IsAskedHere name t.asker
 
   closed_task : (m serial : ℕ) (t : TaskRow) → IsOwnTask t → IsOwnTask (close_task m serial t)
-  closed_task m serial t own = elim (t.serial == serial) as (λ b. IsOwnTask (cond b (record t { closed = first t.closed (Some m) }) t)) [ true ↦ own | false ↦ own ]
+  closed_task m serial t own = elim (t.serial == serial) as (λ b. IsOwnTask (cond b (record t { closed = first_there t.closed (Some m) }) t)) [ true ↦ own | false ↦ own ]
 
   tasks_orderly : (m : ℕ) (c : Change) (tasks : List TaskRow) → BringsOrderly name c → All IsOwnTask tasks → All IsOwnTask (tasks_after m c tasks)
   tasks_orderly m (Posted t) tasks brings all = All-push IsOwnTask tasks t all brings

@@ -13,7 +13,7 @@ use Rattle.archive_retry.specs.declared.state.ArchiveState.{ArchiveState}
 use Rattle.plugin_core.specs.Kind.{kind_class, kind_of_text}
 use Rattle.plugin_core.specs.Participants.{is_named, participants}
 use Rattle.plugin_core.specs.declared.kind.TestKind.{TestKind}
-use Rattle.limit_apply.specs.Limits.{Config as Limits, admits_of}
+use Rattle.limit_apply.specs.Limits.{LimitsConfig as Limits, admits_of}
 use Rattle.run_states.specs.LawfulRow.{HasArchives, IsDenial, IsProposal}
 use Rattle.run_states.specs.Life.{is_active}
 use Rattle.run_states.specs.Rows.{find_row}

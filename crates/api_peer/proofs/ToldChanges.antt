@@ -7,7 +7,7 @@ use Rattle.ps_time.specs.Key.{key_cmp}
 use Rattle.ps_time.specs.declared.key.RunKey.{RunKey}
 use Rattle.run_states.specs.Conflict.{in_conflict}
 use Rattle.run_states.specs.Effect.{change_other, confirmed_if, with_acceptance, with_free, with_result, with_told}
-use Rattle.run_states.specs.Life.{closed_by, first, lapse_of, settled_row, settled_rows}
+use Rattle.run_states.specs.Life.{closed_by, first_there, lapse_of, settled_row, settled_rows}
 use Rattle.run_states.specs.Preemption.{Incoming, give_way}
 use Rattle.run_states.specs.Rows.{find_row, put_row}
 use Rattle.run_states.specs.declared.answer.Other.{Other}
@@ -52,7 +52,7 @@ other_told : (f : Other → Other) (place : ℕ) (r : RunRow) → IsTold r → I
 other_told f zero r is = is
 other_told f (suc i) r is = is
 
-ended_told : (x : Ending) (o : Option Ending) → IsResultTold x.body → IfSome o (λ e. IsResultTold e.body) → IfSome (first o (Some x)) (λ e. IsResultTold e.body)
+ended_told : (x : Ending) (o : Option Ending) → IsResultTold x.body → IfSome o (λ e. IsResultTold e.body) → IfSome (first_there o (Some x)) (λ e. IsResultTold e.body)
 ended_told x None brings is = brings
 ended_told x (Some y) brings is = is
 

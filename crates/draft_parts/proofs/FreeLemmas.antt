@@ -17,7 +17,7 @@ use Rattle.ps_time.specs.declared.key.RunKey.{RunKey}
 use Rattle.plugin_core.specs.TestSpec.{test_class}
 use Rattle.run_states.specs.declared.row.RunRow.{RunRow}
 use Rattle.run_states.specs.Conflict.{blocks, clashes}
-use Rattle.run_states.specs.Life.{first, is_booked}
+use Rattle.run_states.specs.Life.{first_there, is_booked}
 use Rattle.run_states.specs.Preemption.{starts_after, yields}
 use Rattle.run_states.specs.Rows.{find_row, IsAscendingRows}
 use Rattle.host_timeline.specs.Booking.{can_preempt, conflicting, conflicts_with, firm_from_of}
@@ -291,7 +291,7 @@ module _ (now touched : List RunRow) (gone : List RunKey) (book : List RunRow) (
 
   touched_current : (rows : List RunRow) → AllByRecursion (λ r. find_row touched r.key ≡ Some r) rows → AllByRecursion Current (bookings_of rows)
   touched_current [] at = tt
-  touched_current (r ∷ rs) at = some_current r (booking_of r) (bookings_of rs) refl (own_key r) (found r.key ∙ ap (λ o. first o (cond (named r.key gone) None (find_row book r.key))) at.0) (touched_current rs at.1)
+  touched_current (r ∷ rs) at = some_current r (booking_of r) (bookings_of rs) refl (own_key r) (found r.key ∙ ap (λ o. first_there o (cond (named r.key gone) None (find_row book r.key))) at.0) (touched_current rs at.1)
 
   bare_found : (r : RunRow) → find_row book r.key ≡ Some r → hides touched gone r.key ≡ false → find_row now r.key ≡ Some r
   bare_found r at bare = go (find_row touched r.key) (named r.key gone) refl refl bare
@@ -299,7 +299,7 @@ module _ (now touched : List RunRow) (gone : List RunKey) (book : List RunRow) (
       go : (o : Option RunRow) (g : Bool) → find_row touched r.key ≡ o → named r.key gone ≡ g → (is_some o || g) ≡ false → find_row now r.key ≡ Some r
       go (Some x) g e f h = cc
       go None true e f h = cc
-      go None false e f h = found r.key ∙ (ap₂ (λ o t. first o (cond t None (find_row book r.key))) e f ∙ at)
+      go None false e f h = found r.key ∙ (ap₂ (λ o t. first_there o (cond t None (find_row book r.key))) e f ∙ at)
 
   bare_current : (rows : List RunRow) → AllByRecursion (λ r. find_row book r.key ≡ Some r) rows → AllByRecursion Current (bare_bookings touched gone (bookings_of rows))
   bare_current [] at = tt

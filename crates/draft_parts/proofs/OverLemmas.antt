@@ -8,7 +8,7 @@ use Rattle.ps_time.specs.declared.key.RunKey.{RunKey}
 use Rattle.ps_time.proofs.KeyLemmas.{key_cmp_total}
 use Rattle.run_states.specs.declared.row.RunRow.{RunRow}
 use Rattle.run_states.specs.declared.why.Closing.{Closing}
-use Rattle.run_states.specs.Life.{first, closed_by, lapse_of, settled_row}
+use Rattle.run_states.specs.Life.{first_there, closed_by, lapse_of, settled_row}
 use Rattle.run_states.specs.Rows.{find_row, put_row, lift_row, change_row}
 use Rattle.run_states.proofs.Place.{find_lifted, key_is}
 use Rattle.host_book.specs.Reservations.{lapses}
@@ -20,15 +20,15 @@ use Rattle.host_model.proofs.Standing.{find_row-map}
 use Rattle.draft_parts.specs.Overlay.{below, lapsed_copy, lapsed_over, named, over}
 
 -- ---- first ----
-pub first_none : {A : Type 0} (o : Option A) → first o None ≡ o
+pub first_none : {A : Type 0} (o : Option A) → first_there o None ≡ o
 first_none None = refl
 first_none (Some a) = refl
 
-first_assoc : {A : Type 0} (a b c : Option A) → first (first a b) c ≡ first a (first b c)
+first_assoc : {A : Type 0} (a b c : Option A) → first_there (first_there a b) c ≡ first_there a (first_there b c)
 first_assoc None b c = refl
 first_assoc (Some x) b c = refl
 
-first_twice : {A : Type 0} (a o : Option A) → first (first a o) o ≡ first a o
+first_twice : {A : Type 0} (a o : Option A) → first_there (first_there a o) o ≡ first_there a o
 first_twice (Some x) o = refl
 first_twice None None = refl
 first_twice None (Some x) = refl
@@ -46,19 +46,19 @@ eq_turned a b = ap is_eq (key_cmp_total.antisymm a b) ∙ reverse_eq (key_cmp b 
 pub find_row-put : (n : RunRow) (rows : List RunRow) (k : RunKey) → find_row rows n.key ≡ None → find_row (put_row rows n) k ≡ cond (is_eq (key_cmp n.key k)) (Some n) (find_row rows k)
 find_row-put n rows k e = Keyed.at-put (λ r. r.key) n rows k e
 
-pub found_new : (n : RunRow) (ts : List RunRow) (k : RunKey) → find_row (put_new (Some n) ts) k ≡ first (find_row ts k) (cond (is_eq (key_cmp n.key k)) (Some n) None)
+pub found_new : (n : RunRow) (ts : List RunRow) (k : RunKey) → find_row (put_new (Some n) ts) k ≡ first_there (find_row ts k) (cond (is_eq (key_cmp n.key k)) (Some n) None)
 found_new n ts k = at (is_eq (key_cmp n.key k)) refl (find_row ts n.key) refl
   where
     at : (b : Bool) → is_eq (key_cmp n.key k) ≡ b → (o : Option RunRow) → find_row ts n.key ≡ o
-        → find_row (cond (is_some o) ts (put_row ts n)) k ≡ first (find_row ts k) (cond b (Some n) None)
+        → find_row (cond (is_some o) ts (put_row ts n)) k ≡ first_there (find_row ts k) (cond b (Some n) None)
     at false e (Some x) h = sym (first_none (find_row ts k))
     at false e None h = find_row-put n ts k h ∙ (ap (λ b. cond b (Some n) (find_row ts k)) e ∙ sym (first_none (find_row ts k)))
     at true e (Some x) h =
         let there : find_row ts k ≡ Some x = subst (λ j. find_row ts j ≡ Some x) (key_is n.key k e) h in
-        there ∙ ap (λ o. first o (Some n)) (sym there)
+        there ∙ ap (λ o. first_there o (Some n)) (sym there)
     at true e None h =
         let gone : find_row ts k ≡ None = subst (λ j. find_row ts j ≡ None) (key_is n.key k e) h in
-        find_row-put n ts k h ∙ (ap (λ b. cond b (Some n) (find_row ts k)) e ∙ ap (λ o. first o (Some n)) (sym gone))
+        find_row-put n ts k h ∙ (ap (λ b. cond b (Some n) (find_row ts k)) e ∙ ap (λ o. first_there o (Some n)) (sym gone))
 
 pub none_there : (o : Option RunRow) → is_some o ≡ false → o ≡ None
 none_there None e = refl
@@ -82,20 +82,20 @@ same_either false x = refl
 
 module _ (under : RunKey → Option RunRow) (own : (k : RunKey) (r : RunRow) → under k ≡ Some r → r.key ≡ k) where
   -- a copy of the row of a key
-  pub new_at : (ts : List RunRow) (j k : RunKey) → find_row (put_new (under j) ts) k ≡ first (find_row ts k) (cond (is_eq (key_cmp j k)) (under j) None)
+  pub new_at : (ts : List RunRow) (j k : RunKey) → find_row (put_new (under j) ts) k ≡ first_there (find_row ts k) (cond (is_eq (key_cmp j k)) (under j) None)
   new_at ts j k = go (under j) refl
     where
-      go : (o : Option RunRow) → under j ≡ o → find_row (put_new o ts) k ≡ first (find_row ts k) (cond (is_eq (key_cmp j k)) o None)
-      go None e = sym (ap (first (find_row ts k)) (same_either (is_eq (key_cmp j k)) None) ∙ first_none (find_row ts k))
-      go (Some r) e = found_new r ts k ∙ ap (λ i. first (find_row ts k) (cond (is_eq (key_cmp i k)) (Some r) None)) (own j r e)
+      go : (o : Option RunRow) → under j ≡ o → find_row (put_new o ts) k ≡ first_there (find_row ts k) (cond (is_eq (key_cmp j k)) o None)
+      go None e = sym (ap (first_there (find_row ts k)) (same_either (is_eq (key_cmp j k)) None) ∙ first_none (find_row ts k))
+      go (Some r) e = found_new r ts k ∙ ap (λ i. first_there (find_row ts k) (cond (is_eq (key_cmp i k)) (Some r) None)) (own j r e)
 
   -- it changes nothing of what is found
-  pub found_touched : (ts : List RunRow) (j k : RunKey) → first (find_row (put_new (under j) ts) k) (under k) ≡ first (find_row ts k) (under k)
-  found_touched ts j k = ap (λ o. first o (under k)) (new_at ts j k) ∙ go (is_eq (key_cmp j k)) refl
+  pub found_touched : (ts : List RunRow) (j k : RunKey) → first_there (find_row (put_new (under j) ts) k) (under k) ≡ first_there (find_row ts k) (under k)
+  found_touched ts j k = ap (λ o. first_there o (under k)) (new_at ts j k) ∙ go (is_eq (key_cmp j k)) refl
     where
-      go : (b : Bool) → is_eq (key_cmp j k) ≡ b → first (first (find_row ts k) (cond b (under j) None)) (under k) ≡ first (find_row ts k) (under k)
-      go true e = ap (λ i. first (first (find_row ts k) (under i)) (under k)) (key_is j k e) ∙ first_twice (find_row ts k) (under k)
-      go false e = ap (λ o. first o (under k)) (first_none (find_row ts k))
+      go : (b : Bool) → is_eq (key_cmp j k) ≡ b → first_there (first_there (find_row ts k) (cond b (under j) None)) (under k) ≡ first_there (find_row ts k) (under k)
+      go true e = ap (λ i. first_there (first_there (find_row ts k) (under i)) (under k)) (key_is j k e) ∙ first_twice (find_row ts k) (under k)
+      go false e = ap (λ o. first_there o (under k)) (first_none (find_row ts k))
 
   -- ---- a change of one row ----
   module _ (f : RunRow → RunRow) (same : (r : RunRow) → (f r).key ≡ r.key) where
@@ -113,38 +113,38 @@ module _ (under : RunKey → Option RunRow) (own : (k : RunKey) (r : RunRow) →
         go (Some r) e = ap (λ i. Some (cond (is_eq (key_cmp i j)) (f r) r)) (find_row-key rows k r e)
 
     -- the row changes where it was touched
-    pub found_marked : (now ts : List RunRow) (j : RunKey) → ((k : RunKey) → find_row now k ≡ first (find_row ts k) (under k))
-        → (k : RunKey) → find_row (change_row f now j) k ≡ first (find_row (change_row f (put_new (under j) ts) j) k) (under k)
+    pub found_marked : (now ts : List RunRow) (j : RunKey) → ((k : RunKey) → find_row now k ≡ first_there (find_row ts k) (under k))
+        → (k : RunKey) → find_row (change_row f now j) k ≡ first_there (find_row (change_row f (put_new (under j) ts) j) k) (under k)
     found_marked now ts j found k =
         found_change now j k
         ∙ (ap (option_map (at_key j k)) (found k)
         ∙ (go (is_eq (key_cmp k j)) refl
-        ∙ sym (ap (λ o. first o (under k)) (found_change (put_new (under j) ts) j k ∙ ap (option_map (at_key j k)) (new_at ts j k)))))
+        ∙ sym (ap (λ o. first_there o (under k)) (found_change (put_new (under j) ts) j k ∙ ap (option_map (at_key j k)) (new_at ts j k)))))
       where
         other : (o : Option RunRow) → option_map (λ (r : RunRow). r) o ≡ o
         other None = refl
         other (Some r) = refl
 
-        changed : (a o : Option RunRow) → option_map f (first a o) ≡ first (option_map f (first a o)) o
+        changed : (a o : Option RunRow) → option_map f (first_there a o) ≡ first_there (option_map f (first_there a o)) o
         changed (Some r) o = refl
         changed None None = refl
         changed None (Some r) = refl
 
         go : (b : Bool) → is_eq (key_cmp k j) ≡ b
-            → option_map (at_key j k) (first (find_row ts k) (under k)) ≡ first (option_map (at_key j k) (first (find_row ts k) (cond (is_eq (key_cmp j k)) (under j) None))) (under k)
+            → option_map (at_key j k) (first_there (find_row ts k) (under k)) ≡ first_there (option_map (at_key j k) (first_there (find_row ts k) (cond (is_eq (key_cmp j k)) (under j) None))) (under k)
         go true e =
             let turn : is_eq (key_cmp j k) ≡ true = eq_turned j k ∙ e in
             let here : j ≡ k = sym (key_is k j e) in
-            ap (λ b. option_map (λ r. cond b (f r) r) (first (find_row ts k) (under k))) e
+            ap (λ b. option_map (λ r. cond b (f r) r) (first_there (find_row ts k) (under k))) e
             ∙ (changed (find_row ts k) (under k)
-            ∙ sym (ap₂ (λ b x. first (option_map (λ r. cond b (f r) r) (first (find_row ts k) (cond x (under j) None))) (under k)) e turn
-            ∙ ap (λ i. first (option_map f (first (find_row ts k) (under i))) (under k)) here))
+            ∙ sym (ap₂ (λ b x. first_there (option_map (λ r. cond b (f r) r) (first_there (find_row ts k) (cond x (under j) None))) (under k)) e turn
+            ∙ ap (λ i. first_there (option_map f (first_there (find_row ts k) (under i))) (under k)) here))
         go false e =
             let turn : is_eq (key_cmp j k) ≡ false = eq_turned j k ∙ e in
-            ap (λ b. option_map (λ r. cond b (f r) r) (first (find_row ts k) (under k))) e
-            ∙ (other (first (find_row ts k) (under k))
-            ∙ sym (ap₂ (λ b x. first (option_map (λ r. cond b (f r) r) (first (find_row ts k) (cond x (under j) None))) (under k)) e turn
-            ∙ (ap (λ o. first o (under k)) (other (first (find_row ts k) None)) ∙ ap (λ o. first o (under k)) (first_none (find_row ts k)))))
+            ap (λ b. option_map (λ r. cond b (f r) r) (first_there (find_row ts k) (under k))) e
+            ∙ (other (first_there (find_row ts k) (under k))
+            ∙ sym (ap₂ (λ b x. first_there (option_map (λ r. cond b (f r) r) (first_there (find_row ts k) (cond x (under j) None))) (under k)) e turn
+            ∙ (ap (λ o. first_there o (under k)) (other (first_there (find_row ts k) None)) ∙ ap (λ o. first_there o (under k)) (first_none (find_row ts k)))))
 
 -- ---- lapsed rows of some keys
 module _ (m : ℕ) (book : List RunRow) where
@@ -162,22 +162,22 @@ module _ (m : ℕ) (book : List RunRow) where
       go None at is = cc
       go (Some x) at is = one x at (lapses m x) is
 
-  one_of : (j k : RunKey) (n : Bool) (b : Bool) → is_eq (key_cmp j k) ≡ b → first (cond b (lapsed_at j) None) (cond n (lapsed_at k) None) ≡ cond (b || n) (lapsed_at k) None
+  one_of : (j k : RunKey) (n : Bool) (b : Bool) → is_eq (key_cmp j k) ≡ b → first_there (cond b (lapsed_at j) None) (cond n (lapsed_at k) None) ≡ cond (b || n) (lapsed_at k) None
   one_of j k n false e = refl
-  one_of j k n true e = ap (λ i. first (lapsed_at i) (cond n (lapsed_at k) None)) (key_is j k e) ∙ twice (lapsed_at k) n
+  one_of j k n true e = ap (λ i. first_there (lapsed_at i) (cond n (lapsed_at k) None)) (key_is j k e) ∙ twice (lapsed_at k) n
     where
-      twice : (o : Option RunRow) (n : Bool) → first o (cond n o None) ≡ o
+      twice : (o : Option RunRow) (n : Bool) → first_there o (cond n o None) ≡ o
       twice (Some r) n = refl
       twice None true = refl
       twice None false = refl
 
-  pub found_lapsed : (ks : List RunKey) (ts : List RunRow) (k : RunKey) → find_row (lapsed_over m book ks ts) k ≡ first (find_row ts k) (cond (named k ks) (lapsed_at k) None)
+  pub found_lapsed : (ks : List RunKey) (ts : List RunRow) (k : RunKey) → find_row (lapsed_over m book ks ts) k ≡ first_there (find_row ts k) (cond (named k ks) (lapsed_at k) None)
   found_lapsed [] ts k = sym (first_none (find_row ts k))
   found_lapsed (j ∷ js) ts k =
       found_lapsed js (put_new (lapsed_at j) ts) k
-      ∙ (ap (λ o. first o (cond (named k js) (lapsed_at k) None)) (new_at lapsed_at lapsed_own ts j k)
+      ∙ (ap (λ o. first_there o (cond (named k js) (lapsed_at k) None)) (new_at lapsed_at lapsed_own ts j k)
       ∙ (first_assoc (find_row ts k) (cond (is_eq (key_cmp j k)) (lapsed_at j) None) (cond (named k js) (lapsed_at k) None)
-      ∙ ap (first (find_row ts k)) (one_of j k (named k js) (is_eq (key_cmp j k)) refl)))
+      ∙ ap (first_there (find_row ts k)) (one_of j k (named k js) (is_eq (key_cmp j k)) refl)))
 
 -- ---- keys of rows that pass a test
 -- the key of a row that is found and passes is among them
@@ -245,8 +245,8 @@ pub found_gone : (now ts : List RunRow) (gone : List RunKey) (book : List RunRow
 found_gone now ts gone book j found k =
     found_lifted now j k
     ∙ (go (is_eq (key_cmp j k))
-    ∙ sym (ap₂ (λ o b. first o (cond b None (find_row book k))) (found_lifted ts j k) (named_last k j gone)))
+    ∙ sym (ap₂ (λ o b. first_there o (cond b None (find_row book k))) (found_lifted ts j k) (named_last k j gone)))
   where
-    go : (b : Bool) → cond b None (find_row now k) ≡ first (cond b None (find_row ts k)) (cond (b || named k gone) None (find_row book k))
+    go : (b : Bool) → cond b None (find_row now k) ≡ first_there (cond b None (find_row ts k)) (cond (b || named k gone) None (find_row book k))
     go true = refl
     go false = found k

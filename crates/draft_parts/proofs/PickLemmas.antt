@@ -12,7 +12,7 @@ use Rattle.ps_time.specs.declared.key.RunKey.{RunKey}
 use Rattle.ps_time.proofs.KeyLemmas.{key_cmp_same, key_cmp_total, same_key}
 use Rattle.plugin_core.specs.TestSpec.{test_class}
 use Rattle.run_states.specs.declared.row.RunRow.{RunRow}
-use Rattle.run_states.specs.Life.{first, is_booked}
+use Rattle.run_states.specs.Life.{first_there, is_booked}
 use Rattle.run_states.specs.Rows.{find_row, IsAscendingRows}
 use Rattle.run_states.specs.Conflict.{blocks, clashes, in_conflict}
 use Rattle.run_states.specs.Preemption.{yields}
@@ -83,7 +83,7 @@ module _ (before : RunKey → RunKey → Bool) (order : IsOrder before) where
 
   -- ---- rows that lie over others
   module _ (p : RunRow → Bool) (now top book : RunKey → Option RunRow) (gone : RunKey → Bool)
-      (found : (k : RunKey) → now k ≡ first (top k) (cond (gone k) None (book k)))
+      (found : (k : RunKey) → now k ≡ first_there (top k) (cond (gone k) None (book k)))
       (own_book : (k : RunKey) (r : RunRow) → book k ≡ Some r → r.key ≡ k) where
     -- the row passes, and is as it was
     abbrev pub bare : RunRow → Bool
@@ -93,7 +93,7 @@ module _ (before : RunKey → RunKey → Bool) (order : IsOrder before) where
     from_either : (k : RunKey) (s : RunRow) → now k ≡ Some s → p s ≡ true → (top k ≡ Some s) ⊎ ((book k ≡ Some s) × (bare s ≡ true))
     from_either k s e t = go (top k) refl (gone k) refl (sym (found k) ∙ e)
       where
-        go : (o : Option RunRow) → top k ≡ o → (g : Bool) → gone k ≡ g → first o (cond g None (book k)) ≡ Some s → (top k ≡ Some s) ⊎ ((book k ≡ Some s) × (bare s ≡ true))
+        go : (o : Option RunRow) → top k ≡ o → (g : Bool) → gone k ≡ g → first_there o (cond g None (book k)) ≡ Some s → (top k ≡ Some s) ⊎ ((book k ≡ Some s) × (bare s ≡ true))
         go (Some x) f g h is = inl (f ∙ is)
         go None f true h is = cc
         go None f false h is =
@@ -103,7 +103,7 @@ module _ (before : RunKey → RunKey → Bool) (order : IsOrder before) where
             inr (is, ap₂ (λ a b. a && not b) t (ap₂ (λ o g. is_some o || g) not_top not_gone))
 
     top_now : (k : RunKey) (r : RunRow) → top k ≡ Some r → now k ≡ Some r
-    top_now k r e = found k ∙ ap (λ o. first o (cond (gone k) None (book k))) e
+    top_now k r e = found k ∙ ap (λ o. first_there o (cond (gone k) None (book k))) e
 
     shown : (x y g : Bool) → (x && not (y || g)) ≡ true → (x ≡ true) × (y ≡ false) × (g ≡ false)
     shown true false false e = (refl, refl, refl)
@@ -118,7 +118,7 @@ module _ (before : RunKey → RunKey → Bool) (order : IsOrder before) where
     bare_now : (r : RunRow) → book r.key ≡ Some r → bare r ≡ true → (now r.key ≡ Some r) × (p r ≡ true)
     bare_now r e t =
         let parts = shown (p r) (is_some (top r.key)) (gone r.key) t in
-        (found r.key ∙ (ap₂ (λ o g. first o (cond g None (book r.key))) (hidden_none (top r.key) parts.1) parts.2 ∙ e), parts.0)
+        (found r.key ∙ (ap₂ (λ o g. first_there o (cond g None (book r.key))) (hidden_none (top r.key) parts.1) parts.2 ∙ e), parts.0)
 
     pub over_first : (x y : Option RunRow) → IsFirst p top x → IsFirst bare book y → IsFirst p now (earlier x y)
     over_first None None f g = λ k r e. go k r e (p r) refl
@@ -260,11 +260,11 @@ module _ (p : RunRow → Bool) where
           one k s t (inr h) = rest.2 k s h t
 
   -- the last that passes
-  last_of : (o : Option RunRow) (xs : List RunRow) → last_or o xs ≡ first (last_or None xs) o
+  last_of : (o : Option RunRow) (xs : List RunRow) → last_or o xs ≡ first_there (last_or None xs) o
   last_of o [] = refl
-  last_of o (x ∷ xs) = last_of (Some x) xs ∙ (kept (last_or None xs) ∙ ap (λ y. first y o) (sym (last_of (Some x) xs)))
+  last_of o (x ∷ xs) = last_of (Some x) xs ∙ (kept (last_or None xs) ∙ ap (λ y. first_there y o) (sym (last_of (Some x) xs)))
     where
-      kept : (y : Option RunRow) → first y (Some x) ≡ first (first y (Some x)) o
+      kept : (y : Option RunRow) → first_there y (Some x) ≡ first_there (first_there y (Some x)) o
       kept None = refl
       kept (Some y) = refl
 
@@ -273,14 +273,14 @@ module _ (p : RunRow → Bool) where
   last_first (r ∷ rs) up = go (p r) refl (last_or None (filter p rs)) refl (last_first rs up.1)
     where
       go : (b : Bool) → p r ≡ b → (o : Option RunRow) → last_or None (filter p rs) ≡ o → IsFirst is_greater greater_order p (find_row rs) o → IsFirst is_greater greater_order p (find_row (r ∷ rs)) (last_or None (cond b (r ∷ filter p rs) (filter p rs)))
-      go true e None h rest = subst (IsFirst is_greater greater_order p (find_row (r ∷ rs))) (sym (last_of (Some r) (filter p rs) ∙ ap (λ y. first y (Some r)) h)) (own_found r rs, e, λ k s f t. one k s t (here_or r rs k s f))
+      go true e None h rest = subst (IsFirst is_greater greater_order p (find_row (r ∷ rs))) (sym (last_of (Some r) (filter p rs) ∙ ap (λ y. first_there y (Some r)) h)) (own_found r rs, e, λ k s f t. one k s t (here_or r rs k s f))
         where
           one : (k : RunKey) (s : RunRow) → p s ≡ true → (r ≡ s) ⊎ (find_row rs k ≡ Some s) → is_greater s.key r.key ≡ false
           one k s t (inl is) = subst (λ y. is_greater y.key r.key ≡ false) is (never_own is_greater greater_order r.key)
           one k s t (inr g) = let never : true ≡ false = sym t ∙ rest k s g in cc
       go true e (Some x) h rest =
           let less : key_cmp r.key x.key ≡ Less = above r rs x.key x up.0 rest.0 in
-          subst (IsFirst is_greater greater_order p (find_row (r ∷ rs))) (sym (last_of (Some r) (filter p rs) ∙ ap (λ y. first y (Some r)) h)) (behind_found r rs x less rest.0, rest.1, λ k s f t. one less k s t (here_or r rs k s f))
+          subst (IsFirst is_greater greater_order p (find_row (r ∷ rs))) (sym (last_of (Some r) (filter p rs) ∙ ap (λ y. first_there y (Some r)) h)) (behind_found r rs x less rest.0, rest.1, λ k s f t. one less k s t (here_or r rs k s f))
         where
           one : key_cmp r.key x.key ≡ Less → (k : RunKey) (s : RunRow) → p s ≡ true → (r ≡ s) ⊎ (find_row rs k ≡ Some s) → is_greater s.key x.key ≡ false
           one less k s t (inl is) = subst (λ y. is_greater y.key x.key ≡ false) is (less_order.one_way r.key x.key (ap is_lt less))
@@ -301,7 +301,7 @@ last_shorter g (r ∷ rs) (suc e) d within = go (g r) (last_shorter g rs e d (om
     x : RunRow
     x = get_or rs e d
 
-    kept : (b : Bool) (o : Option RunRow) → first (cond b (Some x) o) (Some r) ≡ cond b (Some x) (first o (Some r))
+    kept : (b : Bool) (o : Option RunRow) → first_there (cond b (Some x) o) (Some r) ≡ cond b (Some x) (first_there o (Some r))
     kept true o = refl
     kept false o = refl
 
@@ -309,7 +309,7 @@ last_shorter g (r ∷ rs) (suc e) d within = go (g r) (last_shorter g rs e d (om
         → last_or None (cond b (r ∷ filter g (take (suc e) rs)) (filter g (take (suc e) rs))) ≡ cond (g x) (Some x) (last_or None (cond b (r ∷ filter g (take e rs)) (filter g (take e rs))))
     go true later =
         last_of g (Some r) (filter g (take (suc e) rs))
-        ∙ (ap (λ o. first o (Some r)) later
+        ∙ (ap (λ o. first_there o (Some r)) later
         ∙ (kept (g x) (last_or None (filter g (take e rs)))
         ∙ ap (cond (g x) (Some x)) (sym (last_of g (Some r) (filter g (take e rs))))))
     go false later = later

@@ -7,7 +7,7 @@ use Rattle.ps_time.specs.Span.{Range, Span}
 use Rattle.ps_time.specs.declared.class.Class.{Class}
 use Rattle.ps_time.specs.declared.key.RunKey.{RunKey}
 use Rattle.run_states.specs.Conflict.{in_conflict}
-use Rattle.run_states.specs.Life.{first, settled_row}
+use Rattle.run_states.specs.Life.{first_there, settled_row}
 use Rattle.run_states.specs.Preemption.{yields}
 use Rattle.run_states.specs.Rows.{find_row}
 use Rattle.run_states.specs.declared.row.RunRow.{RunRow}
@@ -29,7 +29,7 @@ below gone book k = if named k gone then None else find_row book k
 
 -- the row of a key as it is now
 abbrev pub over : List RunRow → List RunKey → List RunRow → RunKey → Option RunRow
-over touched gone book k = first (find_row touched k) (below gone book k)
+over touched gone book k = first_there (find_row touched k) (below gone book k)
 
 -- the book's row of this key isn't the one of now
 abbrev pub hides : List RunRow → List RunKey → RunKey → Bool

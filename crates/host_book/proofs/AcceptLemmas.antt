@@ -9,7 +9,7 @@ use Rattle.plugin_core.specs.TestSpec.{test_class, test_length}
 use Rattle.run_states.specs.Conflict.{blocks, preempted_row, preempted_rows}
 use Rattle.run_states.specs.Effect.{accept_row, confirmed_if, is_alone, noted_row}
 use Rattle.run_states.specs.LawfulRow.{IsLawfulRow, Reserves}
-use Rattle.run_states.specs.Life.{close_row, first, is_booked, HasMoments}
+use Rattle.run_states.specs.Life.{close_row, first_there, is_booked, HasMoments}
 use Rattle.run_states.specs.Preemption.{give_way, planned_run, planned_span}
 use Rattle.run_states.specs.ResultBytes.{bytes_in, other_result, row_bytes}
 use Rattle.run_states.specs.Rows.{change_row, find_row, put_row, IsAscendingRows}
@@ -186,7 +186,7 @@ confirmed_reserves : (t : Bool) (m n : ℕ) (r : RunRow) → IsLawfulRow n (conf
 confirmed_reserves true m n r lawful = lawful.reserves
 confirmed_reserves false m n r lawful = lawful.reserves
 
-planned_reserves : (m : ℕ) (s : Span) (tool : List ℕ) (r : RunRow) (a : Option ℕ) (t : Option (List ℕ)) (i : Option Span) → is_some a ≡ false → Reserves r.test a t i → Reserves r.test (first a (Some m)) (first t (Some tool)) (first i (Some s)) → s.start ≤ greatest_moment
+planned_reserves : (m : ℕ) (s : Span) (tool : List ℕ) (r : RunRow) (a : Option ℕ) (t : Option (List ℕ)) (i : Option Span) → is_some a ≡ false → Reserves r.test a t i → Reserves r.test (first_there a (Some m)) (first_there t (Some tool)) (first_there i (Some s)) → s.start ≤ greatest_moment
 planned_reserves m s tool r None None None none has now = now.1
 planned_reserves m s tool r None None (Some x) none has now = absurd has
 planned_reserves m s tool r None (Some x) i none has now = absurd has
@@ -204,8 +204,8 @@ confirmed_booking false m r = refl
 
 planned_booking : (m start : ℕ) (tool : List ℕ) (r : RunRow) → r.accepted ≡ None → r.closed ≡ None → r.interval ≡ None → r.started ≡ None → booking_of (accept_row m (planned_span start r) tool r) ≡ Some (planned_reservation start r)
 planned_booking m start tool r accepted closed interval started =
-    ap₂ (λ a c. cond (is_some (first a (Some m)) && not (is_some c)) (reserved (accept_row m (planned_span start r) tool r) (first r.interval (Some (planned_span start r)))) None) accepted closed
-    ∙ (ap (λ i. reserved (accept_row m (planned_span start r) tool r) (first i (Some (planned_span start r)))) interval
+    ap₂ (λ a c. cond (is_some (first_there a (Some m)) && not (is_some c)) (reserved (accept_row m (planned_span start r) tool r) (first_there r.interval (Some (planned_span start r)))) None) accepted closed
+    ∙ (ap (λ i. reserved (accept_row m (planned_span start r) tool r) (first_there i (Some (planned_span start r)))) interval
     ∙ ap (λ s. Some (record { key = r.key; class = test_class r.test; interval = planned_span start r; priority = r.priority; firm_from = firm_from_of start (is_some s) })) started)
 
 map_twice : (f g : RunRow → RunRow) (rows : List RunRow) → map (λ x. f (g x)) rows ≡ map f (map g rows)

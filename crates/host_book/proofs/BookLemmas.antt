@@ -5,7 +5,7 @@ use Rattle.std.specs.Ordering.{is_eq}
 use Rattle.ps_time.specs.Key.{key_cmp}
 use Rattle.ps_time.specs.Numbers.{greatest_moment}
 use Rattle.ps_time.specs.declared.key.RunKey.{RunKey}
-use Rattle.limit_apply.specs.Limits.{Config as Limits}
+use Rattle.limit_apply.specs.Limits.{LimitsConfig as Limits}
 use Rattle.run_states.specs.Effect.{change_other, confirmed_complete, confirmed_if, is_acceptance, is_complete, noted_row, with_answer}
 use Rattle.run_states.specs.Life.{is_booked, close_row, confirm_row, end_row, start_row}
 use Rattle.run_states.specs.Rows.{change_row, lift_row}

@@ -10,7 +10,7 @@ use Rattle.archive_retry.specs.Merge.{IsResult, IsResultText, IsTreeText}
 use Rattle.archive_retry.specs.declared.state.ArchiveState.{ArchiveState}
 use Rattle.run_states.specs.Effect.{change_at, change_other, merge_row, or_else, with_result}
 use Rattle.run_states.specs.LawfulRow.{HasArchives, IsOther}
-use Rattle.run_states.specs.Life.{first, end_row, is_active}
+use Rattle.run_states.specs.Life.{first_there, end_row, is_active}
 use Rattle.run_states.specs.Rows.{change_row, find_row, IsAscendingRows}
 use Rattle.run_states.specs.declared.answer.Other.{Other}
 use Rattle.run_states.specs.declared.row.Ending.{Ending}
@@ -65,7 +65,7 @@ end_brings self tasks m rows k e can all = go (find_row rows k) refl can
     go (Some r) at can =
         let ended : r.ended ≡ None = none_of r.ended (unended (is_some r.started) (is_some r.ended) can) in
         let host : IsHostRow self tasks m (end_row e r) = changed_host (end_row e) (λ x. refl) rows k r at self tasks m all in
-        subst (λ o. IfSome (option_map (λ (x : Ending). x.body) (first o (Some e))) IsResultText) ended host.row.result
+        subst (λ o. IfSome (option_map (λ (x : Ending). x.body) (first_there o (Some e))) IsResultText) ended host.row.result
 
 -- ---- a result that was heard
 at_all : {A : Type 0} (P : A → Type 0) (xs : List A) (i : ℕ) (x : A) → AllByRecursion P xs → slice_get xs i ≡ Some x → P x
@@ -87,7 +87,7 @@ module _ (result : Option (List ℕ)) where
   kept_result : (o : Other) → is_some o.heard ≡ true → with_result result o ≡ o
   kept_result o is = go o.heard refl is
     where
-      go : (h : Option (Option (List ℕ))) → o.heard ≡ h → is_some h ≡ true → record o { heard = first h (Some result) } ≡ o
+      go : (h : Option (Option (List ℕ))) → o.heard ≡ h → is_some h ≡ true → record o { heard = first_there h (Some result) } ≡ o
       go (Some x) at is = ap (λ h. record o { heard = h }) (sym at)
       go None at is = cc
 
@@ -104,7 +104,7 @@ module _ (result : Option (List ℕ)) where
       go None at there is = cc
       go (Some x) at there is =
           let own : IsOther (with_result result x) = at_all IsOther (change_at (with_result result) i r.others) i (with_result result x) (recursion_from_All IsOther (change_at (with_result result) i r.others) all) (get_changed (with_result result) r.others i x at) in
-          subst (λ o. IfSome (option_and_then (λ told. told) (first o (Some result))) IsResultText) (none_of x.heard is) own.heard
+          subst (λ o. IfSome (option_and_then (λ told. told) (first_there o (Some result))) IsResultText) (none_of x.heard is) own.heard
 
 change_other_key : (f : Other → Other) (place : ℕ) (r : RunRow) → (change_other f place r).key ≡ r.key
 change_other_key f zero r = refl
@@ -132,7 +132,7 @@ or_else_kept m archives (s ∷ ss) same = refl
 pub merged_before : (self : ℕ) (tasks : List TaskRow) (m n : ℕ) (k : RunKey) (body : List ℕ) (r : RunRow) → r.key ≡ k → IsHostRow self tasks m r → is_merged (Some r) ≡ true → merge_row (states_due n (archives_of tasks k)) body r ≡ r
 merged_before self tasks m n k body r own host is = go r.merged refl is host.merged
   where
-    go : (o : Option (List ℕ)) → r.merged ≡ o → is_some o ≡ true → HasStates self (archives_of tasks r.key) r o → record r { merged = first o (Some body); archives = or_else r.archives (states_due n (archives_of tasks k)) } ≡ r
+    go : (o : Option (List ℕ)) → r.merged ≡ o → is_some o ≡ true → HasStates self (archives_of tasks r.key) r o → record r { merged = first_there o (Some body); archives = or_else r.archives (states_due n (archives_of tasks k)) } ≡ r
     go None at is has = cc
     go (Some x) at is has =
         ap₂ (λ o ss. record r { merged = o; archives = ss }) (sym at)
@@ -147,4 +147,4 @@ merge_brings self tasks m rows k states body there is all = go (find_row rows k)
     go None at there is = cc
     go (Some r) at there is =
         let host : IsHostRow self tasks m (merge_row states body r) = changed_host (merge_row states body) (λ x. refl) rows k r at self tasks m all in
-        (subst (λ o. HasArchives (merge_row states body r) (first o (Some body))) (none_of r.merged is) host.row.merged).0
+        (subst (λ o. HasArchives (merge_row states body r) (first_there o (Some body))) (none_of r.merged is) host.row.merged).0

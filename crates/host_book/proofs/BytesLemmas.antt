@@ -29,7 +29,7 @@ use Rattle.host_model.specs.declared.change.Change.{Change}
 use Rattle.host_model.specs.declared.change.Change.TheVariants as change
 use Rattle.host_model.specs.declared.task_row.TaskRow.{TaskRow}
 use Rattle.host_book.proofs.AcceptLemmas.{asked_bytes}
-use Rattle.host_book.specs.Ready.{AllFit, IsReady, all_brought, brought_bytes, changes_of}
+use Rattle.host_book.specs.Ready.{CanMakeAll, IsReady, all_brought, brought_bytes, changes_of}
 use Rattle.host_book.specs.declared.ready.Ready.{Ready}
 
 -- ---- a map that brings bytes to the row of one key alone
@@ -164,7 +164,7 @@ change_brings m tasks c rows up =
 all_cons : (r : Ready) (rs : List Ready) → all_brought (r ∷ rs) ≡ brought_bytes r.change + all_brought rs
 all_cons r rs = sum_by-cons (λ n. n) (brought_bytes r.change) (map (λ x. brought_bytes x.change) rs)
 
-fit_each : (number m : ℕ) (rs : List Ready) (b : Book) → IsAscendingRows b.rows → AllByRecursion IsReady rs → CanApplyAll number m (changes_of rs) b → all_brought rs ≤ most_counted - result_bytes b.rows → AllFit number m rs b
+fit_each : (number m : ℕ) (rs : List Ready) (b : Book) → IsAscendingRows b.rows → AllByRecursion IsReady rs → CanApplyAll number m (changes_of rs) b → all_brought rs ≤ most_counted - result_bytes b.rows → CanMakeAll number m rs b
 fit_each number m [] b up ready can bytes = tt
 fit_each number m (r ∷ rs) b up ready can bytes =
     let all = all_cons r rs in
@@ -173,5 +173,5 @@ fit_each number m (r ∷ rs) b up ready can bytes =
       fit_each number m rs (apply m r.change b) can.1.ascending ready.1 can.2 (omega (arith, bytes, all, more)),
     )
 
-pub all_fit : (number m : ℕ) (rs : List Ready) (b : Book) → IsAscendingRows b.rows → All IsReady rs → CanApplyAll number m (changes_of rs) b → all_brought rs ≤ most_counted - result_bytes b.rows → AllFit number m rs b
+pub all_fit : (number m : ℕ) (rs : List Ready) (b : Book) → IsAscendingRows b.rows → All IsReady rs → CanApplyAll number m (changes_of rs) b → all_brought rs ≤ most_counted - result_bytes b.rows → CanMakeAll number m rs b
 all_fit number m rs b up ready can bytes = fit_each number m rs b up (recursion_from_All IsReady rs ready) can bytes

@@ -18,7 +18,7 @@ use Rattle.run_states.specs.declared.row.RunRow.{RunRow}
 use Rattle.run_states.specs.declared.why.Closing.{Closing}
 use Rattle.run_states.specs.declared.why.Why.TheVariants.{Preempted}
 use Rattle.run_states.specs.Conflict.{clashes, preempted_rows}
-use Rattle.run_states.specs.Life.{first, is_booked, close_row, closed_by, lapse_of, settled_row, settled_rows, start_row}
+use Rattle.run_states.specs.Life.{first_there, is_booked, close_row, closed_by, lapse_of, settled_row, settled_rows, start_row}
 use Rattle.run_states.specs.Rows.{find_row, lift_row, put_row, change_row, IsAscendingRows}
 use Rattle.run_states.proofs.Place.{key_is, put_back}
 use Rattle.host_timeline.specs.declared.booking.Booking.{Booking}
@@ -45,7 +45,7 @@ reserved_has_key r true (Some s) = refl
 booking_has_key : (r : RunRow) → HasKey r.key (booking_of r)
 booking_has_key r = reserved_has_key r (is_booked r) r.interval
 
-closed_now : (c : Closing) (o : Option Closing) → is_some (first o (Some c)) ≡ true
+closed_now : (c : Closing) (o : Option Closing) → is_some (first_there o (Some c)) ≡ true
 closed_now c None = refl
 closed_now c (Some d) = refl
 
@@ -233,7 +233,7 @@ module _ (k : RunKey) where
       ap (λ j. cond (is_eq (key_cmp j k)) (started_booking x) x ∷ with_started bs k) has
       ∙ elim (is_eq (key_cmp key k)) as (λ b. cond b (started_booking x) x ∷ with_started bs k ≡ with_some (cond b (Some (started_booking x)) (Some x)) (with_started bs k)) [ true ↦ refl | false ↦ refl ]
 
-  started_now : (m : ℕ) (o : Option ℕ) → is_some (first o (Some m)) ≡ true
+  started_now : (m : ℕ) (o : Option ℕ) → is_some (first_there o (Some m)) ≡ true
   started_now m None = refl
   started_now m (Some n) = refl
 

@@ -7,7 +7,7 @@ use Rattle.std.proofs.lemmas.Bool.Decides.{nat_tests}
 use Rattle.std.proofs.lemmas.Option.{slice_get-get_or}
 use Rattle.ps_time.specs.Key.{key_cmp}
 use Rattle.ps_time.specs.declared.key.RunKey.{RunKey}
-use Rattle.run_states.specs.Life.{close_row, closed_by, first, lapse_of, settled_row, settled_rows}
+use Rattle.run_states.specs.Life.{close_row, closed_by, first_there, lapse_of, settled_row, settled_rows}
 use Rattle.run_states.specs.Conflict.{in_conflict}
 use Rattle.run_states.specs.Preemption.{Incoming, give_way}
 use Rattle.run_states.specs.Rows.{find_row, lift_row, put_row}
@@ -180,7 +180,7 @@ module _ (self m : ℕ) (b : Book) where
     others : (t : TaskRow) → is_touched (Some serial) (close_task m serial t) ≡ false → closed (close_task m serial t) ≡ before t
     others t off = go (t.serial == serial) refl off
       where
-        go : (x : Bool) → (t.serial == serial) ≡ x → is_touched (Some serial) (cond x (record t { closed = first t.closed (Some m) }) t) ≡ false → closed (cond x (record t { closed = first t.closed (Some m) }) t) ≡ before t
+        go : (x : Bool) → (t.serial == serial) ≡ x → is_touched (Some serial) (cond x (record t { closed = first_there t.closed (Some m) }) t) ≡ false → closed (cond x (record t { closed = first_there t.closed (Some m) }) t) ≡ before t
         go true is e = let both : true ≡ false = sym is ∙ e in cc
         go false is e = wake_beside self m (TaskClosed serial) b t is
 

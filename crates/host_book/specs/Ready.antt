@@ -58,16 +58,16 @@ abbrev pub changes_of : List Ready → List Change
 changes_of rs = map (λ r. r.change) rs
 
 -- the change can be made at m, leaves a lawful book of the host with this number, has what it needs, and its results can be counted
-pub record Fits (number m : ℕ) (b : Book) (r : Ready) : Type 0 where
+pub record CanMake (number m : ℕ) (b : Book) (r : Ready) : Type 0 where
   pub can : CanApply b r.change
   pub lawful : Lawful number (apply m r.change b)
   pub ready : IsReady r
   pub bytes : brought_bytes r.change ≤ most_counted - result_bytes b.rows
 
 -- each of them, in order
-abbrev pub AllFit : ℕ → ℕ → List Ready → Book → Type 0
-AllFit number m [] b = Unit {0}
-AllFit number m (r ∷ rs) b = Fits number m b r × AllFit number m rs (apply m r.change b)
+abbrev pub CanMakeAll : ℕ → ℕ → List Ready → Book → Type 0
+CanMakeAll number m [] b = Unit {0}
+CanMakeAll number m (r ∷ rs) b = CanMake number m b r × CanMakeAll number m rs (apply m r.change b)
 
 -- ---- what a row has already
 -- the participant told its result, or that it has none

@@ -13,7 +13,7 @@ ghost use Rattle.live_law.specs.Waking.{has_come, is_awake};
 ghost use Rattle.host_rows.specs.Still.{keys_live_by, live_keys, StillStay};
 ghost use Rattle.host_rows.specs.Deadlines.{IsAscendingDeadlines, Waits};
 ghost use Rattle.host_rows.specs.Ledger.{most_counted};
-ghost use Rattle.host_book.specs.Ready.{AllFit, all_brought, brought_bytes, changes_of, IsReady};
+ghost use Rattle.host_book.specs.Ready.{CanMakeAll, all_brought, brought_bytes, changes_of, IsReady};
 
 use crate::indexed::IndexedBook;
 use crate::parts::Parts;
@@ -272,7 +272,7 @@ impl HostBook {
     fn absorb_each(&mut self, moment: Moment, list: Items<Ready>)
         requires moment { self.old.book.moment ≡ moment }
         requires room { length list ≤ self.old.room }
-        requires fit { AllFit self.old.number moment list self.old.book }
+        requires fit { CanMakeAll self.old.number moment list self.old.book }
         ensures number { self.new.number ≡ self.old.number }
         ensures book { self.new.book ≡ apply_all moment (changes_of list) self.old.book }
         ensures room { self.old.room ≤ self.new.room + length list }

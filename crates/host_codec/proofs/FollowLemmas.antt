@@ -6,7 +6,7 @@ use Rattle.std.proofs.lemmas.List.Elements.{All-cons, All-head, All-nil, All-tai
 use Rattle.ps_time.specs.Key.{key_cmp}
 use Rattle.ps_time.specs.declared.key.RunKey.{RunKey}
 use Rattle.run_states.specs.LawfulRow.{IsWhy}
-use Rattle.run_states.specs.Life.{close_row, first, may_take}
+use Rattle.run_states.specs.Life.{close_row, first_there, may_take}
 use Rattle.run_states.specs.Rows.{find_row, put_row}
 use Rattle.run_states.specs.declared.life.LifeStep.TheVariants.{Close}
 use Rattle.run_states.specs.declared.row.RunRow.{RunRow}
@@ -68,7 +68,7 @@ module _ (self m : ℕ) (b : Book) where
         find_row-map (changed_row m b.tasks (Closed k why) b.rows) (changed_key m b.tasks (Closed k why) b.rows) b.rows k
         ∙ (ap (option_map (changed_row m b.tasks (Closed k why) b.rows)) at ∙ ap (λ t. Some (cond t (close_row closing r) r)) own) in
         let host = found_of_all (IsHostRow self b.tasks b.moment) k (close_row closing r) (rows_after m b.tasks (Closed k why) b.rows) after.rows one in
-        subst (λ o. IfSome (first o (Some closing)) (λ (c : Closing). IsWhy c.why)) (open_before r.closed (not (is_some r.started)) may) host.row.closed
+        subst (λ o. IfSome (first_there o (Some closing)) (λ (c : Closing). IsWhy c.why)) (open_before r.closed (not (is_some r.started)) may) host.row.closed
 
     closed_why : Takes b k (Close why) → IsWhy why
     closed_why can = go (find_row b.rows k) refl can

@@ -11,7 +11,7 @@ use Rattle.archive_retry.specs.Merge.{IsTreeText, IsResultText}
 use Rattle.run_states.specs.Conflict.{preempted_rows}
 use Rattle.run_states.specs.Effect.{accept_row, confirmed_if, is_alone, merge_row, noted_row}
 use Rattle.run_states.specs.LawfulRow.{IsWhy}
-use Rattle.run_states.specs.Life.{close_row, first, is_booked}
+use Rattle.run_states.specs.Life.{close_row, first_there, is_booked}
 use Rattle.run_states.specs.Preemption.{planned_span}
 use Rattle.run_states.specs.ResultBytes.{row_bytes}
 use Rattle.run_states.specs.Rows.{change_row, find_row, lift_row, put_row}
@@ -79,7 +79,7 @@ module _ (number m : ℕ) (now : Book) (at : now.moment ≡ m) (lawful : Lawful 
       go None found can = absurd can
       go (Some r) found can =
           let host : IsHostRow number now.tasks now.moment (close_row closing r) = changed_host (close_row closing) (λ x. refl) now.rows k r found number now.tasks now.moment after.rows in
-          subst (λ o. IfSome (first o (Some closing)) (λ c. IsWhy c.why)) (none_of r.closed (open_row (is_some r.closed) (is_some r.started) can)) host.row.closed
+          subst (λ o. IfSome (first_there o (Some closing)) (λ c. IsWhy c.why)) (none_of r.closed (open_row (is_some r.closed) (is_some r.started) can)) host.row.closed
 
   -- ---- the tests of a change
   pub tests_of : (c : Change) → IsReadOn c → CanApply now c → Lawful number (apply now.moment c now) → HasTests c

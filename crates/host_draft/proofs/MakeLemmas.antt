@@ -5,8 +5,8 @@ use Rattle.std.specs.Prelude.{IsSome}
 use Rattle.std.specs.Ordering.{is_eq}
 use Rattle.ps_time.specs.Key.{key_cmp}
 use Rattle.ps_time.specs.declared.key.RunKey.{RunKey}
-use Rattle.limit_apply.specs.Limits.{Config as Limits}
-use Rattle.run_states.specs.Life.{first}
+use Rattle.limit_apply.specs.Limits.{LimitsConfig as Limits}
+use Rattle.run_states.specs.Life.{first_there}
 use Rattle.run_states.specs.ResultBytes.{result_bytes, row_bytes}
 use Rattle.run_states.specs.Rows.{change_row, find_row, lift_row, put_row}
 use Rattle.run_states.specs.declared.row.RunRow.{RunRow}
@@ -40,10 +40,10 @@ lt_from n m e = grind (arith, nat_tests)
 -- ---- a copy of the row of a key
 -- is found by it as the row was
 pub found_there : (ts : List RunRow) (gone : List RunKey) (book : List RunRow) (k : RunKey) → find_row (put_new (below gone book k) ts) k ≡ over ts gone book k
-found_there ts gone book k = new_at (below gone book) (below_own gone book) ts k k ∙ ap (λ t. first (find_row ts k) (cond t (below gone book k) None)) (key_same k)
+found_there ts gone book k = new_at (below gone book) (below_own gone book) ts k k ∙ ap (λ t. first_there (find_row ts k) (cond t (below gone book k) None)) (key_same k)
 
 -- where none is found over the book, there is no copy
-first_left : (a o : Option RunRow) → first a o ≡ None → a ≡ None
+first_left : (a o : Option RunRow) → first_there a o ≡ None → a ≡ None
 first_left None o e = refl
 first_left (Some r) o e = cc
 
@@ -234,9 +234,9 @@ module _ (number m : ℕ) (limits : Limits) (b : Book) (cs : List Change) (ts : 
         find_row-put r (book_now m cs b).rows j none
         ∙ (ap (cond (is_eq (key_cmp r.key j)) (Some r)) (sound.found j)
         ∙ (one (is_eq (key_cmp r.key j))
-        ∙ ap (λ o. first o (below gone b.rows j)) (sym (find_row-put r ts j new_above))))
+        ∙ ap (λ o. first_there o (below gone b.rows j)) (sym (find_row-put r ts j new_above))))
       where
-        one : (t : Bool) → cond t (Some r) (over ts gone b.rows j) ≡ first (cond t (Some r) (find_row ts j)) (below gone b.rows j)
+        one : (t : Bool) → cond t (Some r) (over ts gone b.rows j) ≡ first_there (cond t (Some r) (find_row ts j)) (below gone b.rows j)
         one true = refl
         one false = refl
 

@@ -3,7 +3,7 @@ use Rattle.std.specs.Prelude.{IfSome, MatchOption}
 use Rattle.std.proofs.Common.{◌≡◌, ◌-◌, ◌++◌, ◌∷◌, ℕ, true, false, cond, List, [], Option, Some, None, is_some, option_map, length, refl, ap, sym, subst, ◌∙◌, arith}
 use Rattle.std.proofs.lemmas.List.{length-map}
 use Rattle.ps_time.specs.declared.key.RunKey.{RunKey}
-use Rattle.limit_apply.specs.Limits.{Config as Limits}
+use Rattle.limit_apply.specs.Limits.{LimitsConfig as Limits}
 use Rattle.run_states.specs.Conflict.{preempted_row, preempted_rows}
 use Rattle.run_states.specs.Effect.{noted_row}
 use Rattle.run_states.specs.Life.{is_booked}

@@ -9,7 +9,7 @@ use Rattle.ps_time.specs.declared.class.Class.{Class}
 use Rattle.ps_time.specs.declared.key.RunKey.{RunKey}
 use Rattle.plugin_core.specs.TestSpec.{test_class}
 use Rattle.run_states.specs.Conflict.{blocks, clashes, in_conflict, preempted_row, preempted_rows}
-use Rattle.run_states.specs.Life.{close_row, first, is_booked}
+use Rattle.run_states.specs.Life.{close_row, first_there, is_booked}
 use Rattle.run_states.specs.Preemption.{conflicts}
 use Rattle.run_states.specs.ResultBytes.{result_bytes, row_bytes}
 use Rattle.run_states.specs.Rows.{find_row, IsAscendingRows}
@@ -43,7 +43,7 @@ module _ (gone : List RunKey) (book : List RunRow) where
   abbrev IsAbove : List RunRow → RunKey → Type 0
   IsAbove ts j = find_row ts j ≡ over ts gone book j
 
-  none_below : (o u : Option RunRow) → o ≡ first o u → o ≡ None → u ≡ None
+  none_below : (o u : Option RunRow) → o ≡ first_there o u → o ≡ None → u ≡ None
   none_below None u e f = sym e
   none_below (Some r) u e f = cc
 
@@ -56,13 +56,13 @@ module _ (gone : List RunKey) (book : List RunRow) where
 
       go : (o : Option RunRow) → find_row ts j ≡ o → IsAbove (put_new (below gone book k) ts) j
       go (Some r) at =
-          let there : find_row (put_new (below gone book k) ts) j ≡ Some r = new_at (below gone book) (below_own gone book) ts k j ∙ ap (λ o. first o (cond (is_eq (key_cmp k j)) (below gone book k) None)) at in
-          there ∙ ap (λ o. first o (below gone book j)) (sym there)
+          let there : find_row (put_new (below gone book k) ts) j ≡ Some r = new_at (below gone book) (below_own gone book) ts k j ∙ ap (λ o. first_there o (cond (is_eq (key_cmp k j)) (below gone book k) None)) at in
+          there ∙ ap (λ o. first_there o (below gone book j)) (sym there)
       go None at =
           let none : below gone book j ≡ None = none_below (find_row ts j) (below gone book j) above at in
-          sym (ap (first (find_row (put_new (below gone book k) ts) j)) none ∙ right (find_row (put_new (below gone book k) ts) j))
+          sym (ap (first_there (find_row (put_new (below gone book k) ts) j)) none ∙ right (find_row (put_new (below gone book k) ts) j))
         where
-          right : (o : Option RunRow) → first o None ≡ o
+          right : (o : Option RunRow) → first_there o None ≡ o
           right None = refl
           right (Some r) = refl
 
@@ -127,7 +127,7 @@ module _ (m : ℕ) (key : RunKey) (class : Class) (i : Span) where
           cc
 
   -- ---- rows that give way, over those of a book
-  preempted_over : (a u : Option RunRow) → ((r : RunRow) → a ≡ None → u ≡ Some r → preempted_row m key class i r ≡ r) → option_map (preempted_row m key class i) (first a u) ≡ first (option_map (preempted_row m key class i) a) u
+  preempted_over : (a u : Option RunRow) → ((r : RunRow) → a ≡ None → u ≡ Some r → preempted_row m key class i r ≡ r) → option_map (preempted_row m key class i) (first_there a u) ≡ first_there (option_map (preempted_row m key class i) a) u
   preempted_over (Some r) u left = refl
   preempted_over None None left = refl
   preempted_over None (Some r) left = ap Some (left r refl refl)
@@ -139,7 +139,7 @@ module _ (m : ℕ) (key : RunKey) (class : Class) (i : Span) where
       find_row-map (preempted_row m key class i) (preempted_key m key class i) now j
       ∙ (ap (option_map (preempted_row m key class i)) (found j)
       ∙ (preempted_over (find_row ts j) (below gone book j) (left j)
-      ∙ ap (λ o. first o (below gone book j)) (sym (find_row-map (preempted_row m key class i) (preempted_key m key class i) ts j))))
+      ∙ ap (λ o. first_there o (below gone book j)) (sym (find_row-map (preempted_row m key class i) (preempted_key m key class i) ts j))))
 
   -- ---- closing the keys of the rows in conflict is giving way
   module _ (rows : List RunRow) (up : IsAscendingRows rows) (unbooked : IsUnbooked key rows) where

@@ -2,7 +2,7 @@
 use Rattle.std.specs.Prelude.{codes}
 use Rattle.std.proofs.Common.{◌≡◌, ◌∷◌, List, [], ℕ, refl, subst, sym, arith}
 use Rattle.std.proofs.lemmas.List.Elements.{All-cons, All-nil}
-use Rattle.limit_apply.specs.Limits.{Config as Limits}
+use Rattle.limit_apply.specs.Limits.{LimitsConfig as Limits}
 use Rattle.limit_apply.specs.Read.{IsKept}
 use Rattle.host_model.specs.Conditions.{IsConfig, IsPeer}
 use Rattle.host_model.specs.declared.config.Config.{Config}

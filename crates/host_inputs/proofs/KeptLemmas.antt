@@ -3,7 +3,7 @@ use Rattle.std.specs.List.{AllByRecursion, last_or}
 use Rattle.std.specs.Prelude.{◌==◌, All, IfSome}
 use Rattle.std.proofs.Common.{◌≡◌, ◌∙◌, ◌-◌, ℕ, Bool, true, false, cond, List, [], ◌∷◌, Some, None, length, slice_get, unwrap_or, refl, sym, ap}
 use Rattle.std.proofs.lemmas.List.Elements.{recursion_from_All}
-use Rattle.limit_apply.specs.Limits.{Config as Limits}
+use Rattle.limit_apply.specs.Limits.{LimitsConfig as Limits}
 use Rattle.run_states.proofs.TaskLemmas.{last_get}
 use Rattle.host_model.specs.Book.{find_task, last_limits}
 use Rattle.host_model.specs.declared.task_row.TaskRow.{TaskRow}

@@ -6,7 +6,7 @@ ghost use Rattle.std.specs.Prelude.{None};
 ghost use Rattle.run_states.specs.Rows.{IsAscendingRows};
 ghost use Rattle.run_states.specs.TaskRows.{greatest_number};
 ghost use Rattle.host_model.specs.Book.{find_task};
-ghost use Rattle.host_inputs.specs.Kept.{HasPolicies, Kept};
+ghost use Rattle.host_inputs.specs.Kept.{HasPolicies, BesideRows};
 ghost use Rattle.host_inputs.specs.Runs.{next_run};
 
 use host_model::task_row::TaskRow;
@@ -18,7 +18,7 @@ use ps_time::key::RunKey;
 /// runs of one task from key to key.
 pub trait Hosting: Leading {
     // What the book has beside its rows: the tasks, the epochs, and the epochs of runs.
-    ghost kept: { Self → Kept };
+    ghost kept: { Self → BesideRows };
 
     /// The task of the serial.
     fn task(&self, serial: u32) -> Option<&TaskRow>

@@ -2,7 +2,7 @@
 use Rattle.std.proofs.Common.{◌≡◌, ◌⊎◌, ◌≤◌, inl, inr, ⊎_elim, ℕ, ◌+◌, Bool, true, false, not, if◌then◌else◌, List, Result, Ok, Err, refl, sym, ◌∙◌, ap, subst, arith}
 use Rattle.std.proofs.lemmas.Bool.Decides.{nat_tests}
 use Rattle.host_journal.specs.Calls.{IsRead}
-use Rattle.host_journal.specs.Moments.{Shows, LiesBeside, Fits, AddsOnly, Adds, LeftIn, IsNear}
+use Rattle.host_journal.specs.Moments.{Shows, LiesBeside, IsDiskOf, AddsOnly, Adds, LeftIn, IsNear}
 use Rattle.host_journal.specs.Pair.{pair_of}
 use Rattle.host_journal.specs.State.{State, pair_in, IsLess, IsBelow, IsAt, IsOurs, EachImage, EachSince, first_disk, second_disk, with_record, snapshot_of}
 use Rattle.host_journal.specs.declared.reading.Counted.{Counted}
@@ -43,7 +43,7 @@ module _ {D : Type 0} (moment : D → ℕ) (left_since : D → ℕ → List ℕ 
   since_begin may_leave only_now old new Q adds c left = ⊎_elim (λ past. inl (only_now old c past)) (λ q. inr q) (adds.each (moment old) c (omega arith) left)
 
 -- Of two disks that stand for something, each fits it.
-fits_by : (second : Bool) (k : Counted) (first other : List ℕ) → k.second ≡ second → pair_of first other ≡ Ok k → Fits (Ok k) false first × Fits (Ok k) true other
+fits_by : (second : Bool) (k : Counted) (first other : List ℕ) → k.second ≡ second → pair_of first other ≡ Ok k → IsDiskOf (Ok k) false first × IsDiskOf (Ok k) true other
 fits_by false k first other side is =
     let opened = opened_pair k first other is in
     let whole = subst (λ (s : Bool). Shows (Ok k) s (if k.second then other else first)) side (whole_shows k.second k.generation k.start k.end k.list (if k.second then other else first) opened.whole) in
@@ -53,18 +53,18 @@ fits_by true k first other side is =
     let whole = subst (λ (s : Bool). Shows (Ok k) s (if k.second then other else first)) side (whole_shows k.second k.generation k.start k.end k.list (if k.second then other else first) opened.whole) in
     (inr (side, subst (λ (s : Bool). IsBelow k.second k.generation (if s then first else other)) side opened.below), inl (subst (λ (s : Bool). Shows (Ok k) true (if s then other else first)) side whole))
 
-pub fits_pair : (pair : Result Counted DiskPlace) (first second : List ℕ) → IsOurs pair → pair_of first second ≡ pair → Fits pair false first × Fits pair true second
+pub fits_pair : (pair : Result Counted DiskPlace) (first second : List ℕ) → IsOurs pair → pair_of first second ≡ pair → IsDiskOf pair false first × IsDiskOf pair true second
 fits_pair pair first second ours is =
     let found = fits_by ours.0.second ours.0 first second refl (is ∙ ours.1) in
-    (subst (λ (p : Result Counted DiskPlace). Fits p false first) (sym ours.1) found.0, subst (λ (p : Result Counted DiskPlace). Fits p true second) (sym ours.1) found.1)
+    (subst (λ (p : Result Counted DiskPlace). IsDiskOf p false first) (sym ours.1) found.0, subst (λ (p : Result Counted DiskPlace). IsDiskOf p true second) (sym ours.1) found.1)
 
 -- So does each image, where all of them stand for it.
 module _ {D : Type 0} (seen : D → List ℕ) (may_leave : D → List ℕ → Type 0) (reads_now : (disk : D) → may_leave disk (seen disk))
     (s : State D) (pair : Result Counted DiskPlace) (ours : IsOurs pair) (each : EachImage may_leave s (λ p. p ≡ pair)) where
-  pub fits_first : (c : List ℕ) → may_leave (first_disk s) c → Fits pair false c
+  pub fits_first : (c : List ℕ) → may_leave (first_disk s) c → IsDiskOf pair false c
   fits_first c now = (fits_pair pair c (seen (second_disk s)) ours (each c (seen (second_disk s)) now (reads_now (second_disk s)))).0
 
-  pub fits_second : (d : List ℕ) → may_leave (second_disk s) d → Fits pair true d
+  pub fits_second : (d : List ℕ) → may_leave (second_disk s) d → IsDiskOf pair true d
   fits_second d now = (fits_pair pair (seen (first_disk s)) d ours (each (seen (first_disk s)) d (reads_now (first_disk s)) now)).1
 
 -- What records and a snapshot make of it.

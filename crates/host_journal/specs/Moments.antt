@@ -17,8 +17,8 @@ LiesBeside (Ok k) second bytes = (k.second ≡ not second) × IsBelow k.second k
 LiesBeside (Err place) second bytes = ⊥
 
 -- of a pair that stands for this, one of the two disks
-abbrev pub Fits : Result Counted DiskPlace → Bool → List ℕ → Type 0
-Fits pair second bytes = Shows pair second bytes ⊎ LiesBeside pair second bytes
+abbrev pub IsDiskOf : Result Counted DiskPlace → Bool → List ℕ → Type 0
+IsDiskOf pair second bytes = Shows pair second bytes ⊎ LiesBeside pair second bytes
 
 -- What a crash since any earlier moment may have left of a disk, it may have left before the call, or it has Q.
 pub record AddsOnly {D : Type 0} (moment : D → ℕ) (left_since : D → ℕ → List ℕ → Type 0) (old new : D) (Q : List ℕ → Type 0) : Type 0 where
@@ -32,7 +32,7 @@ pub record Adds {D : Type 0} (moment : D → ℕ) (left_since : D → ℕ → Li
 
 -- What may be left of one disk in a run of calls: as the run began, or by itself one of those that the run made.
 abbrev pub LeftIn : Result Counted DiskPlace → (Result Counted DiskPlace → Type 0) → Bool → List ℕ → Type 0
-LeftIn from Made second bytes = Fits from second bytes ⊎ ((pair : Result Counted DiskPlace) × Made pair × Shows pair second bytes)
+LeftIn from Made second bytes = IsDiskOf from second bytes ⊎ ((pair : Result Counted DiskPlace) × Made pair × Shows pair second bytes)
 
 -- on the same disk and with the same generation, or on the other disk and with the next one
 abbrev pub IsNear : Result Counted DiskPlace → Result Counted DiskPlace → Type 0

@@ -18,7 +18,7 @@ use Rattle.plugin_core.specs.declared.test_spec.TestSpec.{TestSpec}
 use Rattle.plugin_core.specs.declared.test_spec.TestSpec.TheVariants.{Idle, Idleex, Idlebgm, Idlemany, Simplestream}
 use Rattle.run_states.specs.Conflict.{in_conflict}
 use Rattle.run_states.specs.LawfulRow.{IsProposal}
-use Rattle.run_states.specs.Life.{first}
+use Rattle.run_states.specs.Life.{first_there}
 use Rattle.run_states.specs.Preemption.{conflicts, firm_conflict, yields}
 use Rattle.run_states.specs.ResultBytes.{result_bytes}
 use Rattle.run_states.specs.Rows.{find_row}
@@ -66,7 +66,7 @@ has_participants (Simplestream dest material dawdle timeout) lead is named = go 
     go false = record { some = omega arith; few = omega arith; named = both (is_name lead) (is_name dest) named is.dest }
 
 -- ---- nothing speaks against a proposal
-pub neither : (o p : Option Denial) → first o p ≡ None → (o ≡ None) × (p ≡ None)
+pub neither : (o p : Option Denial) → first_there o p ≡ None → (o ≡ None) × (p ≡ None)
 neither None p e = (refl, e)
 neither (Some a) p e = cc
 

@@ -10,7 +10,7 @@ use Rattle.ps_time.specs.declared.key.RunKey.{RunKey}
 use Rattle.ps_time.proofs.KeyLemmas.{key_cmp_total}
 use Rattle.ps_time.proofs.SortedLemmas.{insert_front}
 use Rattle.run_states.specs.Effect.{accept_row, change_other, confirmed_if, is_alone, is_complete, with_acceptance, with_free, with_result, with_told}
-use Rattle.run_states.specs.Life.{close_row, first, is_booked}
+use Rattle.run_states.specs.Life.{close_row, first_there, is_booked}
 use Rattle.run_states.specs.Preemption.{Incoming, give_way, planned_span}
 use Rattle.run_states.specs.Rows.{find_row, lift_row, put_row, IsAscendingRows}
 use Rattle.run_states.specs.Conflict.{in_conflict}
@@ -169,7 +169,7 @@ calm_accepted m tasks c rows calm r =
     let way : RunRow = give_way m (incoming rows c) r in
     elim (has_key way.key (change_key c)) as (λ b. is_accepted (cond b (effect m tasks c way) way) ≡ is_accepted way) [ true ↦ effect_accepted m tasks c way calm | false ↦ refl ] ∙ way_accepted m (incoming rows c) r
 
-accepts_first : (o : Option ℕ) (m : ℕ) → is_some (first o (Some m)) ≡ true
+accepts_first : (o : Option ℕ) (m : ℕ) → is_some (first_there o (Some m)) ≡ true
 accepts_first None m = refl
 accepts_first (Some a) m = refl
 

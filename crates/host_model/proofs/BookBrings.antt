@@ -13,7 +13,7 @@ use Rattle.ps_time.specs.declared.class.Class.{Class}
 use Rattle.ps_time.specs.declared.class.Class.TheVariants.{Background, BackgroundMulti, Exclusive, Normal}
 use Rattle.plugin_core.specs.Bounds.{IsTest}
 use Rattle.plugin_core.specs.Participants.{participants}
-use Rattle.limit_apply.specs.Limits.{ceiling_of, Config as Limits, IsPriority}
+use Rattle.limit_apply.specs.Limits.{ceiling_of, LimitsConfig as Limits, IsPriority}
 use Rattle.limit_apply.specs.Read.{IsKept}
 use Rattle.limit_apply.proofs.CeilingLemmas.{ceiling_within}
 use Rattle.run_states.specs.LawfulRow.{IsProposal}

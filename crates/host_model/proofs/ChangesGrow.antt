@@ -5,15 +5,15 @@ use Rattle.std.proofs.Common.{◌≡◌, ◌≤◌, ◌<◌, ◌+◌, ℕ, zero,
 use Rattle.ps_time.specs.Key.{key_cmp}
 use Rattle.ps_time.specs.Numbers.{keeping}
 use Rattle.ps_time.specs.declared.key.RunKey.{RunKey}
-use Rattle.limit_apply.specs.Limits.{Config as Limits}
-use Rattle.run_states.specs.Life.{first}
+use Rattle.limit_apply.specs.Limits.{LimitsConfig as Limits}
+use Rattle.run_states.specs.Life.{first_there}
 use Rattle.run_states.specs.Purging.{rest_of}
 use Rattle.run_states.specs.Rows.{find_row}
 use Rattle.run_states.specs.declared.row.RunRow.{RunRow}
 use Rattle.host_model.specs.Apply.{apply, apply_all, book_after, close_task, epochs_after, new_pair, pairs_after, purged_key, put_pair, recorded, settled, tasks_after, without_pair}
 use Rattle.host_model.specs.Book.{Book, epoch_of, find_pair, find_task}
 use Rattle.host_model.specs.Effect.{change_key, has_key}
-use Rattle.host_model.specs.Grown.{Grown, Kept, TaskEvolves}
+use Rattle.host_model.specs.Grown.{Grown, Remains, TaskEvolves}
 use Rattle.host_model.specs.declared.change.Change.{Change}
 use Rattle.host_model.specs.declared.change.Change.TheVariants.{Posted, TaskClosed, LimitsSet}
 use Rattle.host_model.specs.declared.change.Changes.{Changes}
@@ -39,7 +39,7 @@ get_append [] ys i a e = cc
 get_append (x ∷ xs) ys zero a e = e
 get_append (x ∷ xs) ys (suc i) a e = get_append xs ys i a e
 
-epochs_keep : (c : Change) (epochs : List Limits) (i : ℕ) → Kept (slice_get epochs i) (slice_get (epochs_after c epochs) i)
+epochs_keep : (c : Change) (epochs : List Limits) (i : ℕ) → Remains (slice_get epochs i) (slice_get (epochs_after c epochs) i)
 epochs_keep (LimitsSet l) epochs i a e = get_append epochs (l ∷ []) i a e
 epochs_keep c epochs i a e = e
 
@@ -53,10 +53,10 @@ find_append p (x ∷ xs) ys a e = go (p x) e (find_append p xs ys a)
     go false e ih = ih e
 
 pub closed_serial : (m serial : ℕ) (t : TaskRow) → (close_task m serial t).serial ≡ t.serial
-closed_serial m serial t = elim (t.serial == serial) as (λ b. (cond b (record t { closed = first t.closed (Some m) }) t).serial ≡ t.serial) [ true ↦ refl | false ↦ refl ]
+closed_serial m serial t = elim (t.serial == serial) as (λ b. (cond b (record t { closed = first_there t.closed (Some m) }) t).serial ≡ t.serial) [ true ↦ refl | false ↦ refl ]
 
 closed_task : (m serial : ℕ) (t : TaskRow) → TaskEvolves t (close_task m serial t)
-closed_task m serial t = elim (t.serial == serial) as (λ b. TaskEvolves t (cond b (record t { closed = first t.closed (Some m) }) t)) [
+closed_task m serial t = elim (t.serial == serial) as (λ b. TaskEvolves t (cond b (record t { closed = first_there t.closed (Some m) }) t)) [
   | true ↦ record { serial = refl; task = refl; asker = refl; posted = refl; closed = first_keeps t.closed (Some m) }
   | false ↦ TaskEvolves-refl t
 ]
@@ -84,10 +84,10 @@ without_pair_keeps : (o : Option RunKey) (pairs : List (RunKey × ℕ)) (k : Run
 without_pair_keeps None pairs k p other e = e
 without_pair_keeps (Some j) pairs k p other e = Keyed.without_keeps (λ p. p.0) j k other pairs p e
 
-epoch_stays : (m : ℕ) (c : Change) (b : Book) (k : RunKey) → IsOther k (purged_key c) → Kept (epoch_of b k) (epoch_of (apply m c b) k)
+epoch_stays : (m : ℕ) (c : Change) (b : Book) (k : RunKey) → IsOther k (purged_key c) → Remains (epoch_of b k) (epoch_of (apply m c b) k)
 epoch_stays m c b k other = go (find_pair b.pairs k) refl
   where
-    go : (o : Option (RunKey × ℕ)) → find_pair b.pairs k ≡ o → Kept (option_map (λ p. p.1) o) (option_map (λ p. p.1) (find_pair (pairs_after c b.pairs) k))
+    go : (o : Option (RunKey × ℕ)) → find_pair b.pairs k ≡ o → Remains (option_map (λ p. p.1) o) (option_map (λ p. p.1) (find_pair (pairs_after c b.pairs) k))
     go None here n e = cc
     go (Some p) here n e =
         let put : find_pair (put_pair (new_pair c) b.pairs) k ≡ Some p = put_pair_keeps (new_pair c) b.pairs k p here in

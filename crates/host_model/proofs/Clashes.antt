@@ -13,7 +13,7 @@ use Rattle.run_states.specs.declared.row.RunRow.{RunRow}
 use Rattle.run_states.specs.declared.why.Closing.{Closing}
 use Rattle.run_states.specs.declared.why.Why.TheVariants.{Preempted}
 use Rattle.run_states.specs.Conflict.{blocks, clashes, in_conflict}
-use Rattle.run_states.specs.Life.{first, is_booked, close_row}
+use Rattle.run_states.specs.Life.{first_there, is_booked, close_row}
 use Rattle.run_states.specs.Rows.{find_row}
 use Rattle.run_states.specs.Preemption.{Incoming, give_way, planned_run, planned_span}
 use Rattle.run_states.specs.Effect.{accept_row, confirmed_if, is_alone}
@@ -28,7 +28,7 @@ use Rattle.host_model.proofs.Keyed.{key_is}
 use Rattle.host_model.proofs.Placed.{find_row-key, put_from}
 use Rattle.host_model.proofs.Standing.{find_row-map, changed_row, changed_key, way_evolves}
 
-closed_now : (c : Closing) (o : Option Closing) → is_some (first o (Some c)) ≡ true
+closed_now : (c : Closing) (o : Option Closing) → is_some (first_there o (Some c)) ≡ true
 closed_now c None = refl
 closed_now c (Some d) = refl
 
@@ -155,7 +155,7 @@ gave_way m i q apart = go (is_eq (key_cmp q.key i.key)) (blocks i.class i.interv
     go false false other is = is
 
 -- ---- a run is planned: its own row is booked, and all others have given way
-first_unwrapped : (o : Option Span) (d : Span) → first o (Some d) ≡ Some (unwrap_or o d)
+first_unwrapped : (o : Option Span) (d : Span) → first_there o (Some d) ≡ Some (unwrap_or o d)
 first_unwrapped None d = refl
 first_unwrapped (Some s) d = refl
 
@@ -184,7 +184,7 @@ module _ (m : ℕ) (tasks : List TaskRow) (k : RunKey) (start : ℕ) (tool : Lis
       let calm = way_calm m (incoming rows plans) r in
       let accepted : RunRow = accept_row m (planned_span start (way r)) tool (way r) in
       confirmed_interval (is_booked accepted && is_alone accepted) m accepted
-      ∙ ap₂ (λ o t. first o (Some (planned_span start (record (way r) { test = t })))) calm.interval up.test
+      ∙ ap₂ (λ o t. first_there o (Some (planned_span start (record (way r) { test = t })))) calm.interval up.test
       ∙ first_unwrapped r.interval (planned_span start r)
 
   planned_class : (r : RunRow) → test_class (effect m tasks plans (way r)).test ≡ (planned_run start r).class

@@ -17,7 +17,7 @@ use Rattle.host_model.specs.declared.change.Change.{Change}
 use Rattle.host_model.specs.declared.change.Change.TheVariants.{Planned, Confirmed, Closed, Started, Ended, FreeHeard, AcceptHeard, Told as told_there, MaterialHeard, ResultHeard, Merged, Tried}
 use Rattle.host_model.specs.Grown.{AllEvolve, OtherEvolves, ArchiveEvolves, Evolves}
 use Rattle.host_model.specs.Effect.{archives_of, effect, states_due}
-use Rattle.host_model.proofs.Evolve.{Kept-refl, first_keeps, AllEvolve-refl, OtherEvolves-refl, ArchiveEvolves-refl, Evolves-refl, Evolves-trans}
+use Rattle.host_model.proofs.Evolve.{Remains-refl, first_keeps, AllEvolve-refl, OtherEvolves-refl, ArchiveEvolves-refl, Evolves-refl, Evolves-trans}
 
 others_same : (os : List Other) → AllEvolve OtherEvolves os os
 others_same os = AllEvolve-refl OtherEvolves OtherEvolves-refl os
@@ -39,25 +39,25 @@ or_else_evolves (x ∷ xs) ys j y e = archives_same (x ∷ xs) j y e
 
 -- ---- one step of a row's life each
 confirm_evolves : (m : ℕ) (r : RunRow) → Evolves r (confirm_row m r)
-confirm_evolves m r = search (first_keeps, Kept-refl, others_same, archives_same)
+confirm_evolves m r = search (first_keeps, Remains-refl, others_same, archives_same)
 
 start_evolves : (m : ℕ) (r : RunRow) → Evolves r (start_row m r)
-start_evolves m r = search (first_keeps, Kept-refl, others_same, archives_same)
+start_evolves m r = search (first_keeps, Remains-refl, others_same, archives_same)
 
 end_evolves : (e : Ending) (r : RunRow) → Evolves r (end_row e r)
-end_evolves e r = search (first_keeps, Kept-refl, others_same, archives_same)
+end_evolves e r = search (first_keeps, Remains-refl, others_same, archives_same)
 
 pub close_evolves : (c : Closing) (r : RunRow) → Evolves r (close_row c r)
-close_evolves c r = search (first_keeps, Kept-refl, others_same, archives_same)
+close_evolves c r = search (first_keeps, Remains-refl, others_same, archives_same)
 
 accept_evolves : (m : ℕ) (s : Span) (tool : List ℕ) (r : RunRow) → Evolves r (accept_row m s tool r)
-accept_evolves m s tool r = search (first_keeps, Kept-refl, others_same, archives_same)
+accept_evolves m s tool r = search (first_keeps, Remains-refl, others_same, archives_same)
 
 material_evolves : (m : ℕ) (r : RunRow) → Evolves r (material_row m r)
-material_evolves m r = search (first_keeps, Kept-refl, others_same, archives_same)
+material_evolves m r = search (first_keeps, Remains-refl, others_same, archives_same)
 
 merge_evolves : (states : List ArchiveState) (body : List ℕ) (r : RunRow) → Evolves r (merge_row states body r)
-merge_evolves states body r = search (first_keeps, Kept-refl, others_same, or_else_evolves)
+merge_evolves states body r = search (first_keeps, Remains-refl, others_same, or_else_evolves)
 
 confirmed_if_evolves : (test : Bool) (m : ℕ) (r : RunRow) → Evolves r (confirmed_if test m r)
 confirmed_if_evolves true m r = confirm_evolves m r
@@ -71,18 +71,18 @@ with_others r os up = record {
   priority = refl;
   participants = refl;
   asker = refl;
-  tool = Kept-refl r.tool;
-  interval = Kept-refl r.interval;
-  accepted = Kept-refl r.accepted;
-  confirmed = Kept-refl r.confirmed;
-  started = Kept-refl r.started;
-  ended = Kept-refl r.ended;
-  material = Kept-refl r.material;
-  closed = Kept-refl r.closed;
-  question = Kept-refl r.question;
-  asked = Kept-refl r.asked;
+  tool = Remains-refl r.tool;
+  interval = Remains-refl r.interval;
+  accepted = Remains-refl r.accepted;
+  confirmed = Remains-refl r.confirmed;
+  started = Remains-refl r.started;
+  ended = Remains-refl r.ended;
+  material = Remains-refl r.material;
+  closed = Remains-refl r.closed;
+  question = Remains-refl r.question;
+  asked = Remains-refl r.asked;
   others = up;
-  merged = Kept-refl r.merged;
+  merged = Remains-refl r.merged;
   archives = archives_same r.archives;
 }
 
@@ -91,18 +91,18 @@ other_evolves f up zero r = Evolves-refl r
 other_evolves f up (suc i) r = with_others r (change_at f i r.others) (change_at_evolves OtherEvolves OtherEvolves-refl f i r.others (λ o e. up o))
 
 free_up : (a : FreeAnswer) (o : Other) → OtherEvolves o (with_free a o)
-free_up a o = record { free = first_keeps o.free (Some a); accepted = λ e. e; confirm_told = λ e. e; cancel_told = λ e. e; material_told = λ e. e; heard = Kept-refl o.heard }
+free_up a o = record { free = first_keeps o.free (Some a); accepted = λ e. e; confirm_told = λ e. e; cancel_told = λ e. e; material_told = λ e. e; heard = Remains-refl o.heard }
 
 acceptance_up : (o : Other) → OtherEvolves o (with_acceptance o)
-acceptance_up o = record { free = Kept-refl o.free; accepted = λ e. refl; confirm_told = λ e. e; cancel_told = λ e. e; material_told = λ e. e; heard = Kept-refl o.heard }
+acceptance_up o = record { free = Remains-refl o.free; accepted = λ e. refl; confirm_told = λ e. e; cancel_told = λ e. e; material_told = λ e. e; heard = Remains-refl o.heard }
 
 told_up : (t : Told) (o : Other) → OtherEvolves o (with_told t o)
-told_up Confirm o = record { free = Kept-refl o.free; accepted = λ e. e; confirm_told = λ e. refl; cancel_told = λ e. e; material_told = λ e. e; heard = Kept-refl o.heard }
-told_up Cancel o = record { free = Kept-refl o.free; accepted = λ e. e; confirm_told = λ e. e; cancel_told = λ e. refl; material_told = λ e. e; heard = Kept-refl o.heard }
-told_up Material o = record { free = Kept-refl o.free; accepted = λ e. e; confirm_told = λ e. e; cancel_told = λ e. e; material_told = λ e. refl; heard = Kept-refl o.heard }
+told_up Confirm o = record { free = Remains-refl o.free; accepted = λ e. e; confirm_told = λ e. refl; cancel_told = λ e. e; material_told = λ e. e; heard = Remains-refl o.heard }
+told_up Cancel o = record { free = Remains-refl o.free; accepted = λ e. e; confirm_told = λ e. e; cancel_told = λ e. refl; material_told = λ e. e; heard = Remains-refl o.heard }
+told_up Material o = record { free = Remains-refl o.free; accepted = λ e. e; confirm_told = λ e. e; cancel_told = λ e. e; material_told = λ e. refl; heard = Remains-refl o.heard }
 
 result_up : (t : Option (List ℕ)) (o : Other) → OtherEvolves o (with_result t o)
-result_up t o = record { free = Kept-refl o.free; accepted = λ e. e; confirm_told = λ e. e; cancel_told = λ e. e; material_told = λ e. e; heard = first_keeps o.heard (Some t) }
+result_up t o = record { free = Remains-refl o.free; accepted = λ e. e; confirm_told = λ e. e; cancel_told = λ e. e; material_told = λ e. e; heard = first_keeps o.heard (Some t) }
 
 -- ---- every change
 -- an attempt at an archive goes on from its state
@@ -117,18 +117,18 @@ tried_evolves index s r up = record {
   priority = refl;
   participants = refl;
   asker = refl;
-  tool = Kept-refl r.tool;
-  interval = Kept-refl r.interval;
-  accepted = Kept-refl r.accepted;
-  confirmed = Kept-refl r.confirmed;
-  started = Kept-refl r.started;
-  ended = Kept-refl r.ended;
-  material = Kept-refl r.material;
-  closed = Kept-refl r.closed;
-  question = Kept-refl r.question;
-  asked = Kept-refl r.asked;
+  tool = Remains-refl r.tool;
+  interval = Remains-refl r.interval;
+  accepted = Remains-refl r.accepted;
+  confirmed = Remains-refl r.confirmed;
+  started = Remains-refl r.started;
+  ended = Remains-refl r.ended;
+  material = Remains-refl r.material;
+  closed = Remains-refl r.closed;
+  question = Remains-refl r.question;
+  asked = Remains-refl r.asked;
   others = others_same r.others;
-  merged = Kept-refl r.merged;
+  merged = Remains-refl r.merged;
   archives = change_at_evolves ArchiveEvolves ArchiveEvolves-refl (λ before. s) index r.archives up;
 }
 

@@ -3,17 +3,17 @@ use Rattle.std.proofs.Common.{◌≡◌, ◌≤◌, ℕ, List, Option, Some, Non
 use Rattle.archive_retry.specs.declared.state.ArchiveState.{ArchiveState}
 use Rattle.run_states.specs.declared.answer.Other.{Other}
 use Rattle.run_states.specs.declared.row.RunRow.{RunRow}
-use Rattle.run_states.specs.Life.{first}
+use Rattle.run_states.specs.Life.{first_there}
 use Rattle.run_states.specs.Purging.{later_of, rest_of}
-use Rattle.host_model.specs.Grown.{Kept, AllEvolve, OtherEvolves, ArchiveEvolves, Evolves}
+use Rattle.host_model.specs.Grown.{Remains, AllEvolve, OtherEvolves, ArchiveEvolves, Evolves}
 
-pub Kept-refl : {A : Type 0} (o : Option A) → Kept o o
-Kept-refl o a e = e
+pub Remains-refl : {A : Type 0} (o : Option A) → Remains o o
+Remains-refl o a e = e
 
-pub Kept-trans : {A : Type 0} (o p q : Option A) → Kept o p → Kept p q → Kept o q
-Kept-trans o p q f g a e = g a (f a e)
+pub Remains-trans : {A : Type 0} (o p q : Option A) → Remains o p → Remains p q → Remains o q
+Remains-trans o p q f g a e = g a (f a e)
 
-pub first_keeps : {A : Type 0} (o p : Option A) → Kept o (first o p)
+pub first_keeps : {A : Type 0} (o p : Option A) → Remains o (first_there o p)
 first_keeps None p a e = cc
 first_keeps (Some b) p a e = e
 
@@ -27,16 +27,16 @@ AllEvolve-trans E both xs ys zs f g i x e =
     (b.0, b.1, both x a.0 b.0 a.2 b.2)
 
 pub OtherEvolves-refl : (o : Other) → OtherEvolves o o
-OtherEvolves-refl o = record { free = Kept-refl o.free; accepted = λ e. e; confirm_told = λ e. e; cancel_told = λ e. e; material_told = λ e. e; heard = Kept-refl o.heard }
+OtherEvolves-refl o = record { free = Remains-refl o.free; accepted = λ e. e; confirm_told = λ e. e; cancel_told = λ e. e; material_told = λ e. e; heard = Remains-refl o.heard }
 
 pub OtherEvolves-trans : (o p q : Other) → OtherEvolves o p → OtherEvolves p q → OtherEvolves o q
 OtherEvolves-trans o p q f g = record {
-  free = Kept-trans o.free p.free q.free f.free g.free;
+  free = Remains-trans o.free p.free q.free f.free g.free;
   accepted = λ e. g.accepted (f.accepted e);
   confirm_told = λ e. g.confirm_told (f.confirm_told e);
   cancel_told = λ e. g.cancel_told (f.cancel_told e);
   material_told = λ e. g.material_told (f.material_told e);
-  heard = Kept-trans o.heard p.heard q.heard f.heard g.heard;
+  heard = Remains-trans o.heard p.heard q.heard f.heard g.heard;
 }
 
 pub ArchiveEvolves-refl : (a : ArchiveState) → ArchiveEvolves a a
@@ -52,18 +52,18 @@ Evolves-refl r = record {
   priority = refl;
   participants = refl;
   asker = refl;
-  tool = Kept-refl r.tool;
-  interval = Kept-refl r.interval;
-  accepted = Kept-refl r.accepted;
-  confirmed = Kept-refl r.confirmed;
-  started = Kept-refl r.started;
-  ended = Kept-refl r.ended;
-  material = Kept-refl r.material;
-  closed = Kept-refl r.closed;
-  question = Kept-refl r.question;
-  asked = Kept-refl r.asked;
+  tool = Remains-refl r.tool;
+  interval = Remains-refl r.interval;
+  accepted = Remains-refl r.accepted;
+  confirmed = Remains-refl r.confirmed;
+  started = Remains-refl r.started;
+  ended = Remains-refl r.ended;
+  material = Remains-refl r.material;
+  closed = Remains-refl r.closed;
+  question = Remains-refl r.question;
+  asked = Remains-refl r.asked;
   others = AllEvolve-refl OtherEvolves OtherEvolves-refl r.others;
-  merged = Kept-refl r.merged;
+  merged = Remains-refl r.merged;
   archives = AllEvolve-refl ArchiveEvolves ArchiveEvolves-refl r.archives;
 }
 
@@ -74,27 +74,27 @@ Evolves-trans r s t f g = record {
   priority = g.priority ∙ f.priority;
   participants = g.participants ∙ f.participants;
   asker = g.asker ∙ f.asker;
-  tool = Kept-trans r.tool s.tool t.tool f.tool g.tool;
-  interval = Kept-trans r.interval s.interval t.interval f.interval g.interval;
-  accepted = Kept-trans r.accepted s.accepted t.accepted f.accepted g.accepted;
-  confirmed = Kept-trans r.confirmed s.confirmed t.confirmed f.confirmed g.confirmed;
-  started = Kept-trans r.started s.started t.started f.started g.started;
-  ended = Kept-trans r.ended s.ended t.ended f.ended g.ended;
-  material = Kept-trans r.material s.material t.material f.material g.material;
-  closed = Kept-trans r.closed s.closed t.closed f.closed g.closed;
-  question = Kept-trans r.question s.question t.question f.question g.question;
-  asked = Kept-trans r.asked s.asked t.asked f.asked g.asked;
+  tool = Remains-trans r.tool s.tool t.tool f.tool g.tool;
+  interval = Remains-trans r.interval s.interval t.interval f.interval g.interval;
+  accepted = Remains-trans r.accepted s.accepted t.accepted f.accepted g.accepted;
+  confirmed = Remains-trans r.confirmed s.confirmed t.confirmed f.confirmed g.confirmed;
+  started = Remains-trans r.started s.started t.started f.started g.started;
+  ended = Remains-trans r.ended s.ended t.ended f.ended g.ended;
+  material = Remains-trans r.material s.material t.material f.material g.material;
+  closed = Remains-trans r.closed s.closed t.closed f.closed g.closed;
+  question = Remains-trans r.question s.question t.question f.question g.question;
+  asked = Remains-trans r.asked s.asked t.asked f.asked g.asked;
   others = AllEvolve-trans OtherEvolves OtherEvolves-trans r.others s.others t.others f.others g.others;
-  merged = Kept-trans r.merged s.merged t.merged f.merged g.merged;
+  merged = Remains-trans r.merged s.merged t.merged f.merged g.merged;
   archives = AllEvolve-trans ArchiveEvolves ArchiveEvolves-trans r.archives s.archives t.archives f.archives g.archives;
 }
 
 -- ---- the rest never falls ----
-kept_map : {A B : Type 0} (f : A → B) (o p : Option A) → Kept o p → Kept (option_map f o) (option_map f p)
+kept_map : {A B : Type 0} (f : A → B) (o p : Option A) → Remains o p → Remains (option_map f o) (option_map f p)
 kept_map f None p kept b e = cc
 kept_map f (Some a) p kept b e = ap (option_map f) (kept a refl) ∙ e
 
-later_up : (o p : Option ℕ) (m n : ℕ) → Kept o p → m ≤ n → later_of o m ≤ later_of p n
+later_up : (o p : Option ℕ) (m n : ℕ) → Remains o p → m ≤ n → later_of o m ≤ later_of p n
 later_up None None m n kept le = le
 later_up None (Some b) m n kept le = omega arith
 later_up (Some a) None m n kept le = let e : None ≡ Some a = kept a refl in cc

@@ -15,7 +15,7 @@ use Rattle.plugin_core.specs.Participants.{is_named, participants}
 use Rattle.plugin_core.specs.TestSpec.{test_class}
 use Rattle.run_states.specs.Conflict.{blocks, in_conflict}
 use Rattle.run_states.specs.Content.{kept_proposal, same_content}
-use Rattle.run_states.specs.Life.{first}
+use Rattle.run_states.specs.Life.{first_there}
 use Rattle.run_states.specs.Preemption.{firm_conflict, yields}
 use Rattle.run_states.specs.Rows.{IsAscendingRows, find_row}
 use Rattle.run_states.specs.declared.proposal.Proposal.{Proposal}
@@ -35,7 +35,7 @@ use Rattle.host_model.proofs.Placed.{find_row-key}
 use Rattle.host_model.proofs.RowTests.{GivesWay, rows_decided, way_decided}
 
 -- ---- reasons one after another
-none_first : {A : Type 0} (o p : Option A) → is_none (first o p) ≡ (is_none o && is_none p)
+none_first : {A : Type 0} (o p : Option A) → is_none (first_there o p) ≡ (is_none o && is_none p)
 none_first None p = refl
 none_first (Some a) p = refl
 
@@ -106,7 +106,7 @@ module _ (p : Proposal) (m : ℕ) where
 unless_decided : {P : Type 0} (b : Bool) (d : Denial) → Decides b P → Decides (is_none (unless b d)) P
 unless_decided b d decides = Decides-at _ b (none_unless b d) decides
 
-first_decided : {P Q A : Type 0} (o p : Option A) → Decides (is_none o) P → Decides (is_none p) Q → Decides (is_none (first o p)) (P × Q)
+first_decided : {P Q A : Type 0} (o p : Option A) → Decides (is_none o) P → Decides (is_none p) Q → Decides (is_none (first_there o p)) (P × Q)
 first_decided o p left right = Decides-at _ (is_none o && is_none p) (none_first o p) (Decides-and (is_none o) (is_none p) left right)
 
 module _ (place : Place) (rows : List RunRow) (m : ℕ) (p : Proposal) (up : IsAscendingRows rows) where

@@ -7,7 +7,7 @@ use Rattle.ps_time.specs.declared.asker.Verdict.{Verdict}
 use Rattle.ps_time.specs.declared.asker.Verdict.TheVariants.{Permitted, Stopped, Exhausted, AboveCeiling}
 use Rattle.plugin_core.specs.declared.test_spec.TestSpec.{TestSpec}
 use Rattle.limit_apply.specs.Application.{passes}
-use Rattle.limit_apply.specs.Limits.{Config as Limits, below_ceiling, ceiling_of, first_verdict, holds_at, permits_of, verdict_at, written_from}
+use Rattle.limit_apply.specs.Limits.{LimitsConfig as Limits, below_ceiling, ceiling_of, first_verdict, holds_at, permits_of, verdict_at, written_from}
 use Rattle.limit_apply.specs.declared.application.Application.{Application}
 use Rattle.host_model.specs.Granting.{Grants}
 

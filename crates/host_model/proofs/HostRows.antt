@@ -11,7 +11,7 @@ use Rattle.archive_retry.specs.declared.state.ArchiveState.{ArchiveState}
 use Rattle.run_states.specs.Conflict.{in_conflict}
 use Rattle.run_states.specs.Effect.{accept_row, change_at, change_other, confirmed_if, is_alone, is_complete, material_row, merge_row, or_else, tried_row, with_acceptance, with_free, with_result, with_told}
 use Rattle.run_states.specs.LawfulRow.{HasArchives, IsDueInTime, IsFreeAnswer, IsLawfulRow, IsWhy}
-use Rattle.run_states.specs.Life.{close_row, confirm_row, end_row, first, is_booked, may_take, start_row}
+use Rattle.run_states.specs.Life.{close_row, confirm_row, end_row, first_there, is_booked, may_take, start_row}
 use Rattle.run_states.specs.Preemption.{Incoming, give_way, planned_span}
 use Rattle.run_states.specs.declared.answer.Answer.TheVariants.{Free, Accepted as accepts, Acknowledged, Result}
 use Rattle.run_states.specs.declared.answer.Other.{Other}
@@ -146,7 +146,7 @@ no_archives r None has e = has
 no_archives r (Some text) has e = cc
 
 merged_merged : (self m : ℕ) (archives : List Archive) (body : List ℕ) (r : RunRow) (o : Option (List ℕ)) → HasStates self archives r o → (o ≡ None → r.archives ≡ []) → r.key.lead ≡ self →
-    HasStates self archives (merge_row (states_due m archives) body r) (first o (Some body))
+    HasStates self archives (merge_row (states_due m archives) body r) (first_there o (Some body))
 merged_merged self m archives body r None was empty led = (led, ap (λ xs. length (or_else xs (states_due m archives))) (empty refl) ∙ length_due m archives)
 merged_merged self m archives body r (Some text) was empty led = (was.0, length_or_else (length archives) r.archives (states_due m archives) was.1 (length_due m archives))
 

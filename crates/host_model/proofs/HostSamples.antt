@@ -13,7 +13,7 @@ use Rattle.plugin_core.specs.declared.test_spec.TestSpec.{TestSpec}
 use Rattle.plugin_core.specs.TestSpec.{sleep_of}
 use Rattle.plugin_core.specs.declared.test_spec.TestSpec.TheVariants.{Idle, Idlemany}
 use Rattle.limit_apply.specs.Open.{open_config}
-use Rattle.run_states.specs.Life.{first}
+use Rattle.run_states.specs.Life.{first_there}
 use Rattle.run_states.specs.declared.proposal.Proposal.{Proposal}
 use Rattle.run_states.specs.declared.proposal.Question.{Question}
 use Rattle.run_states.specs.declared.row.RunRow.{RunRow}

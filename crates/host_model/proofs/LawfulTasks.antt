@@ -5,9 +5,9 @@ use Rattle.std.proofs.Common.{◌≡◌, ◌≤◌, ◌<◌, ◌+◌, ℕ, zero,
 use Rattle.std.proofs.lemmas.List.{length-map}
 use Rattle.std.proofs.lemmas.List.Elements.{All-map, All-push, All-weaker}
 use Rattle.ps_time.specs.Numbers.{most_tasks}
-use Rattle.limit_apply.specs.Limits.{Config as Limits}
+use Rattle.limit_apply.specs.Limits.{LimitsConfig as Limits}
 use Rattle.limit_apply.specs.Read.{IsKept}
-use Rattle.run_states.specs.Life.{first}
+use Rattle.run_states.specs.Life.{first_there}
 use Rattle.run_states.specs.LawfulRow.{IsUpTo}
 use Rattle.host_model.specs.Apply.{close_task, epochs_after, tasks_after}
 use Rattle.host_model.specs.Lawful.{IsLawfulTask}
@@ -37,12 +37,12 @@ abbrev pub SuitsTasks : ℕ → List TaskRow → Change → Type 0
 SuitsTasks m tasks (Posted t) = IsNext m tasks t
 SuitsTasks m tasks c = Unit {0}
 
-closed_upto : (m : ℕ) (o : Option ℕ) → IsUpTo m o → IsUpTo m (first o (Some m))
+closed_upto : (m : ℕ) (o : Option ℕ) → IsUpTo m o → IsUpTo m (first_there o (Some m))
 closed_upto m None up = omega arith
 closed_upto m (Some x) up = up
 
 closed_lawful : (m serial : ℕ) (t : TaskRow) → IsLawfulTask m t → IsLawfulTask m (close_task m serial t)
-closed_lawful m serial t lawful = elim (t.serial == serial) as (λ b. IsLawfulTask m (cond b (record t { closed = first t.closed (Some m) }) t)) [
+closed_lawful m serial t lawful = elim (t.serial == serial) as (λ b. IsLawfulTask m (cond b (record t { closed = first_there t.closed (Some m) }) t)) [
   | true ↦ record { task = lawful.task; posted = lawful.posted; closed = closed_upto m t.closed lawful.closed }
   | false ↦ lawful
 ]

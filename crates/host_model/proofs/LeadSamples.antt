@@ -12,7 +12,7 @@ use Rattle.ps_time.specs.declared.key.RunKey.{RunKey}
 use Rattle.schedule_rule.specs.Rule.{first_from}
 use Rattle.archive_retry.specs.Retry.{due_from}
 use Rattle.archive_retry.specs.declared.state.ArchiveState.{ArchiveState}
-use Rattle.limit_apply.specs.Limits.{Config as Limits}
+use Rattle.limit_apply.specs.Limits.{LimitsConfig as Limits}
 use Rattle.limit_apply.specs.Open.{open_config}
 use Rattle.limit_rule.specs.declared.limit.Rule.TheVariants.{PassFail}
 use Rattle.run_states.specs.declared.answer.FreeAnswer.{FreeAnswer}

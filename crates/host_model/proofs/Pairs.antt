@@ -9,7 +9,7 @@ use Rattle.ps_time.specs.declared.asker.Asker.{Asker}
 use Rattle.ps_time.specs.declared.key.RunKey.{RunKey}
 use Rattle.ps_time.proofs.KeyLemmas.{key_cmp_total}
 use Rattle.ps_time.proofs.SortedLemmas.{ascending-map}
-use Rattle.limit_apply.specs.Limits.{Config as Limits}
+use Rattle.limit_apply.specs.Limits.{LimitsConfig as Limits}
 use Rattle.run_states.specs.Rows.{find_row, put_row, IsAscendingRows}
 use Rattle.run_states.specs.declared.proposal.Proposal.{Proposal}
 use Rattle.run_states.specs.declared.proposal.Question.{Question}

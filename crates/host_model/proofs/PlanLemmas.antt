@@ -13,7 +13,7 @@ use Rattle.run_states.specs.declared.row.RunRow.{RunRow}
 use Rattle.slot_search.specs.CommonStart.{choice_of, earliest, in_all_first, in_all_second}
 use Rattle.slot_search.specs.declared.search.Choice.{Choice}
 use Rattle.host_model.specs.FreeTier.{IsIn}
-use Rattle.host_model.specs.Plan.{answers_of, common_start, from_now, plan, planned_at, planned_with}
+use Rattle.host_model.specs.Plan.{answers_of, common_start, startable_window, plan, planned_at, planned_with}
 use Rattle.host_model.specs.declared.lead.Planned.TheVariants.{At}
 
 -- what is found among moments in a row is one of them
@@ -53,7 +53,7 @@ module _ (wanted : List (List ℕ)) (r : RunRow) (own : FreeAnswer) (m : ℕ) (s
   common_inside : (answers : List FreeAnswer) (o : Option Range) → r.question ≡ o → (c : Choice) → common_start m o answers ≡ Some c → c.start ≡ start → StartsInside
   common_inside answers None e c f same = cc
   common_inside answers (Some w) e c f same =
-      let x = earliest_within (from_now m w) (map (λ a. a.tiers) answers) c f in
+      let x = earliest_within (startable_window m w) (map (λ a. a.tiers) answers) c f in
       (w, e, (omega (arith, x.0, same), omega (arith, x.1, same)), omega (arith, x.0, same))
 
   with_start : (answers : List FreeAnswer) (o : Option Tool) → planned_with m r.question answers o ≡ At start tool → StartsInside

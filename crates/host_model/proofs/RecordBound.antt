@@ -24,7 +24,7 @@ use Rattle.plugin_core.specs.declared.test_spec.TestSpec.{TestSpec}
 use Rattle.plugin_core.proofs.LengthLemmas.{test_short}
 use Rattle.archive_retry.specs.Retry.{is_due, state_after}
 use Rattle.archive_retry.specs.declared.state.ArchiveState.{ArchiveState}
-use Rattle.limit_apply.specs.Limits.{admits_of, ceiling_of, Config as Limits}
+use Rattle.limit_apply.specs.Limits.{admits_of, ceiling_of, LimitsConfig as Limits}
 use Rattle.limit_apply.specs.Read.{IsKept}
 use Rattle.run_states.specs.Life.{is_active, is_booked}
 use Rattle.run_states.specs.Rows.{find_row}

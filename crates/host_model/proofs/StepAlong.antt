@@ -9,7 +9,7 @@ use Rattle.ps_time.specs.Numbers.{most_epochs, most_tasks}
 use Rattle.plugin_core.specs.Participants.{is_named, participants}
 use Rattle.archive_retry.specs.Retry.{is_due, state_after}
 use Rattle.archive_retry.specs.declared.state.ArchiveState.{ArchiveState}
-use Rattle.limit_apply.specs.Limits.{Config as Limits, admits_of}
+use Rattle.limit_apply.specs.Limits.{LimitsConfig as Limits, admits_of}
 use Rattle.run_states.specs.Life.{is_active, is_booked}
 use Rattle.run_states.specs.Rows.{find_row}
 use Rattle.run_states.specs.TaskRows.{greatest_number}

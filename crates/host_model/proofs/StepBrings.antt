@@ -2,7 +2,7 @@
 use Rattle.std.proofs.Common.{◌≡◌, ℕ, Bool, true, false, cond, List, is_some, subst}
 use Rattle.ps_time.specs.declared.key.RunKey.{RunKey}
 use Rattle.ps_time.proofs.PictureLemmas.{and_true}
-use Rattle.limit_apply.specs.Limits.{Config as Limits}
+use Rattle.limit_apply.specs.Limits.{LimitsConfig as Limits}
 use Rattle.limit_apply.specs.Read.{IsKept}
 use Rattle.run_states.specs.LawfulRow.{IsDenial, IsWhy}
 use Rattle.run_states.specs.declared.answer.Other.{Other}

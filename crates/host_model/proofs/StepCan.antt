@@ -23,7 +23,7 @@ use Rattle.host_model.specs.Collect.{hear_material}
 use Rattle.host_model.specs.LawfulRow.{IsHostRow}
 use Rattle.host_model.specs.declared.order.Order.{Order}
 use Rattle.host_model.specs.declared.order.PeerAnswer.{PeerAnswer}
-use Rattle.limit_apply.specs.Limits.{Config as Limits}
+use Rattle.limit_apply.specs.Limits.{LimitsConfig as Limits}
 use Rattle.host_model.specs.Epochs.{open_host, set_limits}
 use Rattle.task_spec.specs.declared.task.Task.{Task}
 use Rattle.host_model.specs.Post.{cancel, post}

@@ -9,7 +9,7 @@ use Rattle.ps_time.specs.declared.asker.Verdict.{Verdict}
 use Rattle.ps_time.specs.declared.asker.Verdict.TheVariants.{Permitted}
 use Rattle.ps_time.specs.declared.class.Class.{Class}
 use Rattle.ps_time.specs.declared.key.RunKey.{RunKey}
-use Rattle.limit_apply.specs.Limits.{Config as Limits, admits_of}
+use Rattle.limit_apply.specs.Limits.{LimitsConfig as Limits, admits_of}
 use Rattle.run_states.specs.Life.{is_active, is_booked}
 use Rattle.run_states.specs.Rows.{IsAscendingRows, find_row}
 use Rattle.run_states.specs.TaskRows.{greatest_number}

@@ -6,7 +6,7 @@ use Rattle.std.proofs.lemmas.List.Elements.{All-weaker}
 use Rattle.archive_retry.specs.Bounds.{IsStateOf}
 use Rattle.archive_retry.specs.declared.state.ArchiveState.{ArchiveState}
 use Rattle.run_states.specs.LawfulRow.{HasArchives}
-use Rattle.run_states.specs.Life.{first}
+use Rattle.run_states.specs.Life.{first_there}
 use Rattle.run_states.specs.declared.row.RunRow.{RunRow}
 use Rattle.task_spec.specs.declared.task.Archive.{Archive}
 use Rattle.host_model.specs.Apply.{close_task, tasks_after}
@@ -70,7 +70,7 @@ closed_there m serial None none = none
 closed_there m serial (Some t) some = refl
 
 closed_task_same : (m serial : ℕ) (t : TaskRow) → (close_task m serial t).task ≡ t.task
-closed_task_same m serial t = elim (t.serial == serial) as (λ b. (cond b (record t { closed = first t.closed (Some m) }) t).task ≡ t.task) [ true ↦ refl | false ↦ refl ]
+closed_task_same m serial t = elim (t.serial == serial) as (λ b. (cond b (record t { closed = first_there t.closed (Some m) }) t).task ≡ t.task) [ true ↦ refl | false ↦ refl ]
 
 closed_archives : (m serial : ℕ) (tasks : List TaskRow) (r : RunRow) → archives_of (map (close_task m serial) tasks) r.key ≡ archives_of tasks r.key
 closed_archives m serial tasks r = go (find_task tasks r.key.task) refl

@@ -17,7 +17,7 @@ use Rattle.plugin_core.specs.declared.test_spec.TestSpec.{TestSpec}
 use Rattle.plugin_core.specs.declared.test_spec.TestSpec.TheVariants.{Idle, Idlebgm, Idleex, Idlemany, Simplestream}
 use Rattle.archive_retry.specs.Merge.{IsTreeText}
 use Rattle.run_states.specs.LawfulRow.{IsDenial, IsOther, IsResult, IsWindow}
-use Rattle.run_states.specs.Life.{first}
+use Rattle.run_states.specs.Life.{first_there}
 use Rattle.run_states.specs.ResultBytes.{other_result, own_result}
 use Rattle.run_states.specs.Rows.{find_row}
 use Rattle.run_states.specs.declared.answer.FreeAnswer.{FreeAnswer}
@@ -53,7 +53,7 @@ use Rattle.host_model.proofs.WalkLemmas.{AllAlong, turn_along}
 use Rattle.host_model.proofs.Wishes.{end_granted, merge_granted, plan_granted, purge_granted, restart_granted, start_granted}
 
 -- ---- what the lead itself objects is within bounds
-first_denial : (o p : Option Denial) → IfSome o IsDenial → IfSome p IsDenial → IfSome (first o p) IsDenial
+first_denial : (o p : Option Denial) → IfSome o IsDenial → IfSome p IsDenial → IfSome (first_there o p) IsDenial
 first_denial None p one other = other
 first_denial (Some d) p one other = one
 

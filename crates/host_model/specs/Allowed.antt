@@ -7,6 +7,8 @@ use Rattle.host_model.specs.FreeTier.{IsIn}
 use Rattle.host_model.specs.declared.lead.Attempt.{Attempt}
 
 -- run number k may start at s; an absent bound holds
+-- The test is `is_allowed`, of `Rule` in `schedule_rule`: see `allowed_decided` of `proofs/AllowedLemmas`; the starts are those of
+-- `window_of` there: see `window_allowed` and `allowed_in_window`.
 pub record IsAllowed (rule : Schedule) (k s : ℕ) : Type 0 where
   -- without a repeat there is number 0 alone
   pub repeated : (k ≡ 0) ⊎ IsSome rule.repeat
@@ -18,5 +20,6 @@ pub record IsAllowed (rule : Schedule) (k s : ℕ) : Type 0 where
   pub kept : s ≤ greatest_moment
 
 -- each start of the window that an attempt asks about is allowed to its number
+-- Each attempt of `next_attempt`, of `NextAttempt`, does: see `attempt_allowed` of `proofs/AllowedLemmas`.
 abbrev pub AsksAllowed : Schedule → Attempt → Type 0
 AsksAllowed rule a = (s : ℕ) → IsIn a.window s → IsAllowed rule a.number s

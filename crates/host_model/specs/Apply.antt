@@ -1,10 +1,36 @@
 -- What changes do to a book. Each of its parts changes for itself; only a merging looks at the tasks.
+--
+-- Where to read of each change. Three tables have a line for every change: `MayFollow.CanApply` (what has to stand in the
+-- book before it), `Effect.change_key` (the row that it is about) and `RecordLength.fields_bytes` (its length in a record).
+-- Beside these, and without a file's name in this one:
+-- Posted: made by `Post.posted`; the task comes in `tasks_after`.
+-- TaskClosed: made by `Post.close_unless`; the task is closed by `close_task` in `tasks_after`.
+-- Accepted: made by `Propose.decided_outcome` and `Booking.booking_outcome`; its row is `NewRow.accepted_row`, what gives
+--   way to it is told by `Preemption.incoming`, its epoch is kept by `new_pair`, and `Granting.AcceptsGranted` says that
+--   the limits permit it.
+-- Asked: made by `NextAttempt.asked_change`; its row is `NewRow.asked_row`.
+-- Planned: made by `Plan.unless_objected`; `Effect.effect` accepts its row, and confirms it where the lead is alone; what
+--   gives way is told by `Preemption.incoming`, its epoch is kept by `new_pair`, and `Granting.AcceptsGranted` says that
+--   the limits permit it.
+-- Confirmed: made by `Confirm.confirm_changes` and `Booking.booking_outcome`; `Effect.effect` marks the row.
+-- Closed: made by `Confirm.drop_changes`, `Post.cancel_run`, `Heard.changes_of_move`, and in `Plan` by `unless_objected`,
+--   `change_of_plan` and `plan_asked`; `Effect.effect` closes the row.
+-- Started: made by `Starting.start_run`; `Effect.effect` marks the row.
+-- Ended: made by `Ending.ended_with`; `Effect.effect` keeps the result.
+-- FreeHeard, AcceptHeard, Told, ResultHeard: made by `Heard.fact_of`; `Effect.effect` keeps what is known of the
+--   participant, and confirms the row with the last acceptance.
+-- MaterialHeard: made by `Collect.heard_material`; `Effect.effect` marks the row.
+-- Merged: made by `Merging.merge_run`; `Effect.effect` keeps the text, and the archives of the task (`Effect.archives_of`)
+--   are due from then on (`Effect.states_due`).
+-- Tried: made by `Archives.tried_to`; `Effect.effect` keeps the archive's new state.
+-- LimitsSet: made by `Epochs.set_limits` and `Epochs.first_limits`; the epoch comes in `epochs_after`.
+-- Purged: made by `Purging.purge_run`; by `purged_key` the row goes in `without_row`, and its pair in `without_pair`.
 use Rattle.std.specs.Prelude.{◌++◌, ◌==◌, ◌∷◌, List, None, Option, Some, [], if◌then◌else◌, is_some, map, ℕ}
 use Rattle.ps_time.specs.Key.{key_cmp}
 use Rattle.ps_time.specs.Sorted.{insert_key, without_key}
 use Rattle.ps_time.specs.declared.key.RunKey.{RunKey}
-use Rattle.limit_apply.specs.Limits.{Config as Limits}
-use Rattle.run_states.specs.Life.{first, settled_rows}
+use Rattle.limit_apply.specs.Limits.{LimitsConfig as Limits}
+use Rattle.run_states.specs.Life.{first_there, settled_rows}
 use Rattle.run_states.specs.Rows.{find_row, lift_row, put_row}
 use Rattle.run_states.specs.declared.row.RunRow.{RunRow}
 use Rattle.run_states.specs.Preemption.{give_way}
@@ -60,7 +86,7 @@ pairs_after c pairs = without_pair (purged_key c) (put_pair (new_pair c) pairs)
 
 -- ---- the tasks and the epochs: nothing of them goes
 abbrev pub close_task : ℕ → ℕ → TaskRow → TaskRow
-close_task m serial t = if t.serial == serial then record t { closed = first t.closed (Some m) } else t
+close_task m serial t = if t.serial == serial then record t { closed = first_there t.closed (Some m) } else t
 
 -- a posted task is the last one; a closed one keeps the moment at which it was closed first
 abbrev pub tasks_after : ℕ → Change → List TaskRow → List TaskRow

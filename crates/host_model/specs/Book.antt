@@ -3,7 +3,7 @@ use Rattle.std.specs.Prelude.{◌==◌, ◌∷◌, List, Option, [], find, lengt
 use Rattle.ps_time.specs.Key.{key_cmp}
 use Rattle.ps_time.specs.Sorted.{find_key}
 use Rattle.ps_time.specs.declared.key.RunKey.{RunKey}
-use Rattle.limit_apply.specs.Limits.{Config as Limits}
+use Rattle.limit_apply.specs.Limits.{LimitsConfig as Limits}
 use Rattle.run_states.specs.declared.row.RunRow.{RunRow}
 use Rattle.host_model.specs.declared.config.Config.{Config}
 use Rattle.host_model.specs.declared.task_row.TaskRow.{TaskRow}

@@ -1,4 +1,9 @@
--- A booking: a run of a host for itself.
+-- A booking: a run of a host for itself. The entry is `book_run`, the last one here. Its steps, in their order:
+-- 1. its number is one more than the greatest; after the last one it is denied as Full;
+-- 2. `booking`: what the host proposes to itself (`booking_key`, `booking_test`, `booking_tool`);
+-- 3. `booked_as`: the first reason of `denial_of`, of `Fits`, where the host leads and is the only participant;
+-- 4. `booking_outcome`: the reason denies it; without one it is accepted and confirmed at once.
+-- When it is accepted is said in words of rows: see `booking_accepted` of `proofs/AnswerLemmas`.
 use Rattle.std.specs.Prelude.{◌+◌, ◌==◌, ◌∷◌, List, None, Option, Some, [], codes, if◌then◌else◌, ℕ, ℤ}
 use Rattle.ps_time.specs.declared.class.Class.{Class}
 use Rattle.ps_time.specs.declared.class.Class.TheVariants.{BackgroundMulti, Background, Normal, Exclusive}

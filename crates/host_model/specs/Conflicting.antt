@@ -8,6 +8,7 @@ use Rattle.plugin_core.specs.TestSpec.{test_class}
 use Rattle.run_states.specs.declared.row.RunRow.{RunRow}
 
 -- the row is booked and reserves this interval, in conflict with a run of this class that wants that one
+-- The test is `blocks`, of `Conflict` in `run_states`: see `blocks_decided` of `proofs/RowTests`.
 pub record Conflicts (class : Class) (wanted : Span) (r : RunRow) (i : Span) : Type 0 where
   pub accepted : IsSome r.accepted
   pub unclosed : r.closed ≡ None
@@ -19,6 +20,7 @@ pub record Conflicts (class : Class) (wanted : Span) (r : RunRow) (i : Span) : T
   pub after_start : i.start < wanted.end
 
 -- a run of this priority may preempt the row, which reserves this interval, at m
+-- The test is `yields`, of `Preemption` in `run_states`: see `yields_decided` of `proofs/RowTests`.
 pub record MayPreempt (priority : ℤ) (m : ℕ) (r : RunRow) (i : Span) : Type 0 where
   pub lower : r.priority <ℤ priority
   pub waiting : r.started ≡ None

@@ -1,4 +1,4 @@
--- What a change does to the row of its key. What is set once stays: `first` keeps it.
+-- What a change does to the row of its key. What is set once stays: `first_there` keeps it.
 use Rattle.std.specs.Ordering.{is_eq}
 use Rattle.std.specs.Prelude.{Bool, List, None, Option, Some, [], false, if◌then◌else◌, map, ℕ}
 use Rattle.ps_time.specs.Key.{key_cmp}

@@ -2,7 +2,7 @@
 use Rattle.std.specs.List.{last_or}
 use Rattle.std.specs.Prelude.{◌&&◌, ◌+◌, ◌==◌, ◌∷◌, Bool, List, None, Option, Some, [], bytes_eq, false, if◌then◌else◌, length, nat_le, nat_lt, ℕ}
 use Rattle.ps_time.specs.Numbers.{most_epochs, most_limits_bytes}
-use Rattle.limit_apply.specs.Limits.{Config as Limits}
+use Rattle.limit_apply.specs.Limits.{LimitsConfig as Limits}
 use Rattle.host_model.specs.Book.{Book, latest_epoch}
 use Rattle.host_model.specs.Ending.{restart_run}
 use Rattle.host_model.specs.Propose.{answered}

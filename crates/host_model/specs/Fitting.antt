@@ -21,10 +21,12 @@ use Rattle.host_model.specs.declared.reply.Reply.{Reply}
 use Rattle.host_model.specs.declared.reply.Reply.TheVariants.{Accepted, Booked}
 
 -- each booked row of another run that is in conflict with this one may be preempted at m
+-- The test is that `firm_conflict` finds no row: see `way_free_decided` of `proofs/FitLemmas`.
 abbrev pub IsWayFree : List RunRow → ℕ → Proposal → Type 0
 IsWayFree rows m p = (k : RunKey) (r : RunRow) (i : Span) → k ≢ p.key → find_row rows k ≡ Some r → Conflicts (test_class p.test) (wanted_span p) r i → MayPreempt p.priority m r i
 
 -- the run fits at this host
+-- The test is `fits` of `Fits`, and the reasons are those of `denial_of` there: see `fits_exactly` of `proofs/FitLemmas`.
 pub record Fits (place : Place) (rows : List RunRow) (m : ℕ) (p : Proposal) : Type 0 where
   -- the host takes part
   pub participant : Contains (participants p.test place.lead) place.name
@@ -48,6 +50,7 @@ pub record StandsWith (rows : List RunRow) (p : Proposal) (names : List (List �
   pub participants : row.participants ≡ names
 
 -- it stands already, or no row has the key and it fits
+-- The test is `decide` of `Propose`: see `accepts_exactly` of `proofs/FitLemmas`.
 abbrev pub MayAccept : Place → List RunRow → ℕ → Proposal → Type 0
 MayAccept place rows m p = StandsWith rows p (participants p.test place.lead) ⊎ ((find_row rows p.key ≡ None) × Fits place rows m p)
 
@@ -58,6 +61,7 @@ IsAcceptance (Known accepted) = Unit {0}
 IsAcceptance (Denied denial) = ⊥
 
 -- the reply accepts a proposal or a booking
+-- When it does: see `proposal_accepted` and `booking_accepted` of `proofs/AnswerLemmas`.
 abbrev pub AcceptsRun : Reply → Type 0
 AcceptsRun (Accepted m) = Unit {0}
 AcceptsRun (Booked k preempted) = Unit {0}

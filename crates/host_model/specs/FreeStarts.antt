@@ -1,4 +1,10 @@
--- When a run could start: the starts without a conflict, and those whose conflicts can all be preempted.
+-- When a run could start: the starts without a conflict, and those whose conflicts can all be preempted. The entry is `free`,
+-- the last one here. Its steps, in their order:
+-- 1. `lead_name` and `for_lead`, of `Propose`: only the lead of the key is answered;
+-- 2. `free_here`: only a participant answers;
+-- 3. `free_answer`: the tools that run the test (`tools_here`), and the two tiers of starts (`free_tiers`), which
+--    `is_free` and `is_freeable` test.
+-- What a tier means in words of rows is said by `FreeTier`.
 use Rattle.std.specs.List.{list_all}
 use Rattle.std.specs.Prelude.{◌||◌, Bool, List, filter, if◌then◌else◌, not, ℕ, ℤ}
 use Rattle.ps_time.specs.Span.{Range, span_of}
@@ -24,14 +30,17 @@ use Rattle.host_model.specs.declared.reply.Reply.TheVariants.{Free, Denied}
 
 -- ---- the tests
 -- no booked row is in conflict with a run of this class and length that starts at s
+-- In words of rows it is `IsFreeStart` of `FreeTier`: see `free_decided` of `proofs/TierLemmas`.
 abbrev pub is_free : Class → ℕ → List RunRow → ℕ → Bool
 is_free class len rows s = list_all (λ r. not (blocks class (span_of s len) r)) rows
 
 -- each one that is in conflict can be preempted at m
+-- In words of rows it is `IsFreeableStart` of `FreeTier`: see `freeable_decided` of `proofs/TierLemmas`.
 abbrev pub is_freeable : Class → ℕ → ℤ → ℕ → List RunRow → ℕ → Bool
 is_freeable class len priority m rows s = list_all (λ r. not (blocks class (span_of s len) r) || yields priority m r) rows
 
 -- the starts in a window, over rows that are settled at m
+-- Each is an `IsTier` of `FreeTier`: see `free_tiers_are` of `proofs/TierLemmas`.
 abbrev pub free_tiers : Class → ℕ → ℤ → Range → ℕ → List RunRow → Tiers
 free_tiers class len priority w m rows = record {
   first = tier_of (is_free class len rows) w;

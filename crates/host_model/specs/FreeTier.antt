@@ -11,10 +11,12 @@ use Rattle.host_model.specs.Conflicting.{Conflicts, MayPreempt}
 
 -- ---- starts
 -- no booked row is in conflict with a run of this class and length that starts at s
+-- The test is `is_free` of `FreeStarts`: see `free_decided` of `proofs/TierLemmas`.
 abbrev pub IsFreeStart : Class → ℕ → List RunRow → ℕ → Type 0
 IsFreeStart class len rows s = (k : RunKey) (r : RunRow) (i : Span) → find_row rows k ≡ Some r → Conflicts class (span_of s len) r i → ⊥
 
 -- each one that is in conflict may be preempted at m by a run of this priority
+-- The test is `is_freeable` of `FreeStarts`: see `freeable_decided` of `proofs/TierLemmas`.
 abbrev pub IsFreeableStart : Class → ℕ → ℤ → ℕ → List RunRow → ℕ → Type 0
 IsFreeableStart class len priority m rows s = (k : RunKey) (r : RunRow) (i : Span) → find_row rows k ≡ Some r → Conflicts class (span_of s len) r i → MayPreempt priority m r i
 
@@ -39,6 +41,7 @@ EndBefore windows s = All (λ w. w.last + 1 < s) windows
 
 -- ---- tiers
 -- the first 128 of the maximal windows of the starts of w at which P holds
+-- The list is that of `tier_of`, of `Starts` in `ps_time`: see `tier_is` of `proofs/TierLemmas`.
 pub record IsTier (P : ℕ → Type 0) (w : Range) (tier : List Range) : Type 0 where
   -- each start in them is such a one
   pub sound : (s : ℕ) → IsTrue (lies_in tier s) → IsIn w s × P s
@@ -48,5 +51,6 @@ pub record IsTier (P : ℕ → Type 0) (w : Range) (tier : List Range) : Type 0 
   pub few : length tier ≤ most_intervals
 
 -- no start of w outside the windows, at which P holds, touches one of them
+-- Those of a tier are: see `tier_maximal` of `proofs/TierLemmas`.
 abbrev pub AreMaximal : (ℕ → Type 0) → Range → List Range → Type 0
 AreMaximal P w windows = (s : ℕ) → IsIn w s → P s → IsFalse (lies_in windows s) → All (λ x. (s ≢ x.last + 1) × (s + 1 ≢ x.first)) windows

@@ -6,7 +6,7 @@ use Rattle.ps_time.specs.declared.asker.Verdict.TheVariants.{Permitted}
 use Rattle.ps_time.specs.declared.key.RunKey.{RunKey}
 use Rattle.plugin_core.specs.declared.test_spec.TestSpec.{TestSpec}
 use Rattle.limit_apply.specs.Application.{passes}
-use Rattle.limit_apply.specs.Limits.{Config as Limits, ceiling_of, holds_at, permits_of}
+use Rattle.limit_apply.specs.Limits.{LimitsConfig as Limits, ceiling_of, holds_at, permits_of}
 use Rattle.limit_apply.specs.declared.application.Application.{Application}
 use Rattle.run_states.specs.Preemption.{planned_span}
 use Rattle.run_states.specs.Rows.{find_row}
@@ -22,6 +22,7 @@ abbrev pub IsGranted : Limits → Asker → TestSpec → Span → ℤ → Type 0
 IsGranted l asker test interval priority = (index : ℕ) × (permits_of l asker test interval priority ≡ Permitted index)
 
 -- what that verdict means: the application at this index takes part and passes, and none before it decides
+-- The verdict is that of `permits_of`, of `Limits` in `limit_apply`: see `granted_exactly` of `proofs/GrantLemmas`.
 pub record Grants (l : Limits) (asker : Asker) (test : TestSpec) (interval : Span) (priority : ℤ) (index : ℕ) : Type 0 where
   pub application : Application
   pub there : slice_get l.applications index ≡ Some application
@@ -49,6 +50,7 @@ pub record IsRowGranted (c : Config) (b : Book) (k : RunKey) (start epoch : ℕ)
   pub granted : IsGrantedUnder c b epoch row.asker row.test (planned_span start row) row.priority
 
 -- a change that accepts a run names the latest epoch, under which the run is granted at its priority
+-- Each change that a host makes does: see `proposal_granted`, `booking_granted` and `plan_granted` of `proofs/AnswerLemmas`.
 abbrev pub AcceptsGranted : Config → Book → Change → Type 0
 AcceptsGranted c b (Accepted p participants epoch) = (epoch ≡ latest_epoch b) × IsGrantedUnder c b epoch p.asker p.test (wanted_span p) p.priority
 AcceptsGranted c b (Planned k start tool epoch) = (epoch ≡ latest_epoch b) × IsRowGranted c b k start epoch

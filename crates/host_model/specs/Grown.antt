@@ -11,8 +11,8 @@ use Rattle.host_model.specs.Book.{Book, epoch_of, find_task}
 use Rattle.host_model.specs.declared.task_row.TaskRow.{TaskRow}
 
 -- what was there stays as it was
-abbrev pub Kept : {A : Type 0} → Option A → Option A → Type 0
-Kept {A} o p = (a : A) → o ≡ Some a → p ≡ Some a
+abbrev pub Remains : {A : Type 0} → Option A → Option A → Type 0
+Remains {A} o p = (a : A) → o ≡ Some a → p ≡ Some a
 
 -- a mark that was set stays
 abbrev pub Stays : Bool → Bool → Type 0
@@ -24,12 +24,12 @@ AllEvolve {A} E xs ys = (i : ℕ) (x : A) → slice_get xs i ≡ Some x → (y :
 
 -- what is known of another participant stays known
 pub record OtherEvolves (o p : Other) : Type 0 where
-  pub free : Kept o.free p.free
+  pub free : Remains o.free p.free
   pub accepted : Stays o.accepted p.accepted
   pub confirm_told : Stays o.confirm_told p.confirm_told
   pub cancel_told : Stays o.cancel_told p.cancel_told
   pub material_told : Stays o.material_told p.material_told
-  pub heard : Kept o.heard p.heard
+  pub heard : Remains o.heard p.heard
 
 -- attempts don't become fewer, and what is done stays done
 pub record ArchiveEvolves (a b : ArchiveState) : Type 0 where
@@ -43,18 +43,18 @@ pub record Evolves (r s : RunRow) : Type 0 where
   pub priority : s.priority ≡ r.priority
   pub participants : s.participants ≡ r.participants
   pub asker : s.asker ≡ r.asker
-  pub tool : Kept r.tool s.tool
-  pub interval : Kept r.interval s.interval
-  pub accepted : Kept r.accepted s.accepted
-  pub confirmed : Kept r.confirmed s.confirmed
-  pub started : Kept r.started s.started
-  pub ended : Kept r.ended s.ended
-  pub material : Kept r.material s.material
-  pub closed : Kept r.closed s.closed
-  pub question : Kept r.question s.question
-  pub asked : Kept r.asked s.asked
+  pub tool : Remains r.tool s.tool
+  pub interval : Remains r.interval s.interval
+  pub accepted : Remains r.accepted s.accepted
+  pub confirmed : Remains r.confirmed s.confirmed
+  pub started : Remains r.started s.started
+  pub ended : Remains r.ended s.ended
+  pub material : Remains r.material s.material
+  pub closed : Remains r.closed s.closed
+  pub question : Remains r.question s.question
+  pub asked : Remains r.asked s.asked
   pub others : AllEvolve OtherEvolves r.others s.others
-  pub merged : Kept r.merged s.merged
+  pub merged : Remains r.merged s.merged
   pub archives : AllEvolve ArchiveEvolves r.archives s.archives
 
 -- t is what u was once
@@ -63,14 +63,14 @@ pub record TaskEvolves (t u : TaskRow) : Type 0 where
   pub task : u.task ≡ t.task
   pub asker : u.asker ≡ t.asker
   pub posted : u.posted ≡ t.posted
-  pub closed : Kept t.closed u.closed
+  pub closed : Remains t.closed u.closed
 
 -- the row of a run of b stands in c, under the same epoch
 pub record RowStands (b c : Book) (k : RunKey) (r : RunRow) : Type 0 where
   pub row : RunRow
   pub found : find_row c.rows k ≡ Some row
   pub evolves : Evolves r row
-  pub epoch : Kept (epoch_of b k) (epoch_of c k)
+  pub epoch : Remains (epoch_of b k) (epoch_of c k)
 
 -- a task of b stands in c
 abbrev pub TaskStands : Book → ℕ → TaskRow → Type 0
@@ -79,6 +79,6 @@ TaskStands c serial t = (u : TaskRow) × (find_task c.tasks serial ≡ Some u) �
 -- b is what c was once; a row goes seven days after its rest at the earliest
 pub record Grown (b c : Book) : Type 0 where
   pub moment : b.moment ≤ c.moment
-  pub epochs : (i : ℕ) → Kept (slice_get b.epochs i) (slice_get c.epochs i)
+  pub epochs : (i : ℕ) → Remains (slice_get b.epochs i) (slice_get c.epochs i)
   pub tasks : (serial : ℕ) (t : TaskRow) → find_task b.tasks serial ≡ Some t → TaskStands c serial t
   pub rows : (k : RunKey) (r : RunRow) → find_row b.rows k ≡ Some r → c.moment < rest_of r + keeping → RowStands b c k r

@@ -1,4 +1,8 @@
--- What the lead makes of an answer to an order.
+-- What the lead makes of an answer to an order. The entry is `hear`, the last one here. Its steps, in their order:
+-- 1. `meaning_of`: what the answer means, by the order to which it is one;
+-- 2. `other_at`: what is known of the participant, in a row about which this host has asked;
+-- 3. `move_of`: what becomes of it (`told_move`, `denied_move`, `lost_move`);
+-- 4. `changes_of_move`: the change that this is, by `fact_of` or as a closing.
 use Rattle.std.specs.Prelude.{◌&&◌, ◌∷◌, Bool, List, None, Option, Some, [], false, if◌then◌else◌, is_some, not, slice_get, suc, true, unwrap_or, zero, ℕ}
 use Rattle.ps_time.specs.declared.key.RunKey.{RunKey}
 use Rattle.run_states.specs.Life.{is_booked}

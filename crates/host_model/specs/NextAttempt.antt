@@ -1,4 +1,9 @@
--- The next attempt of a task, and the question with which the lead begins it.
+-- The next attempt of a task, and the question with which the lead begins it. The entry is `ask`, the last one here. Its
+-- steps, in their order:
+-- 1. `full_denial`, of `Fits`: a book that is full gets no row;
+-- 2. `next_attempt`: by the newest row of the task (`attempt_by`), a later number (`fresh_attempt`), the same number once
+--    more (`after_failure`), or none yet (`attempt_after`); its window is `asked_window`;
+-- 3. `asked_change`: the question of the attempt.
 use Rattle.std.specs.Prelude.{◌&&◌, ◌+◌, Bool, List, None, Option, Some, if◌then◌else◌, is_some, max, min, nat_le, nat_lt, option_and_then, option_map, ℕ}
 use Rattle.ps_time.specs.Span.{Range}
 use Rattle.ps_time.specs.declared.key.RunKey.{RunKey}

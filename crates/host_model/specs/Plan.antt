@@ -1,4 +1,10 @@
--- What the lead makes of a run once every other participant has told when it is free.
+-- What the lead makes of a run once every other participant has told when it is free. The entry is `plan_run`, the last one
+-- here. Its steps, in their order:
+-- 1. `is_answered`: only a row all of whose answers are heard is planned;
+-- 2. `own_answer` and `wanted_tools`: the lead's own answer, and the tools that the task names;
+-- 3. `plan`: the tool that all have (`planned_with`), and then the start (`common_start`, `planned_at`);
+-- 4. `change_of_plan`: without a tool or a start the row is closed; with both it is accepted, unless `objection`, of
+--    `Fits`, speaks against it (`unless_objected`).
 use Rattle.std.specs.List.{list_all}
 use Rattle.std.specs.Prelude.{◌&&◌, ◌+◌, ◌∷◌, Bool, List, None, Option, Some, [], filter_map, if◌then◌else◌, is_some, map, max, not, ℕ}
 use Rattle.ps_time.specs.Span.{Range}
@@ -33,13 +39,13 @@ abbrev pub answers_of : RunRow → List FreeAnswer
 answers_of r = filter_map (λ o. o.free) r.others
 
 -- the starts of a window from 5 s after m on; none where that is past its last
-abbrev pub from_now : ℕ → Range → Range
-from_now m w = record { first = max w.first (m + plan_lead); last = w.last }
+abbrev pub startable_window : ℕ → Range → Range
+startable_window m w = record { first = max w.first (m + plan_lead); last = w.last }
 
 -- the least start that all have in common
 abbrev pub common_start : ℕ → Option Range → List FreeAnswer → Option Choice
 common_start m None answers = None
-common_start m (Some w) answers = earliest (from_now m w) (map (λ a. a.tiers) answers)
+common_start m (Some w) answers = earliest (startable_window m w) (map (λ a. a.tiers) answers)
 
 -- with the start that was found, if there is one
 abbrev pub planned_at : Option Choice → Tool → Planned

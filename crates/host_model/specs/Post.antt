@@ -1,4 +1,7 @@
--- Posting a task at its lead, and canceling it.
+-- Posting a task at its lead (`post`), and canceling it (`cancel`, the last one here). A task is refused for an unknown
+-- participant (`unknown_host`, `if_known`), by the limits (`if_admitted`), or where there is no place (`unless_full`), in
+-- this order; else `posted_row` is kept, its priority `clipped`. A cancellation is for who posted the task (`cancel_task`);
+-- it closes the task (`close_unless`), and then its runs (`cancel_run`).
 use Rattle.std.specs.Prelude.{◌&&◌, ◌+◌, ◌||◌, ◌∷◌, Bool, List, None, Option, Some, [], bytes_eq, find, if◌then◌else◌, int_lt, is_some, length, map, nat_lt, not, ℕ, ℤ}
 use Rattle.ps_time.specs.declared.asker.Asker.{Asker}
 use Rattle.ps_time.specs.declared.asker.Verdict.{Verdict}

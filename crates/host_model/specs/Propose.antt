@@ -1,4 +1,14 @@
--- What a proposal comes to at a participant.
+-- What a proposal comes to at a participant. The entry is `propose`, the last one here. Its steps, in their order:
+-- 1. `lead_name`: the sender is a peer, and the lead of the proposal's key; else `for_lead` answers NotLead.
+-- 2. `place_of`, of `Fits`: what the host decides by besides its rows.
+-- 3. `decide`, by the row of the key:
+--    - there is one (`decided_at`): of another content, the proposal is denied as Differs; of the same content
+--      (`decided_known`), it is denied as Closed where the row is closed, and known where it is not;
+--    - there is none (`decided_new`): the first reason of `denial_of`, of `Fits`, denies it; without one it is new.
+-- 4. `decided_outcome`: a new one is accepted at m, and the change Accepted gives it a row; a known one is answered with
+--    the moment of its acceptance; a denied one with the denial.
+-- When it is accepted is said in words of rows by `MayAccept`, of `Fitting`: see `proposal_accepted` of
+-- `proofs/AnswerLemmas`, and `proposal_granted` there for the limits that permit it.
 use Rattle.std.specs.Prelude.{◌==◌, ◌∷◌, List, None, Option, Some, [], find, if◌then◌else◌, option_map, unwrap_or, ℕ}
 use Rattle.ps_time.specs.declared.key.RunKey.{RunKey}
 use Rattle.plugin_core.specs.Participants.{participants}
@@ -56,6 +66,7 @@ decided_at place rows m p (Some r) =
     if same_content r p (participants p.test place.lead) then decided_known r r.closed else denied_decision (Differs (kept_proposal r) p)
 
 -- over rows that are settled at m
+-- It accepts exactly where `MayAccept` of `Fitting` holds: see `accepts_exactly` of `proofs/FitLemmas`.
 abbrev pub decide : Place → List RunRow → ℕ → Proposal → Decision
 decide place rows m p = decided_at place rows m p (find_row rows p.key)
 

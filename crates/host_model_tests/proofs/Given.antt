@@ -19,7 +19,7 @@ use Rattle.limit_ident.specs.declared.require.Require.TheVariants.{All, Any}
 use Rattle.limit_rule.specs.declared.limit.Limit.{Limit}
 use Rattle.limit_rule.specs.declared.limit.Rule.{Rule}
 use Rattle.limit_rule.specs.declared.limit.Rule.TheVariants.{PassFail, TestType}
-use Rattle.limit_apply.specs.Limits.{Config as Limits}
+use Rattle.limit_apply.specs.Limits.{LimitsConfig as Limits}
 use Rattle.limit_apply.specs.declared.application.Application.{Application}
 use Rattle.run_states.specs.declared.answer.FreeAnswer.{FreeAnswer}
 use Rattle.run_states.specs.declared.proposal.Proposal.{Proposal}

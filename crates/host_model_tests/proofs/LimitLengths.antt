@@ -1,7 +1,7 @@
 -- Limits that are too long, and the longest.
 use Rattle.std.specs.Prelude.{◌∷◌, ◌≡◌, [], bytes_eq, false, length, true}
 use Rattle.std.proofs.Common.{refl}
-use Rattle.limit_apply.specs.Limits.{Config as Limits}
+use Rattle.limit_apply.specs.Limits.{LimitsConfig as Limits}
 use Rattle.host_model.specs.Book.{Book, empty_book}
 use Rattle.host_model.specs.Epochs.{set_limits}
 use Rattle.host_model.specs.Propose.{answered}

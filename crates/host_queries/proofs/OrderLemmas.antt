@@ -4,7 +4,7 @@ use Rattle.std.proofs.Common.{◌≡◌, ◌≤◌, ◌∙◌, ℕ, Bool, true, 
 use Rattle.std.proofs.lemmas.List.Elements.{All-weaker}
 use Rattle.ps_time.specs.Numbers.{greatest_moment}
 use Rattle.ps_time.specs.declared.key.RunKey.{RunKey}
-use Rattle.limit_apply.specs.Limits.{Config as Limits}
+use Rattle.limit_apply.specs.Limits.{LimitsConfig as Limits}
 use Rattle.run_states.specs.LawfulRow.{HasOrigin}
 use Rattle.run_states.specs.Life.{settled_row, settled_rows}
 use Rattle.run_states.specs.Rows.{IsAscendingRows, find_row}

@@ -9,7 +9,7 @@ use Rattle.std.specs.List.{AllByRecursion}
 use Rattle.ps_time.specs.Span.{Span}
 use Rattle.run_states.specs.declared.row.RunRow.{RunRow}
 use Rattle.run_states.specs.declared.why.Closing.{Closing}
-use Rattle.run_states.specs.Life.{first, close_row, closed_by, lapse_asked, lapse_at, lapse_held, lapse_missed, lapse_of, settled_rows, HasMoments}
+use Rattle.run_states.specs.Life.{first_there, close_row, closed_by, lapse_asked, lapse_at, lapse_held, lapse_missed, lapse_of, settled_rows, HasMoments}
 use Rattle.run_states.specs.Rows.{change_row, find_row, IsAscendingRows}
 use Rattle.host_rows.proofs.RowLemmas.{change_none, others_of}
 
@@ -124,7 +124,7 @@ module _ (m until : ℕ) (r : RunRow) where
 
 -- ---- what changes do ----
 -- a row that is closed doesn't lapse
-pub closed_none : (m : ℕ) (r : RunRow) (c : Closing) (o : Option Closing) → lapse_at m (close_row c r) (first o (Some c)) r.accepted r.confirmed r.started ≡ None
+pub closed_none : (m : ℕ) (r : RunRow) (c : Closing) (o : Option Closing) → lapse_at m (close_row c r) (first_there o (Some c)) r.accepted r.confirmed r.started ≡ None
 closed_none m r c None = refl
 closed_none m r c (Some d) = refl
 

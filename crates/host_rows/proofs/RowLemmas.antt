@@ -9,7 +9,7 @@ use Rattle.ps_time.specs.Key.{key_cmp}
 use Rattle.ps_time.specs.declared.key.RunKey.{RunKey}
 use Rattle.ps_time.proofs.KeyLemmas.{key_cmp_same, key_cmp_total}
 use Rattle.run_states.specs.Effect.{accept_row, change_at, change_other, confirmed_complete, confirmed_if, is_acceptance, is_alone, is_complete, noted_row, with_answer}
-use Rattle.run_states.specs.Life.{first, is_booked, closed_by, lapse_of, marked_row, settled_row, settled_rows}
+use Rattle.run_states.specs.Life.{first_there, is_booked, closed_by, lapse_of, marked_row, settled_row, settled_rows}
 use Rattle.run_states.specs.ResultBytes.{bytes_in, other_result, result_bytes, row_bytes}
 use Rattle.run_states.specs.Rows.{find_row, put_row, lift_row, change_row, IsAscendingRows}
 use Rattle.run_states.specs.declared.answer.Answer.{Answer}
@@ -194,7 +194,7 @@ bytes_settled m [] = refl
 bytes_settled m (r ∷ rs) = bytes_cons (settled_row m r) (settled_rows m rs) ∙ (ap₂ (λ x y. x + y) (closed_bytes (lapse_of m r) r) (bytes_settled m rs) ∙ sym (bytes_cons r rs))
 
 -- ---- how many bytes a step or a fact brings
-ending_bytes : (o : Option Ending) (e : Ending) → bytes_in (option_map (λ x. x.body) (first o (Some e))) ≤ bytes_in (option_map (λ x. x.body) o) + length e.body
+ending_bytes : (o : Option Ending) (e : Ending) → bytes_in (option_map (λ x. x.body) (first_there o (Some e))) ≤ bytes_in (option_map (λ x. x.body) o) + length e.body
 ending_bytes None e = omega arith
 ending_bytes (Some x) e = omega arith
 
@@ -226,7 +226,7 @@ module _ (f : Other → Other) (n : ℕ) (each : (o : Other) → bytes_in (other
   heard_row zero r = omega arith
   heard_row (suc i) r = let own = heard_at i r.others in omega (arith, own)
 
-heard_result : (result : Option (List ℕ)) (o : Option (Option (List ℕ))) → bytes_in (option_and_then (λ told. told) (first o (Some result))) ≤ bytes_in (option_and_then (λ told. told) o) + bytes_in result
+heard_result : (result : Option (List ℕ)) (o : Option (Option (List ℕ))) → bytes_in (option_and_then (λ told. told) (first_there o (Some result))) ≤ bytes_in (option_and_then (λ told. told) o) + bytes_in result
 heard_result result None = omega arith
 heard_result result (Some x) = omega arith
 
@@ -246,7 +246,7 @@ answered_bytes : (test : Bool) (m : ℕ) (r : RunRow) → row_bytes (cond test (
 answered_bytes true m r = confirmed_bytes (is_booked r && is_complete r) m r
 answered_bytes false m r = refl
 
-merged_bytes : (o : Option (List ℕ)) (body : List ℕ) → bytes_in (first o (Some body)) ≤ bytes_in o + length body
+merged_bytes : (o : Option (List ℕ)) (body : List ℕ) → bytes_in (first_there o (Some body)) ≤ bytes_in o + length body
 merged_bytes None body = omega arith
 merged_bytes (Some x) body = omega arith
 

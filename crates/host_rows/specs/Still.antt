@@ -14,8 +14,8 @@ abbrev pub is_decided : RunRow → Bool
 is_decided r = is_some r.closed || (is_some r.accepted && (is_some r.confirmed && is_some r.started))
 
 -- it ended under the lead with this number, and its results aren't merged
-abbrev pub is_mergeable : ℕ → RunRow → Bool
-is_mergeable self r = (r.key.lead == self) && (is_some r.ended && not (is_some r.merged))
+abbrev pub awaits_merging : ℕ → RunRow → Bool
+awaits_merging self r = (r.key.lead == self) && (is_some r.ended && not (is_some r.merged))
 
 -- the lead has nothing more to say to this participant
 abbrev pub is_told : RunRow → Other → Bool
@@ -29,7 +29,7 @@ is_quiet r = not (is_some r.asked) || list_all (is_told r) r.others
 
 -- the host with this number does nothing more with it, but to purge it
 abbrev pub is_still : ℕ → RunRow → Bool
-is_still self r = is_decided r && (not (is_active r) && (not (is_mergeable self r) && (is_quiet r && list_all is_settled_archive r.archives)))
+is_still self r = is_decided r && (not (is_active r) && (not (awaits_merging self r) && (is_quiet r && list_all is_settled_archive r.archives)))
 
 -- it is accepted and confirmed, hasn't started, and isn't over
 abbrev pub is_ahead : RunRow → Bool

@@ -2,7 +2,7 @@
 ghost use Rattle.std.specs.Prelude.{◌≡◌};
 ghost use Rattle.std.specs.List.{list_all};
 ghost use Rattle.run_states.specs.Purging.{is_settled_archive};
-ghost use Rattle.host_rows.specs.Still.{has_come, is_ahead, is_called, is_decided, is_live, is_live_by, is_mergeable, is_quiet, is_still, is_told, is_waiting};
+ghost use Rattle.host_rows.specs.Still.{has_come, is_ahead, is_called, is_decided, is_live, is_live_by, awaits_merging, is_quiet, is_still, is_told, is_waiting};
 
 use archive_retry::state::ArchiveState;
 use ps_time::interval::Interval;
@@ -17,7 +17,7 @@ pub fn is_still(row: &RunRow, number: u16) -> bool
 {
     is_decided(row)
         && !row.is_active()
-        && !is_mergeable(row, number)
+        && !awaits_merging(row, number)
         && is_quiet(row)
         && has_settled_archives(row)
 }
@@ -80,8 +80,8 @@ fn is_decided(row: &RunRow) -> bool
 }
 
 // Whether it ended under the lead with this number, and its results aren't merged.
-fn is_mergeable(row: &RunRow, number: u16) -> bool
-    ensures { result ≡ is_mergeable number row.now }
+fn awaits_merging(row: &RunRow, number: u16) -> bool
+    ensures { result ≡ awaits_merging number row.now }
 {
     row.key.lead == number && row.ended.is_some() && row.merged.is_none()
 }

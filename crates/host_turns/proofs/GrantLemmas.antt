@@ -3,7 +3,7 @@ use Rattle.std.specs.Cmp.Derive.{both_true}
 use Rattle.std.proofs.Common.{◌≡◌, ℕ, true, not, List, Option, Some, None, is_some, refl, ap, subst, ◌∙◌}
 use Rattle.ps_time.specs.Name.{is_name}
 use Rattle.ps_time.specs.Span.{Range}
-use Rattle.limit_apply.specs.Limits.{Config as Limits}
+use Rattle.limit_apply.specs.Limits.{LimitsConfig as Limits}
 use Rattle.run_states.specs.Rows.{find_row}
 use Rattle.run_states.specs.declared.row.RunRow.{RunRow}
 use Rattle.run_states.specs.declared.why.Cause.TheVariants.{Denied, NoSlot as no_slot, NoTool as no_tool}

@@ -5,7 +5,7 @@ use Rattle.ps_time.specs.declared.class.Class.{Class}
 use Rattle.ps_time.specs.declared.class.Class.TheVariants.{Exclusive, Normal}
 use Rattle.ps_time.specs.declared.key.RunKey.{RunKey}
 use Rattle.plugin_core.specs.TestSpec.{test_class}
-use Rattle.limit_apply.specs.Limits.{Config as Limits}
+use Rattle.limit_apply.specs.Limits.{LimitsConfig as Limits}
 use Rattle.run_states.specs.Rows.{find_row}
 use Rattle.run_states.specs.declared.row.RunRow.{RunRow}
 use Rattle.host_rows.specs.LiveKeys.{find_own}

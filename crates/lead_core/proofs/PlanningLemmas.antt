@@ -4,7 +4,7 @@ use Rattle.std.proofs.Common.{◌≡◌, ℕ, Bool, true, false, cond, List, Opt
 use Rattle.std.proofs.lemmas.Result.{IfOk-weaker}
 use Rattle.ps_time.specs.declared.key.RunKey.{RunKey}
 use Rattle.ps_time.proofs.PictureLemmas.{and_true}
-use Rattle.limit_apply.specs.Limits.{Config as Limits}
+use Rattle.limit_apply.specs.Limits.{LimitsConfig as Limits}
 use Rattle.run_states.specs.Life.{is_booked}
 use Rattle.run_states.specs.Rows.{find_row}
 use Rattle.run_states.specs.LawfulRow.{IsWindow}

@@ -1,6 +1,6 @@
 -- Posting reads no more of a book than its limits and the number of its tasks.
 use Rattle.std.proofs.Common.{◌≡◌, ℕ, List, length, sym, ap₂}
-use Rattle.limit_apply.specs.Limits.{Config as Limits}
+use Rattle.limit_apply.specs.Limits.{LimitsConfig as Limits}
 use Rattle.run_states.specs.declared.row.RunRow.{RunRow}
 use Rattle.task_spec.specs.declared.task.Task.{Task}
 use Rattle.host_model.specs.Book.{Book}

@@ -23,7 +23,7 @@ use Rattle.run_states.specs.declared.why.Closing.{Closing}
 use Rattle.slot_search.specs.CommonStart.{choice_of, earliest, in_all_first, in_all_second}
 use Rattle.slot_search.specs.declared.search.Choice.{Choice}
 use Rattle.host_model.specs.NextAttempt.{asked_window, attempt_after, attempt_at, attempt_by, fresh_attempt, is_repeatable, next_attempt, repeated}
-use Rattle.host_model.specs.Plan.{answers_of, common_start, from_now, plan, planned_at, planned_with}
+use Rattle.host_model.specs.Plan.{answers_of, common_start, startable_window, plan, planned_at, planned_with}
 use Rattle.host_model.specs.declared.lead.Attempt.{Attempt}
 use Rattle.host_model.specs.declared.lead.Planned.TheVariants.{At}
 use Rattle.host_model.specs.declared.task_row.TaskRow.{TaskRow}
@@ -131,7 +131,7 @@ module _ (answers : List FreeAnswer) (s : ℕ) where
 -- ---- the plan
 module _ (m : ℕ) (w : Range) where
   module _ (test : ℕ → Bool) (P : ℕ → Type 0) (each : (s : ℕ) → Decides (test s) (P s)) where
-    least_is : (s : ℕ) → least_start test (from_now m w) ≡ Some s → IsLeastStart m w P s
+    least_is : (s : ℕ) → least_start test (startable_window m w) ≡ Some s → IsLeastStart m w P s
     least_is s e =
         let found = find_least test (w.last + 1 - max w.first (m + plan_lead)) (max w.first (m + plan_lead)) s e in
         record {
@@ -143,7 +143,7 @@ module _ (m : ℕ) (w : Range) where
           ];
         }
 
-    none_is : least_start test (from_now m w) ≡ None → (s : ℕ) → MayStartAt m w s → P s → ⊥
+    none_is : least_start test (startable_window m w) ≡ None → (s : ℕ) → MayStartAt m w s → P s → ⊥
     none_is e s may holds =
         let off : test s ≡ false = find_none test (w.last + 1 - max w.first (m + plan_lead)) (max w.first (m + plan_lead)) e s (omega (arith, may.0.0, may.1)) (omega (arith, may.0.0, may.0.1, may.1)) in
         let on : test s ≡ true = (each s).1 holds in
@@ -153,16 +153,16 @@ module _ (m : ℕ) (w : Range) where
     abbrev lists : List Tiers
     lists = map (λ a. a.tiers) answers
 
-    second_is : (c : Choice) (o : Option ℕ) → least_start (in_all_second lists) (from_now m w) ≡ o → option_map (choice_of true) o ≡ Some c → c.start ≡ start → IsLeastStart m w (IsFreeableForAll answers) start
+    second_is : (c : Choice) (o : Option ℕ) → least_start (in_all_second lists) (startable_window m w) ≡ o → option_map (choice_of true) o ≡ Some c → c.start ≡ start → IsLeastStart m w (IsFreeableForAll answers) start
     second_is c None is e at = cc
     second_is c (Some s) is e at = let same : s ≡ start = cc in subst (IsLeastStart m w (IsFreeableForAll answers)) same (least_is (in_all_second lists) (IsFreeableForAll answers) (all_second answers) s is)
 
-    best_is : (c : Choice) → earliest (from_now m w) lists ≡ Some c → c.start ≡ start → IsBestStart m w answers start
-    best_is c e at = go (least_start (in_all_first lists) (from_now m w)) refl e
+    best_is : (c : Choice) → earliest (startable_window m w) lists ≡ Some c → c.start ≡ start → IsBestStart m w answers start
+    best_is c e at = go (least_start (in_all_first lists) (startable_window m w)) refl e
       where
-        go : (o : Option ℕ) → least_start (in_all_first lists) (from_now m w) ≡ o → option_or (option_map (choice_of false) o) (option_map (choice_of true) (least_start (in_all_second lists) (from_now m w))) ≡ Some c → IsBestStart m w answers start
+        go : (o : Option ℕ) → least_start (in_all_first lists) (startable_window m w) ≡ o → option_or (option_map (choice_of false) o) (option_map (choice_of true) (least_start (in_all_second lists) (startable_window m w))) ≡ Some c → IsBestStart m w answers start
         go (Some s) is e = let same : s ≡ start = cc in inl (subst (IsLeastStart m w (IsFreeForAll answers)) same (least_is (in_all_first lists) (IsFreeForAll answers) (all_first answers) s is))
-        go None is e = inr (none_is (in_all_first lists) (IsFreeForAll answers) (all_first answers) is, second_is c (least_start (in_all_second lists) (from_now m w)) refl e at)
+        go None is e = inr (none_is (in_all_first lists) (IsFreeForAll answers) (all_first answers) is, second_is c (least_start (in_all_second lists) (startable_window m w)) refl e at)
 
 module _ (wanted : List (List ℕ)) (r : RunRow) (own : FreeAnswer) (m start : ℕ) (tool : List ℕ) where
   at_start : (o : Option Choice) (t : Tool) → planned_at o t ≡ At start tool → (c : Choice) × (o ≡ Some c) × (c.start ≡ start)

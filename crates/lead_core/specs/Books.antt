@@ -1,6 +1,6 @@
 -- Books of which a decision reads only a part.
 use Rattle.std.specs.Prelude.{◌≡◌, List, ℕ}
-use Rattle.limit_apply.specs.Limits.{Config as Limits}
+use Rattle.limit_apply.specs.Limits.{LimitsConfig as Limits}
 use Rattle.run_states.specs.declared.row.RunRow.{RunRow}
 use Rattle.host_model.specs.Book.{Book, empty_book, latest_epoch, limits_in}
 use Rattle.host_model.specs.declared.config.Config.{Config}

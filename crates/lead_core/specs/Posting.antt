@@ -2,7 +2,7 @@
 use Rattle.std.specs.Prelude.{◌+◌, List, None, if◌then◌else◌, nat_lt, ℕ}
 use Rattle.ps_time.specs.Numbers.{most_tasks}
 use Rattle.ps_time.specs.declared.asker.Asker.{Asker}
-use Rattle.limit_apply.specs.Limits.{Config as Limits, admits_of, ceiling_of}
+use Rattle.limit_apply.specs.Limits.{LimitsConfig as Limits, admits_of, ceiling_of}
 use Rattle.task_spec.specs.declared.task.Task.{Task}
 use Rattle.host_model.specs.Post.{clipped, if_admitted, if_known, posted, poster, unknown_host}
 use Rattle.host_model.specs.Propose.{answered}

@@ -4,7 +4,7 @@ ghost use Rattle.std.specs.List.{list_all};
 ghost use Rattle.ps_time.specs.declared.moment.TheConstants.{MAX_MOMENT};
 ghost use Rattle.plugin_tool.specs.Choice.{chosen};
 ghost use Rattle.slot_search.specs.CommonStart.{earliest};
-ghost use Rattle.host_model.specs.Plan.{answers_of, common_start, from_now, is_answered, plan, planned_at};
+ghost use Rattle.host_model.specs.Plan.{answers_of, common_start, startable_window, is_answered, plan, planned_at};
 
 use crate::attempt::PLAN_LEAD;
 use host_model::lead::Planned;
@@ -108,7 +108,7 @@ fn common_start(
 #[tactic(auto, using(crate::proofs::AttemptLemmas::none_earliest))]
 fn earliest_from(question: &Window, moment: Moment, lists: &[Tiers]) -> Option<Choice>
     requires { moment ≤ MAX_MOMENT }
-    ensures { result ≡ earliest (from_now moment question.now) lists.now }
+    ensures { result ≡ earliest (startable_window moment question.now) lists.now }
 {
     let first = question.first.max(moment + PLAN_LEAD);
     if question.last < first {

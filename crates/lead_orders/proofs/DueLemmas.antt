@@ -10,7 +10,7 @@ use Rattle.plugin_core.specs.declared.test_spec.TestSpec.{TestSpec}
 use Rattle.plugin_core.specs.declared.test_spec.TestSpec.TheVariants.{Idle, Idleex, Idlebgm, Idlemany, Simplestream}
 use Rattle.run_states.specs.Content.{kept_proposal}
 use Rattle.run_states.specs.Effect.{change_at, with_acceptance}
-use Rattle.run_states.specs.Life.{first, is_active, is_booked}
+use Rattle.run_states.specs.Life.{first_there, is_active, is_booked}
 use Rattle.run_states.specs.declared.answer.Other.{Other}
 use Rattle.run_states.specs.declared.row.RunRow.{RunRow}
 use Rattle.host_model.specs.Effect.{effect}
@@ -93,15 +93,15 @@ module _ (m : ℕ) (tasks : List TaskRow) (r : RunRow) where
   confirmed_by_last zero o unconfirmed there = cc
   confirmed_by_last (suc i) o unconfirmed there = (
     (λ some. wants i (holds (is_booked r && list_all (λ o. o.accepted) (change_at with_acceptance i r.others)) refl some)),
-    (λ only. subst (λ b. IsSome (cond b (record r { confirmed = first r.confirmed (Some m); others = change_at with_acceptance i r.others }) (record r { others = change_at with_acceptance i r.others })).confirmed) (sym (last_one i only)) (now r.confirmed)),
+    (λ only. subst (λ b. IsSome (cond b (record r { confirmed = first_there r.confirmed (Some m); others = change_at with_acceptance i r.others }) (record r { others = change_at with_acceptance i r.others })).confirmed) (sym (last_one i only)) (now r.confirmed)),
   )
     where
-      now : (c : Option ℕ) → IsSome (first c (Some m))
+      now : (c : Option ℕ) → IsSome (first_there c (Some m))
       now None = refl
       now (Some x) = refl
 
       holds : (b : Bool) → (is_booked r && list_all (λ o. o.accepted) (change_at with_acceptance i r.others)) ≡ b →
-          IsSome (cond b (record r { confirmed = first r.confirmed (Some m); others = change_at with_acceptance i r.others }) (record r { others = change_at with_acceptance i r.others })).confirmed → b ≡ true
+          IsSome (cond b (record r { confirmed = first_there r.confirmed (Some m); others = change_at with_acceptance i r.others }) (record r { others = change_at with_acceptance i r.others })).confirmed → b ≡ true
       holds true is some = refl
       holds false is some = let none : is_some {T = ℕ} None ≡ true = subst (λ c. is_some c ≡ true) unconfirmed some in cc
 

@@ -7,10 +7,10 @@ use Rattle.ps_time.specs.declared.asker.Verdict.{Verdict}
 use Rattle.ps_time.specs.declared.asker.Verdict.TheVariants.{Permitted, Stopped, AboveCeiling}
 use Rattle.plugin_core.specs.declared.test_spec.TestSpec.{TestSpec}
 use Rattle.limit_apply.specs.Application.{cites_run, passes, decided}
-use Rattle.limit_apply.specs.Limits.{Config, holds_at, written_from, first_verdict, admits_of}
+use Rattle.limit_apply.specs.Limits.{LimitsConfig, holds_at, written_from, first_verdict, admits_of}
 use Rattle.limit_apply.specs.declared.application.Application.{Application}
 
-module _ (config : Config) (asker : Asker) (test : TestSpec) (run : Option Span) (ceiling : ℤ) where
+module _ (config : LimitsConfig) (asker : Asker) (test : TestSpec) (run : Option Span) (ceiling : ℤ) where
   -- neither of the two that an application decides is that, nor is what comes after it
   one_of : (index : ℕ) (cites pass stop : Bool) (later : Verdict) → later ≢ AboveCeiling ceiling
       → unwrap_or (cond cites (Some (Permitted index)) (cond pass (Some (Permitted index)) (cond stop (Some (Stopped index)) None))) later ≢ AboveCeiling ceiling
@@ -29,5 +29,5 @@ module _ (config : Config) (asker : Asker) (test : TestSpec) (run : Option Span)
       ] in
       cases is
 
-pub never_above : (verdict : Verdict) (config : Config) (asker : Asker) (test : TestSpec) (ceiling : ℤ) → verdict ≡ admits_of config asker test → verdict ≢ AboveCeiling ceiling
+pub never_above : (verdict : Verdict) (config : LimitsConfig) (asker : Asker) (test : TestSpec) (ceiling : ℤ) → verdict ≡ admits_of config asker test → verdict ≢ AboveCeiling ceiling
 never_above verdict config asker test ceiling is above = first_other config asker test None ceiling 0 config.applications (sym is ∙ above)

@@ -5,7 +5,7 @@ use Rattle.std.proofs.lemmas.Int.{ints, clamps}
 use Rattle.std.proofs.lemmas.List.{at_drop_more}
 use Rattle.std.proofs.lemmas.List.Elements.{All-head, All-tail}
 use Rattle.ps_time.specs.declared.asker.Asker.{Asker}
-use Rattle.limit_apply.specs.Limits.{Config, IsPriority, AreBounded, greatest, held_ceilings, holds_at, ceiling_of}
+use Rattle.limit_apply.specs.Limits.{LimitsConfig, IsPriority, AreBounded, greatest, held_ceilings, holds_at, ceiling_of}
 use Rattle.limit_apply.specs.declared.limits.Ceiling.{Ceiling}
 
 max_moved : (x y z : ℤ) → int_max x (int_max y z) ≡ int_max y (int_max x z)
@@ -17,7 +17,7 @@ greatest_next z y [] = refl
 greatest_next z y (x ∷ ys) = max_moved y x (greatest z ys) ∙ ap (int_max x) (greatest_next z y ys)
 
 -- so the entries with ceilings may be looked at one after another
-held_next : (config : Config) (asker : Asker) (z : ℤ) (c : Ceiling) (cs : List Ceiling)
+held_next : (config : LimitsConfig) (asker : Asker) (z : ℤ) (c : Ceiling) (cs : List Ceiling)
     → greatest z (held_ceilings config asker (c ∷ cs)) ≡ greatest (greatest z (held_ceilings config asker (c ∷ []))) (held_ceilings config asker cs)
 held_next config asker z c cs =
     let held = filter (λ (e : Ceiling). holds_at config asker e.classifier) cs in
@@ -28,7 +28,7 @@ held_next config asker z c cs =
     ]
 
 -- one turn of the loop: what is left decides, behind the entry at `i`
-pub ceiling_step : (config : Config) (asker : Asker) (all z more : ℤ) (seen cs : List Ceiling) (i : ℕ) (d : Ceiling)
+pub ceiling_step : (config : LimitsConfig) (asker : Asker) (all z more : ℤ) (seen cs : List Ceiling) (i : ℕ) (d : Ceiling)
     → i < length seen → all ≡ greatest z (held_ceilings config asker (drop i cs)) → more ≡ greatest z (held_ceilings config asker (get_or seen i d ∷ [])) → seen ≡ cs
     → all ≡ greatest more (held_ceilings config asker (drop (i + 1) cs))
 ceiling_step config asker all z more seen cs i d within so_far here same =
@@ -43,7 +43,7 @@ max_within a b here there = elim (int_lt b a) as (λ t. IsPriority (cond t a b))
   | false ↦ there
 ]
 
-held_within : (config : Config) (asker : Asker) (z : ℤ) (cs : List Ceiling) → IsPriority z → All (λ c. IsPriority c.ceiling) cs → IsPriority (greatest z (held_ceilings config asker cs))
+held_within : (config : LimitsConfig) (asker : Asker) (z : ℤ) (cs : List Ceiling) → IsPriority z → All (λ c. IsPriority c.ceiling) cs → IsPriority (greatest z (held_ceilings config asker cs))
 held_within config asker z [] here all = here
 held_within config asker z (c ∷ cs) here all =
     let later = held_within config asker z cs here (All-tail (λ c. IsPriority c.ceiling) c cs all) in
@@ -53,8 +53,8 @@ held_within config asker z (c ∷ cs) here all =
       | false ↦ later
     ]
 
-pub ceiling_within : (config : Config) (asker : Asker) → AreBounded config.priorities → IsPriority (ceiling_of config asker)
+pub ceiling_within : (config : LimitsConfig) (asker : Asker) → AreBounded config.priorities → IsPriority (ceiling_of config asker)
 ceiling_within config asker bounded = held_within config asker config.priorities.default config.priorities.ceilings bounded.default bounded.ceilings
 
-pub of_ceiling : (z : ℤ) (config : Config) (asker : Asker) → z ≡ ceiling_of config asker → AreBounded config.priorities → IsPriority z
+pub of_ceiling : (z : ℤ) (config : LimitsConfig) (asker : Asker) → z ≡ ceiling_of config asker → AreBounded config.priorities → IsPriority z
 of_ceiling z config asker is bounded = rw is (ceiling_within config asker bounded)

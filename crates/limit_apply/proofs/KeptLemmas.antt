@@ -22,7 +22,7 @@ use Rattle.limit_ident.specs.declared.fault.LimitFault.{LimitFault}
 use Rattle.limit_ident.specs.declared.fault.LimitFault.TheVariants.{BadRange, Json}
 use Rattle.limit_ident.specs.declared.named.Named.{Named}
 use Rattle.limit_apply.specs.Bare.{bare, bare_text}
-use Rattle.limit_apply.specs.Limits.{AreBounded, Config, IsPriority}
+use Rattle.limit_apply.specs.Limits.{AreBounded, LimitsConfig, IsPriority}
 use Rattle.limit_apply.specs.Read.{AreCounted, IsKept, after_lists, config, config_in, config_of, ended_priorities, lists_of, parts_of, schema_of}
 use Rattle.limit_apply.specs.ReadApplications.{ceiling_in, ceiling_of, ceilings_of, default_of, entries_in, entry_of, priorities_of}
 use Rattle.limit_apply.specs.declared.limits.Ceiling.{Ceiling}
@@ -137,12 +137,12 @@ parts_bounded d p e =
     let priorities = went (ended_priorities lists.0.classifiers (after_lists left)) _ p lists.2 in
     subst (λ (x : Lists × Priorities). AreBounded x.1) (ok_is (lists.0, priorities.0) p priorities.2) (ended_bounded lists.0.classifiers (after_lists left) priorities.0 priorities.1)
 
-pub config_bounded : (text : List ℕ) (c : Config) → config_in text ≡ Ok c → AreBounded c.priorities
+pub config_bounded : (text : List ℕ) (c : LimitsConfig) → config_in text ≡ Ok c → AreBounded c.priorities
 unfolding config_in
 config_bounded text c e =
     let d = went (in_json (tree_of text)) config_of c e in
     let parts = went (parts_of (bare d.0)) _ c d.2 in
-    subst (λ (x : Config). AreBounded x.priorities) (ok_is (config parts.0.0 parts.0.1 (bare_text d.0)) c parts.2) (parts_bounded (bare d.0) parts.0 parts.1)
+    subst (λ (x : LimitsConfig). AreBounded x.priorities) (ok_is (config parts.0.0 parts.0.1 (bare_text d.0)) c parts.2) (parts_bounded (bare d.0) parts.0 parts.1)
 
 -- what is made of counted lists, priorities and the text of both
 pub made_kept : (lists : Lists) (priorities : Priorities) (text : List ℕ) → AreCounted lists → config_in text ≡ Ok (config lists priorities text) → IsKept (config lists priorities text)
@@ -156,5 +156,5 @@ made_kept lists priorities text counted again = record {
 }
 
 -- ---- one after another
-pub one_more : (epochs : List Config) (i : ℕ) (l : Config) → i < length epochs → l ≡ get_or epochs i l → All IsKept (take i epochs) → IsKept l → All IsKept (take (i + 1) epochs)
+pub one_more : (epochs : List LimitsConfig) (i : ℕ) (l : LimitsConfig) → i < length epochs → l ≡ get_or epochs i l → All IsKept (take i epochs) → IsKept l → All IsKept (take (i + 1) epochs)
 one_more epochs i l within is all kept = subst (All IsKept) (sym (take_more epochs i l within ∙ ap (λ x. take i epochs ++ x ∷ []) (sym is))) (All-push IsKept (take i epochs) l all kept)

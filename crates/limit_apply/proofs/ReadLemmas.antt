@@ -6,7 +6,7 @@ use Rattle.serde_json.specs.Written.{compact_text}
 use Rattle.ps_json.specs.Tree.{tree_of}
 use Rattle.limit_ident.specs.declared.fault.LimitFault.{LimitFault}
 use Rattle.limit_apply.specs.Bare.{bare}
-use Rattle.limit_apply.specs.Limits.{Config}
+use Rattle.limit_apply.specs.Limits.{LimitsConfig}
 use Rattle.limit_apply.specs.Read.{parts_of, config, config_in, of_own, own_config, IsKept, IsLimitsText}
 use Rattle.limit_apply.specs.declared.limits.Priorities.{Priorities}
 use Rattle.limit_apply.specs.declared.read.Lists.{Lists}
@@ -22,10 +22,10 @@ read_again d e lists priorities text same parts written tree = rw (tree, same, b
 some_same : {A : Type 0} (a b : A) → Some a ≡ Some b → a ≡ b
 some_same a b is = cc
 
-pub own_sound : (text : List ℕ) (config : Config) → own_config text ≡ Some config → (config_in text ≡ Ok config) × (config.text ≡ text)
+pub own_sound : (text : List ℕ) (config : LimitsConfig) → own_config text ≡ Some config → (config_in text ≡ Ok config) × (config.text ≡ text)
 own_sound text config own = read (config_in text) refl own
   where
-    read : (r : Result Config LimitFault) → config_in text ≡ r → of_own text r ≡ Some config → (config_in text ≡ Ok config) × (config.text ≡ text)
+    read : (r : Result LimitsConfig LimitFault) → config_in text ≡ r → of_own text r ≡ Some config → (config_in text ≡ Ok config) × (config.text ≡ text)
     read (Err fault) is own = absurd cc
     read (Ok c) is own = same (bytes_eq c.text text) refl own
       where
@@ -36,5 +36,5 @@ own_sound text config own = read (config_in text) refl own
 pub own_complete : (text : List ℕ) (own : IsLimitsText text) → own_config text ≡ Some own.config
 own_complete text own = rw (own.reads, (bytes_eq-Decides own.config.text text).1 own.same) refl
 
-pub own_kept : (config : Config) → IsKept config → IsLimitsText config.text
+pub own_kept : (config : LimitsConfig) → IsKept config → IsLimitsText config.text
 own_kept config kept = record { config = config; reads = kept.again; same = refl }

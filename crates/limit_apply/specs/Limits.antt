@@ -18,7 +18,7 @@ use Rattle.limit_apply.specs.declared.limits.Counts.{Counts}
 use Rattle.limit_apply.specs.declared.limits.Priorities.{Priorities}
 use Rattle.limit_apply.specs.Application.{decided}
 
-pub record Config : Type 0 where
+pub record LimitsConfig : Type 0 where
   pub identifiers : List (Named Identifier)
   pub classifiers : List (Named Classifier)
   pub limits : List (Named Limit)
@@ -27,7 +27,7 @@ pub record Config : Type 0 where
   -- the compact text of the tree without comments
   pub text : List ℕ
 
-abbrev pub counts_of : Config → Counts
+abbrev pub counts_of : LimitsConfig → Counts
 counts_of config = record {
   identifiers = length config.identifiers;
   classifiers = length config.classifiers;
@@ -36,13 +36,13 @@ counts_of config = record {
 }
 
 -- the classifier at a place holds
-abbrev pub holds_at : Config → Asker → ℕ → Bool
+abbrev pub holds_at : LimitsConfig → Asker → ℕ → Bool
 holds_at config asker place = held_at config.classifiers config.identifiers asker place
 
 -- ---- applications
 
 -- the list of applications, from that at `index` on, that take part, each with its index and what it decides
-abbrev pub written_from : Config → Asker → TestSpec → Option Span → ℕ → List Application → List (ℕ × Option Verdict)
+abbrev pub written_from : LimitsConfig → Asker → TestSpec → Option Span → ℕ → List Application → List (ℕ × Option Verdict)
 written_from config asker test run index [] = []
 written_from config asker test run index (a ∷ others) =
     let rest = written_from config asker test run (index + 1) others in
@@ -53,7 +53,7 @@ abbrev pub first_verdict : List (ℕ × Option Verdict) → Verdict
 first_verdict [] = Exhausted
 first_verdict (entry ∷ entries) = unwrap_or entry.1 (first_verdict entries)
 
-abbrev pub verdict_at : Config → Asker → TestSpec → Option Span → Verdict
+abbrev pub verdict_at : LimitsConfig → Asker → TestSpec → Option Span → Verdict
 verdict_at config asker test run = first_verdict (written_from config asker test run 0 config.applications)
 
 -- ---- priorities
@@ -64,11 +64,11 @@ greatest z [] = z
 greatest z (y ∷ ys) = int_max y (greatest z ys)
 
 -- the ceilings whose classifier holds
-abbrev pub held_ceilings : Config → Asker → List Ceiling → List ℤ
+abbrev pub held_ceilings : LimitsConfig → Asker → List Ceiling → List ℤ
 held_ceilings config asker cs = map (λ c. c.ceiling) (filter (λ c. holds_at config asker c.classifier) cs)
 
 -- the greatest of the default and of the ceilings of classifiers that hold
-abbrev pub ceiling_of : Config → Asker → ℤ
+abbrev pub ceiling_of : LimitsConfig → Asker → ℤ
 ceiling_of config asker = greatest config.priorities.default (held_ceilings config asker config.priorities.ceilings)
 
 abbrev pub IsPriority : ℤ → Type 0
@@ -82,14 +82,14 @@ pub record AreBounded (priorities : Priorities) : Type 0 where
 -- ---- the answers
 
 -- what is permitted is so up to the asker's ceiling
-abbrev pub below_ceiling : Config → Asker → ℤ → Verdict → Verdict
+abbrev pub below_ceiling : LimitsConfig → Asker → ℤ → Verdict → Verdict
 below_ceiling config asker priority (Permitted index) = if int_lt (ceiling_of config asker) priority then AboveCeiling (ceiling_of config asker) else Permitted index
 below_ceiling config asker priority (Stopped index) = Stopped index
 below_ceiling config asker priority Exhausted = Exhausted
 below_ceiling config asker priority (AboveCeiling ceiling) = AboveCeiling ceiling
 
-abbrev pub permits_of : Config → Asker → TestSpec → Span → ℤ → Verdict
+abbrev pub permits_of : LimitsConfig → Asker → TestSpec → Span → ℤ → Verdict
 permits_of config asker test span priority = below_ceiling config asker priority (verdict_at config asker test (Some span))
 
-abbrev pub admits_of : Config → Asker → TestSpec → Verdict
+abbrev pub admits_of : LimitsConfig → Asker → TestSpec → Verdict
 admits_of config asker test = verdict_at config asker test None

@@ -5,7 +5,7 @@ use Rattle.limit_ident.specs.declared.identifier.Condition.TheVariants.{Always}
 use Rattle.limit_ident.specs.declared.identifier.Identifier.{Identifier}
 use Rattle.limit_ident.specs.declared.named.Named.{Named}
 use Rattle.limit_ident.specs.declared.require.Require.TheVariants.{All, Any}
-use Rattle.limit_apply.specs.Limits.{Config}
+use Rattle.limit_apply.specs.Limits.{LimitsConfig}
 use Rattle.limit_apply.specs.declared.application.Application.{Application}
 use Rattle.limit_rule.specs.declared.limit.Limit.{Limit}
 use Rattle.limit_rule.specs.declared.limit.Rule.TheVariants.{PassFail}
@@ -25,7 +25,7 @@ open_applications = record { classifier = 0; apply = record { require = All; lim
 abbrev pub open_text : List ℕ
 open_text = codes "{\"applications\":[{\"apply\":[{\"limits\":[\"always\"],\"require\":\"all\"}],\"classifier\":\"default\"}],\"classifiers\":[{\"identifiers\":[\"everybody\"],\"name\":\"default\"}],\"identifiers\":[{\"name\":\"everybody\",\"type\":\"always\"}],\"limits\":[{\"data\":{\"pass\":true},\"name\":\"always\",\"type\":\"pass-fail\"}],\"priorities\":{\"default\":1000}}"
 
-abbrev pub open_config : Config
+abbrev pub open_config : LimitsConfig
 open_config = record {
   identifiers = open_identifiers;
   classifiers = open_classifiers;

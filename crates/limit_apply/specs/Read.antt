@@ -15,7 +15,7 @@ use Rattle.limit_ident.specs.declared.identifier.Identifier.{Identifier}
 use Rattle.limit_ident.specs.declared.named.Named.{Named}
 use Rattle.ps_json.specs.Tree.{tree_of}
 use Rattle.limit_apply.specs.Bare.{bare, bare_text}
-use Rattle.limit_apply.specs.Limits.{Config, AreBounded}
+use Rattle.limit_apply.specs.Limits.{LimitsConfig, AreBounded}
 use Rattle.limit_apply.specs.ReadApplications.{applications_in, priorities_of}
 use Rattle.limit_rule.specs.ReadLimits.{limits_in}
 use Rattle.limit_apply.specs.declared.limits.Priorities.{Priorities}
@@ -53,7 +53,7 @@ pub record AreCounted (lists : Lists) : Type 0 where
   pub limits : length lists.limits < 2 ^ 32
   pub applications : length lists.applications < 2 ^ 32
 
-abbrev pub config : Lists → Priorities → List ℕ → Config
+abbrev pub config : Lists → Priorities → List ℕ → LimitsConfig
 config lists priorities text = record {
   identifiers = lists.identifiers;
   classifiers = lists.classifiers;
@@ -79,15 +79,15 @@ parts_of d =
     then_with (ended_priorities lists.classifiers (after_lists ms)) (λ priorities. Ok (lists, priorities)))))
 
 -- comments are left out before all else
-abbrev pub config_of : Data → Result Config LimitFault
+abbrev pub config_of : Data → Result LimitsConfig LimitFault
 config_of d = then_with (parts_of (bare d)) (λ parts. Ok (config parts.0 parts.1 (bare_text d)))
 
 -- the configuration that a text is
-unfoldable pub config_in : List ℕ → Result Config LimitFault
+unfoldable pub config_in : List ℕ → Result LimitsConfig LimitFault
 config_in text = then_with (in_json (tree_of text)) config_of
 
 -- places and counts of entries fit 32 bits, priorities are bounded, and the text is read again as the same configuration
-pub record IsKept (config : Config) : Type 0 where
+pub record IsKept (config : LimitsConfig) : Type 0 where
   pub identifiers : length config.identifiers < 2 ^ 32
   pub classifiers : length config.classifiers < 2 ^ 32
   pub limits : length config.limits < 2 ^ 32
@@ -96,16 +96,16 @@ pub record IsKept (config : Config) : Type 0 where
   pub again : config_in config.text ≡ Ok config
 
 -- what was read, where this is its own text
-abbrev pub of_own : List ℕ → Result Config LimitFault → Option Config
+abbrev pub of_own : List ℕ → Result LimitsConfig LimitFault → Option LimitsConfig
 of_own text (Err fault) = None
 of_own text (Ok config) = if bytes_eq config.text text then Some config else None
 
 -- the configuration that has exactly this text, if one has
-abbrev pub own_config : List ℕ → Option Config
+abbrev pub own_config : List ℕ → Option LimitsConfig
 own_config text = of_own text (config_in text)
 
 -- some configuration has exactly this text
 pub record IsLimitsText (text : List ℕ) : Type 0 where
-  pub config : Config
+  pub config : LimitsConfig
   pub reads : config_in text ≡ Ok config
   pub same : config.text ≡ text

@@ -1,6 +1,6 @@
 //! A configuration of limits, and what it answers.
 ghost use Rattle.std.specs.Prelude.{◌≡◌, ◌≢◌, ℤ, [], ◌∷◌, IfOk, Ok};
-ghost use Rattle.limit_apply.specs.Limits.{Config, verdict_at, permits_of, below_ceiling, admits_of, greatest, held_ceilings, ceiling_of, IsPriority, holds_at, counts_of};
+ghost use Rattle.limit_apply.specs.Limits.{LimitsConfig, verdict_at, permits_of, below_ceiling, admits_of, greatest, held_ceilings, ceiling_of, IsPriority, holds_at, counts_of};
 ghost use Rattle.limit_apply.specs.Read.{config_in, IsKept};
 
 use crate::application::Application;
@@ -70,10 +70,10 @@ pub struct Limits {
 }
 
 impl Model for Limits {
-    ghost use Rattle.limit_apply.specs.Limits.{Config};
+    ghost use Rattle.limit_apply.specs.Limits.{LimitsConfig};
     ghost use Rattle.limit_apply.specs.Read.{IsKept};
 
-    ghost Value = { Config };
+    ghost Value = { LimitsConfig };
 
     ghost view = { λ l. record { identifiers = l.identifiers; classifiers = l.classifiers; limits = l.limits; applications = l.applications; priorities = l.priorities; text = l.text } };
 
@@ -250,5 +250,5 @@ impl Limits {
 
 /// A law: the ceiling of every kept configuration is a priority.
 pub fn law_ceiling()
-    ensures { (config : Config) (asker : Asker) → IsKept config → IsPriority (ceiling_of config asker) }
+    ensures { (config : LimitsConfig) (asker : Asker) → IsKept config → IsPriority (ceiling_of config asker) }
 {}

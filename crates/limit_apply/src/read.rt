@@ -6,7 +6,7 @@ ghost use Rattle.ps_json.specs.Fields.{without_member};
 ghost use Rattle.ps_json.specs.Member.{required};
 ghost use Rattle.limit_ident.specs.Fault.{wrapped};
 ghost use Rattle.limit_ident.specs.Plain.{IsPlain, IsFlat, IsTold};
-ghost use Rattle.limit_apply.specs.Limits.{Config};
+ghost use Rattle.limit_apply.specs.Limits.{LimitsConfig};
 ghost use Rattle.limit_apply.specs.ReadApplications.{applications_in};
 ghost use Rattle.limit_rule.specs.ReadLimits.{limits_in};
 ghost use Rattle.limit_apply.specs.Read.{schema_in, schema_of, identifiers_in, classifiers_in, lists_of, after_lists, AreCounted, parts_of, config, ended_priorities, config_of, config_in, of_own, own_config, IsKept, IsLimitsText};
@@ -268,7 +268,7 @@ impl Limits {
 /// Laws: the texts that are a configuration's own are those of which `from_own_text` gives it, and each kept
 /// configuration's text is its own.
 pub fn law_own_texts()
-    ensures sound { (text : List ℕ) (config : Config) → own_config text ≡ Some config → (config_in text ≡ Ok config) × (config.text ≡ text) }
+    ensures sound { (text : List ℕ) (config : LimitsConfig) → own_config text ≡ Some config → (config_in text ≡ Ok config) × (config.text ≡ text) }
     ensures complete { (text : List ℕ) (own : IsLimitsText text) → own_config text ≡ Some own.config }
-    ensures kept { (config : Config) → IsKept config → IsLimitsText config.text }
+    ensures kept { (config : LimitsConfig) → IsKept config → IsLimitsText config.text }
 {}

@@ -17,7 +17,7 @@ use Rattle.host_model.specs.Book.{Book, find_task, latest_epoch, limits_in}
 use Rattle.host_model.specs.Draft.{Draft, fresh, make, make_each}
 use Rattle.host_model.specs.Ending.{end_run, ended_with, tool_view}
 use Rattle.host_model.specs.Fits.{full_denial, objection}
-use Rattle.host_model.specs.Grown.{Evolves, Kept}
+use Rattle.host_model.specs.Grown.{Evolves, Remains}
 use Rattle.host_model.specs.Lawful.{Lawful}
 use Rattle.host_model.specs.Merging.{merge_run, merged_text}
 use Rattle.host_model.specs.NextAttempt.{ask, asked_change, attempt_key, next_attempt}
@@ -57,7 +57,7 @@ stand_next base rows now f up stand are = record {
 }
 
 -- ---- a task that sleeps goes on sleeping as rows evolve
-asleep_one : (m : ℕ) (rule : Schedule) (j k : RunKey) (a b : Option ℕ) → k ≡ j → Kept a b → has_come m (wake_after rule j a) ≡ false → has_come m (wake_after rule k b) ≡ false
+asleep_one : (m : ℕ) (rule : Schedule) (j k : RunKey) (a b : Option ℕ) → k ≡ j → Remains a b → has_come m (wake_after rule j a) ≡ false → has_come m (wake_after rule k b) ≡ false
 asleep_one m rule j k None b same kept asleep = absurd (never m asleep)
 asleep_one m rule j k (Some s) b same kept asleep = subst (λ o. has_come m (wake_after rule k o) ≡ false) (sym (kept s refl)) (subst (λ x. has_come m (wake_after rule x (Some s)) ≡ false) (sym same) asleep)
 

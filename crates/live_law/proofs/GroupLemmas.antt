@@ -7,7 +7,7 @@ use Rattle.std.proofs.lemmas.List.Elements.{recursion_from_All}
 use Rattle.ps_time.specs.Span.{Range}
 use Rattle.ps_time.specs.declared.key.RunKey.{RunKey}
 use Rattle.run_states.specs.Conflict.{in_conflict}
-use Rattle.run_states.specs.Life.{close_row, first, settled_row, settled_rows}
+use Rattle.run_states.specs.Life.{close_row, first_there, settled_row, settled_rows}
 use Rattle.run_states.specs.Preemption.{Incoming, give_way}
 use Rattle.run_states.specs.Purging.{is_long_past, keeping, later_of, rest_of}
 use Rattle.run_states.specs.Rows.{IsAscendingRows, find_row}
@@ -46,17 +46,17 @@ use Rattle.live_law.proofs.PurgeLemmas.{purges_live, purges_same, Lasts}
 use Rattle.live_law.proofs.StillLemmas.{idle_by, idle_end, idle_merge, idle_plan, idle_start, some_same, unlive_settled, IsIdle}
 
 -- ---- what becomes of a row that isn't live by the moment
-record Kept (self m : ℕ) (s r : RunRow) : Type 0 where
+record StaysIdle (self m : ℕ) (s r : RunRow) : Type 0 where
   pub idle : IsIdle self m r
   pub lasts : Lasts m s r
 
 -- once it is closed at the moment it is idle, and not long past
-module _ (self m : ℕ) (s r : RunRow) (kept : Kept self m s r) (c : Closing) (at : c.moment ≡ m) (open_row : is_some r.closed ≡ false) where
-  closing_is : (o : Option Closing) → is_some o ≡ false → first o (Some c) ≡ Some c
+module _ (self m : ℕ) (s r : RunRow) (kept : StaysIdle self m s r) (c : Closing) (at : c.moment ≡ m) (open_row : is_some r.closed ≡ false) where
+  closing_is : (o : Option Closing) → is_some o ≡ false → first_there o (Some c) ≡ Some c
   closing_is None e = refl
   closing_is (Some x) e = cc
 
-  closed : first r.closed (Some c) ≡ Some c
+  closed : first_there r.closed (Some c) ≡ Some c
   closed = closing_is r.closed open_row
 
   abbrev gone : RunRow
@@ -97,7 +97,7 @@ module _ (self m : ℕ) (s r : RunRow) (kept : Kept self m s r) (c : Closing) (a
       too_early : (n : ℕ) → m ≤ n → nat_le (n + keeping) m ≡ false
       too_early n low = grind (arith, nat_tests, low)
 
-  closed_kept : Kept self m s gone
+  closed_kept : StaysIdle self m s gone
   closed_kept = record {
     idle = record {
       inactive = kept.idle.inactive;
@@ -108,7 +108,7 @@ module _ (self m : ℕ) (s r : RunRow) (kept : Kept self m s r) (c : Closing) (a
     lasts = λ past. let never : false ≡ true = sym young ∙ past in cc;
   }
 
-way_kept : (self m : ℕ) (o : Option Incoming) (s r : RunRow) → Kept self m s r → Kept self m s (give_way m o r)
+way_kept : (self m : ℕ) (o : Option Incoming) (s r : RunRow) → StaysIdle self m s r → StaysIdle self m s (give_way m o r)
 way_kept self m None s r kept = kept
 way_kept self m (Some i) s r kept = go (in_conflict i.key i.class i.interval r) refl
   where
@@ -118,13 +118,13 @@ way_kept self m (Some i) s r kept = go (in_conflict i.key i.class i.interval r) 
     booked_open true false closed clashes e = cc
     booked_open false accepted closed clashes e = cc
 
-    go : (t : Bool) → in_conflict i.key i.class i.interval r ≡ t → Kept self m s (cond t (close_row (record { moment = m; why = Preempted i.key }) r) r)
+    go : (t : Bool) → in_conflict i.key i.class i.interval r ≡ t → StaysIdle self m s (cond t (close_row (record { moment = m; why = Preempted i.key }) r) r)
     go false other = kept
     go true hit = closed_kept self m s r kept (record { moment = m; why = Preempted i.key }) refl (booked_open _ (is_some r.accepted) (is_some r.closed) _ hit)
 
 -- ---- what holds through a group: such rows are there, and the keys are the same
 record Held (self m : ℕ) (base : List RunRow) (b : Book) : Type 0 where
-  pub stand : (s : RunRow) → find_row base s.key ≡ Some s → is_live_by self m s ≡ false → (r : RunRow) × (find_row b.rows s.key ≡ Some r) × Kept self m s r
+  pub stand : (s : RunRow) → find_row base s.key ≡ Some s → is_live_by self m s ≡ false → (r : RunRow) × (find_row b.rows s.key ≡ Some r) × StaysIdle self m s r
   pub keys : keys_of_rows b.rows ≡ keys_of_rows base
 
 mapped_keys : (f : RunRow → RunRow) → ((r : RunRow) → (f r).key ≡ r.key) → (rows : List RunRow) → keys_of_rows (map f rows) ≡ keys_of_rows rows
@@ -137,13 +137,13 @@ module _ (self m : ℕ) (base : List RunRow) (b : Book) (held : Held self m base
   abbrev f : RunRow → RunRow
   f = changed_row m b.tasks x b.rows
 
-  stays : (s q : RunRow) → find_row b.rows s.key ≡ Some q → Kept self m s q → Kept self m s (f q)
+  stays : (s q : RunRow) → find_row b.rows s.key ≡ Some q → StaysIdle self m s q → StaysIdle self m s (f q)
   stays s q found kept = go (has_key way.key (change_key x)) refl
     where
       way : RunRow
       way = give_way m (incoming b.rows x) q
 
-      go : (t : Bool) → has_key way.key (change_key x) ≡ t → Kept self m s (cond t (effect m b.tasks x way) way)
+      go : (t : Bool) → has_key way.key (change_key x) ≡ t → StaysIdle self m s (cond t (effect m b.tasks x way) way)
       go false other = way_kept self m (incoming b.rows x) s q kept
       go true same =
           let way_key : way.key ≡ r.key = key_is way.key r.key (ap (has_key way.key) (sym own) ∙ same) in
@@ -286,7 +286,7 @@ module _ (c : Config) (m : ℕ) (base : List RunRow) (up : IsAscendingRows base)
       let three : starts ≡ make_rows (start_run m) m (make_rows (merge_run c m) m (make_rows (end_run c m) m d)) = third_is ∙ ap (make_rows (start_run m) m) two in
       (fourth_is ∙ ap (make_rows (plan_run c m) m) three, held_plans)
 
-first_kept : (n m : ℕ) (s : RunRow) → is_live_by n m s ≡ false → Kept n m s s
+first_kept : (n m : ℕ) (s : RunRow) → is_live_by n m s ≡ false → StaysIdle n m s s
 first_kept n m s out = record { idle = idle_by n m s out; lasts = λ past. refl }
 
 pub turned_same : (c : Config) (m : ℕ) (d : Draft) → Lawful c.number d.book → turned_over c m (keys_live_by c.number m d.book.rows) d ≡ turned c m d

@@ -27,7 +27,7 @@ use Rattle.host_model.specs.Walk.{change_if}
 use Rattle.host_model.specs.declared.change.Change.{Change}
 use Rattle.host_model.specs.declared.config.Config.{Config}
 use Rattle.host_model.specs.declared.order.OrderBody.{OrderBody}
-use Rattle.host_rows.specs.Still.{has_come, is_called, is_decided, is_live, is_live_by, is_mergeable, is_quiet, is_still, is_told, is_waiting, live_rows}
+use Rattle.host_rows.specs.Still.{has_come, is_called, is_decided, is_live, is_live_by, awaits_merging, is_quiet, is_still, is_told, is_waiting, live_rows}
 use Rattle.host_rows.proofs.WaitLemmas.{both, is_not, waiting_lapse, waiting_parts, Waiting}
 
 -- ---- tests
@@ -38,17 +38,17 @@ some_same a b e = ap (λ o. unwrap_or o a) e
 pub record Still (self : ℕ) (r : RunRow) : Type 0 where
   pub decided : is_decided r ≡ true
   pub inactive : is_active r ≡ false
-  pub merged : is_mergeable self r ≡ false
+  pub merged : awaits_merging self r ≡ false
   pub quiet : is_quiet r ≡ true
   pub archived : list_all is_settled_archive r.archives ≡ true
 
 pub still_parts : (self : ℕ) (r : RunRow) → is_still self r ≡ true → Still self r
 still_parts self r still =
-    let a = both (is_decided r) (not (is_active r) && (not (is_mergeable self r) && (is_quiet r && list_all is_settled_archive r.archives))) still in
-    let b = both (not (is_active r)) (not (is_mergeable self r) && (is_quiet r && list_all is_settled_archive r.archives)) a.1 in
-    let c = both (not (is_mergeable self r)) (is_quiet r && list_all is_settled_archive r.archives) b.1 in
+    let a = both (is_decided r) (not (is_active r) && (not (awaits_merging self r) && (is_quiet r && list_all is_settled_archive r.archives))) still in
+    let b = both (not (is_active r)) (not (awaits_merging self r) && (is_quiet r && list_all is_settled_archive r.archives)) a.1 in
+    let c = both (not (awaits_merging self r)) (is_quiet r && list_all is_settled_archive r.archives) b.1 in
     let d = both (is_quiet r) (list_all is_settled_archive r.archives) c.1 in
-    record { decided = a.0; inactive = is_not (is_active r) b.0; merged = is_not (is_mergeable self r) c.0; quiet = d.0; archived = d.1 }
+    record { decided = a.0; inactive = is_not (is_active r) b.0; merged = is_not (awaits_merging self r) c.0; quiet = d.0; archived = d.1 }
 
 -- ---- what isn't live is still, or waits
 pub unlive : (self : ℕ) (r : RunRow) → is_live self r ≡ false → (is_still self r ≡ true) ⊎ (is_waiting r ≡ true)
@@ -108,7 +108,7 @@ silent self r out = go (unlive self r out)
 -- ---- what isn't live by a moment is idle: no change but a purge is wished for at it
 pub record IsIdle (self m : ℕ) (r : RunRow) : Type 0 where
   pub inactive : is_active r ≡ false
-  pub merged : is_mergeable self r ≡ false
+  pub merged : awaits_merging self r ≡ false
   pub unready : (is_booked r && (is_some r.confirmed && (not (is_some r.started) && may_start m r.interval))) ≡ false
   pub planned : (not (is_some r.accepted) && not (is_some r.closed)) ≡ false
 
@@ -172,7 +172,7 @@ module _ (self m : ℕ) (r : RunRow) (is : IsIdle self m r) where
 
   pub idle_merge : (c : Config) (b : Book) → c.number ≡ self → merge_run c m b r ≡ None
   idle_merge c b same =
-      let here : is_mergeable c.number r ≡ false = ap (λ n. is_mergeable n r) same ∙ is.merged in
+      let here : awaits_merging c.number r ≡ false = ap (λ n. awaits_merging n r) same ∙ is.merged in
       change_none _ _ (unmerged (r.key.lead == c.number) (is_some r.ended) (not (is_some r.merged)) (is_collected m r) here)
 
   unstarted : (booked confirmed open_ come free : Bool) → (booked && (confirmed && (open_ && come))) ≡ false → (booked && (confirmed && (open_ && (come && free)))) ≡ false

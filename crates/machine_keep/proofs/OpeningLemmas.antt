@@ -4,7 +4,7 @@ use Rattle.std.specs.Str.{bytes_eq}
 use Rattle.std.proofs.lemmas.Bool.Decides.{nat_tests}
 use Rattle.std.proofs.lemmas.Slice.Eq.{bytes_eq-Decides}
 use Rattle.host_journal.specs.Calls.{IsRead}
-use Rattle.host_journal.specs.Moments.{Adds, AddsOnly, Fits, IsNear, LeftIn, LiesBeside, Shows}
+use Rattle.host_journal.specs.Moments.{Adds, AddsOnly, IsDiskOf, IsNear, LeftIn, LiesBeside, Shows}
 use Rattle.host_journal.specs.Pair.{pair_of}
 use Rattle.host_journal.specs.State.{State, EachImage, IsBelow, IsLess, IsOurs, first_disk, pair_in, second_disk, stored}
 use Rattle.host_journal.specs.declared.reading.Counted.{Counted}
@@ -266,10 +266,10 @@ module _ {D : Type 0} (seen : D → List ℕ) (may_leave : D → List ℕ → Ty
           let fit = fits_pair From (seen first) (seen second) ours refl in
           let one : AddsOnly moment left_since first first_now OfFirst = adds_more moment left_since first first_now (λ c. LeftIn From (Made s) false c ⊎ LeftIn (stored seen mid) Then false c) OfFirst
           (adds_then moment left_since first (first_disk mid) first_now (LeftIn From (Made s) false) (LeftIn (stored seen mid) Then false) begun.adds_first adds)
-          (λ c. ⊎_elim (λ q. inl q) (λ r. ⊎_elim (λ is. inl (inl (subst (Fits From false) (sym is) fit.0))) (λ other. inr (r, other)) (same_bytes c (seen first)))) in
+          (λ c. ⊎_elim (λ q. inl q) (λ r. ⊎_elim (λ is. inl (inl (subst (IsDiskOf From false) (sym is) fit.0))) (λ other. inr (r, other)) (same_bytes c (seen first)))) in
           let two : AddsOnly moment left_since second second_now OfSecond = adds_more moment left_since second second_now (λ d. LeftIn From (Made s) true d ⊎ LeftIn (stored seen mid) Then true d) OfSecond
           (adds_then moment left_since second (second_disk mid) second_now (LeftIn From (Made s) true) (LeftIn (stored seen mid) Then true) begun.adds_second adds_too)
-          (λ d. ⊎_elim (λ q. inl q) (λ r. ⊎_elim (λ is. inl (inl (subst (Fits From true) (sym is) fit.1))) (λ other. inr (r, other)) (same_bytes d (seen second)))) in
+          (λ d. ⊎_elim (λ q. inl q) (λ r. ⊎_elim (λ is. inl (inl (subst (IsDiskOf From true) (sym is) fit.1))) (λ other. inr (r, other)) (same_bytes d (seen second)))) in
           each_unless first second first_now second_now OfFirst OfSecond
           (λ c d. (StandsEither stands stood s (pair_of c d) ⊎ StandsFor stands later (pair_of c d)) ⊎ AreBetween (seen first) (seen second) From (stored seen mid) c d) (inl (inl fit.0)) (inl (inl fit.1)) one two
           (λ c d q r. joined (λ pair. StandsEither stands stood s pair ⊎ StandsFor stands later pair) From (stored seen mid) (Made s) Then ours (⊎_elim (λ is. inl is) (λ made. inr made.1) begun.at) (λ pair made. made.1) (λ pair made. made.1)

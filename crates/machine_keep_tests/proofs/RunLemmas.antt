@@ -2,7 +2,7 @@
 use Rattle.std.proofs.Common.{◌≡◌, ◌⊎◌, inl, inr, ⊎_elim, ℕ, Bool, true, false, List, [], ◌∷◌, ◌++◌, Result, Ok, Err, refl, sym, ap, subst, ◌≤◌}
 use Rattle.ps_disks.specs.Disk.{Only}
 use Rattle.host_journal.specs.Calls.{IsRead}
-use Rattle.host_journal.specs.Moments.{Shows, LiesBeside, Fits, Adds, LeftIn, IsNear}
+use Rattle.host_journal.specs.Moments.{Shows, LiesBeside, IsDiskOf, Adds, LeftIn, IsNear}
 use Rattle.host_journal.specs.Pair.{pair_of}
 use Rattle.host_journal.specs.State.{State, stored, with_record, snapshot_of, IsAt, IsOurs, EachImage, EachSince, KeepsPlace, first_disk, second_disk}
 use Rattle.host_journal.specs.declared.reading.Counted.{Counted}
@@ -110,6 +110,6 @@ module _ {D : Type 0} (seen : D → List ℕ) (moment : D → ℕ) (left_since :
         → (c d : List ℕ) → left_since (first_disk new) (moment first) c → left_since (second_disk new) (moment second) d → Stands c d
     opened_fixed ours is only only_too c d left left_too =
         let fits = fits_pair from (seen first) (seen second) ours is in
-        let one : Left false c = ⊎_elim (λ now. inl (subst (Fits from false) (sym (only c now)) fits.0)) (λ q. q) (first_left c left) in
-        let two : Left true d = ⊎_elim (λ now. inl (subst (Fits from true) (sym (only_too d now)) fits.1)) (λ q. q) (second_left d left_too) in
+        let one : Left false c = ⊎_elim (λ now. inl (subst (IsDiskOf from false) (sym (only c now)) fits.0)) (λ q. q) (first_left c left) in
+        let two : Left true d = ⊎_elim (λ now. inl (subst (IsDiskOf from true) (sym (only_too d now)) fits.1)) (λ q. q) (second_left d left_too) in
         both c d one two

@@ -1,6 +1,6 @@
 //! A gatherer whose steps a crash stops: which bytes are there then, by the call at which it stops and the image.
 
-use crate::disks::{Kept, Pair, asked, has_bytes, new_keep, opened, pair_on};
+use crate::disks::{GathererKeep, Pair, asked, has_bytes, new_keep, opened, pair_on};
 use crate::journals::place_of;
 use crate::snapshot_tests::{PIECE, gathers, piece};
 use ps_disks::image::Image;
@@ -69,7 +69,7 @@ fn one_without_changes_leaves_the_bytes(rt: HostRuntime) -> Result<(), Fail> {
 }
 
 // With fifteen pieces. One more, and the records are many.
-fn with_pieces(alloc: Global) -> Result<Option<Kept>, Memory> {
+fn with_pieces(alloc: Global) -> Result<Option<GathererKeep>, Memory> {
     let Some(mut keep) = opened(alloc, 2_000_000, pair_on(alloc, &FRESH_FIRST)?) else {
         return Ok(None);
     };

@@ -11,7 +11,7 @@ use std::alloc::{AllocError, Global};
 
 pub type Pair = (MemoryDisk, MemoryDisk);
 
-pub type Kept = Keep<Gatherer, MemoryDisk>;
+pub type GathererKeep = Keep<Gatherer, MemoryDisk>;
 
 fn disk_of(alloc: Global, bytes: &[u8]) -> Result<MemoryDisk, AllocError> {
     Ok(MemoryDisk::new(alloc, bytes.to_vec(alloc)?, Vec::new(alloc)))
@@ -24,13 +24,13 @@ pub fn pair_on(alloc: Global, first: &[u8]) -> Result<Pair, AllocError> {
 }
 
 // The gatherer of at most so many bytes for which the disks stand.
-pub fn opened(alloc: Global, most: usize, pair: Pair) -> Option<Kept>
+pub fn opened(alloc: Global, most: usize, pair: Pair) -> Option<GathererKeep>
     ensures { IfSome result (λ keep. keep.machine.most ≡ most) }
 {
     Keep::open(alloc, most, pair.0, pair.1).ok()
 }
 
-pub fn new_keep(alloc: Global, most: usize) -> Result<Option<Kept>, AllocError>
+pub fn new_keep(alloc: Global, most: usize) -> Result<Option<GathererKeep>, AllocError>
     ensures { IfOk result (λ o. IfSome o (λ keep. keep.machine.most ≡ most)) }
 {
     Ok(opened(alloc, most, pair_on(alloc, &FRESH_FIRST)?))

@@ -1,6 +1,6 @@
 //! A gatherer one of whose disks fails a call: what its step answers, and what is there then, by the call that fails.
 
-use crate::disks::{Kept, Pair, asked, has_bytes, new_keep, opened, pair_on};
+use crate::disks::{GathererKeep, Pair, asked, has_bytes, new_keep, opened, pair_on};
 use crate::snapshot_tests::{PIECE, gathers, piece};
 use machine_keep::fault::StepFault;
 use ps_disks::image::Image;
@@ -20,7 +20,7 @@ static FAULTS: [(u64, bool, bool, bool, bool); 5] = [
 ];
 
 // A gatherer that gathered a byte while this call failed.
-fn faulted(alloc: Global, call: u64) -> Result<Option<Kept>, Memory> {
+fn faulted(alloc: Global, call: u64) -> Result<Option<GathererKeep>, Memory> {
     let Some(mut keep) = new_keep(alloc, 1_000)? else {
         return Ok(None);
     };
@@ -150,7 +150,7 @@ fn armed_pair(alloc: Global, call: u64) -> Result<Pair, Memory> {
 }
 
 // With fifteen pieces, and then one more while this call fails.
-fn with_pieces(alloc: Global, call: u64) -> Result<Option<Kept>, Memory> {
+fn with_pieces(alloc: Global, call: u64) -> Result<Option<GathererKeep>, Memory> {
     let Some(mut keep) = opened(alloc, MOST, armed_pair(alloc, call)?) else {
         return Ok(None);
     };

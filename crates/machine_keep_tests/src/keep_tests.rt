@@ -1,7 +1,7 @@
 //! A gatherer, kept: what its steps do to the disks, what a fault leaves, what the disks stand for.
 ghost use Rattle.std.specs.Prelude.{◌≡◌, IfOk, IfSome};
 
-use crate::disks::{Kept, Pair, asked, has_bytes, new_keep};
+use crate::disks::{GathererKeep, Pair, asked, has_bytes, new_keep};
 use machine_keep::fault::StepFault;
 use ps_disks::image::Image;
 use ps_time::memory::Memory;
@@ -19,7 +19,7 @@ static STEPS: [(Option<u8>, usize, u64); 5] = [
 
 fn steps_so(
     alloc: Global,
-    keep: &mut Kept,
+    keep: &mut GathererKeep,
     steps: &[(Option<u8>, usize, u64)],
 ) -> Result<bool, Memory> {
     for (byte, reply, calls) in steps {
@@ -58,7 +58,7 @@ fn kept_bytes(kept: bool) -> &'static [u8] {
 }
 
 // A byte is gathered while this call fails, where there is a place for one.
-fn failed(alloc: Global, call: u64) -> Result<Option<Kept>, Memory>
+fn failed(alloc: Global, call: u64) -> Result<Option<GathererKeep>, Memory>
     ensures { IfOk result (λ o. IfSome o (λ keep. keep.machine.most ≡ 1)) }
 {
     let Some(mut keep) = new_keep(alloc, 1)? else {

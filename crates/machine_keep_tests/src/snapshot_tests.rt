@@ -1,6 +1,6 @@
 //! Snapshots of a gatherer: of one whose list is in the earlier form, and where the records are many.
 
-use crate::disks::{Kept, Pair, asked, has_bytes, opened, pair_on};
+use crate::disks::{GathererKeep, Pair, asked, has_bytes, opened, pair_on};
 use host_journal::fault::{OpenFault, OpenReason};
 use ps_disks::image::Image;
 use ps_disks::memory_disk::MemoryDisk;
@@ -74,7 +74,7 @@ fn an_earlier_list_is_written_anew_at_its_first_opening(rt: HostRuntime) -> Resu
 fn cut_after(alloc: Global, calls: u64) -> Result<Pair, Memory> {
     let (first, mut second) = pair_on(alloc, &EARLIER)?;
     second.fail_at(Some(calls.saturating_add(1)));
-    match Kept::open(alloc, 1_000, first, second) {
+    match GathererKeep::open(alloc, 1_000, first, second) {
         Ok(keep) => Ok(keep.into_disks()),
         Err(fault) => Ok((fault.first, fault.second)),
     }
@@ -106,7 +106,7 @@ fn what_a_crash_leaves_of_it_stands_for_the_same_bytes(rt: HostRuntime) -> Resul
 
 // Why it isn't opened, and the disks.
 fn refused(alloc: Global, pair: Pair) -> Option<OpenFault<MemoryDisk>> {
-    Kept::open(alloc, 1_000, pair.0, pair.1).err()
+    GathererKeep::open(alloc, 1_000, pair.0, pair.1).err()
 }
 
 fn failed_at(alloc: Global, call: u64) -> Result<bool, Memory> {
@@ -170,7 +170,7 @@ pub fn piece(alloc: Global) -> Result<Option<Items<u8>>, Memory> {
 }
 
 // So many pieces more.
-pub fn gathers(alloc: Global, keep: &mut Kept, pieces: usize) -> Result<bool, Memory> {
+pub fn gathers(alloc: Global, keep: &mut GathererKeep, pieces: usize) -> Result<bool, Memory> {
     for _ in 0..pieces {
         let piece = piece(alloc)?;
         if keep.apply(alloc, piece).is_err() {

@@ -5,9 +5,9 @@ use Rattle.ps_time.specs.declared.class.Class.{Class}
 use Rattle.ps_time.specs.declared.key.RunKey.{RunKey}
 use Rattle.ps_time.specs.declared.moment.TheConstants.{MAX_MOMENT}
 use Rattle.plugin_core.specs.TestSpec.{test_class}
-use Rattle.limit_apply.specs.Limits.{Config as Limits}
+use Rattle.limit_apply.specs.Limits.{LimitsConfig as Limits}
 use Rattle.run_states.specs.Content.{kept_proposal, same_content}
-use Rattle.run_states.specs.Life.{HasMoments, first, is_booked}
+use Rattle.run_states.specs.Life.{HasMoments, first_there, is_booked}
 use Rattle.run_states.specs.Preemption.{conflicts, firm_conflict}
 use Rattle.run_states.specs.ResultBytes.{result_bytes}
 use Rattle.run_states.specs.Rows.{IsAscendingRows, find_row}
@@ -52,8 +52,8 @@ next_key key class interval after rows = find (is_after after) (keys_of_rows (co
 -- what is held against a run whose tool is there: its start, the limits, a conflict
 abbrev pub later_objection : Limits → List RunRow → ℕ → Proposal → Option Denial
 later_objection l rows m p =
-    first (unless (nat_le m p.start) (Past m p.start)) (
-    first (limits_denial (verdict_of l p)) (
+    first_there (unless (nat_le m p.start) (Past m p.start)) (
+    first_there (limits_denial (verdict_of l p)) (
     conflict_denial (firm_conflict p.key (test_class p.test) (wanted_span p) p.priority m rows)))
 
 -- what a proposal with these participants comes to where the row has its key

@@ -2,7 +2,7 @@
 ghost use Rattle.std.specs.Prelude.{◌≡◌, ◌≤◌, ℕ, List, IfOk, IfSome, length};
 ghost use Rattle.std.specs.Option.{option_copied};
 ghost use Rattle.ps_time.specs.declared.moment.TheConstants.{MAX_MOMENT};
-ghost use Rattle.limit_apply.specs.Limits.{Config as LimitsSeen};
+ghost use Rattle.limit_apply.specs.Limits.{LimitsConfig as LimitsSeen};
 ghost use Rattle.run_states.specs.declared.row.RunRow.{RunRow as Row};
 ghost use Rattle.run_states.specs.Life.{HasMoments};
 ghost use Rattle.run_states.specs.ResultBytes.{result_bytes};

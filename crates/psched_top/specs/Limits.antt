@@ -2,7 +2,7 @@
 use Rattle.std.specs.Prelude.{ℕ, List, ◌++◌, codes, decimal}
 use Rattle.limit_ident.specs.Fault.{limit_fault_text}
 use Rattle.limit_ident.specs.declared.fault.LimitFault.{LimitFault}
-use Rattle.limit_apply.specs.Limits.{Config, counts_of}
+use Rattle.limit_apply.specs.Limits.{LimitsConfig, counts_of}
 use Rattle.limit_apply.specs.declared.limits.Counts.{Counts}
 
 -- how many entries of each list there are
@@ -11,7 +11,7 @@ counts_text counts =
     codes "valid: " ++ decimal counts.identifiers ++ codes " identifiers, " ++ decimal counts.classifiers ++ codes " classifiers, "
     ++ decimal counts.limits ++ codes " limits, " ++ decimal counts.applications ++ codes " applications"
 
-abbrev pub valid_text : Config → List ℕ
+abbrev pub valid_text : LimitsConfig → List ℕ
 valid_text config = counts_text (counts_of config)
 
 -- a refusal as a user reads it: `limits: bad cidr 10.0.0.0/33`

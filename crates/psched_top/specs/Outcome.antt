@@ -4,7 +4,7 @@ use Rattle.ps_time.specs.Numbers.{most_input_bytes}
 use Rattle.ps_ports.specs.declared.fault.AllFault.{AllFault}
 use Rattle.ps_ports.specs.declared.fault.AllFault.TheVariants.{TooLong as MoreCame, ReadFault, Memory}
 use Rattle.limit_ident.specs.declared.fault.LimitFault.{LimitFault}
-use Rattle.limit_apply.specs.Limits.{Config}
+use Rattle.limit_apply.specs.Limits.{LimitsConfig}
 use Rattle.rehearsal_script.specs.declared.script.Script.{Script}
 use Rattle.rehearsal_script.specs.declared.script.ScriptFault.{ScriptFault}
 use Rattle.rehearsal_script.specs.Refusal.{fault_text}
@@ -54,7 +54,7 @@ outcome_of_script comes (Ok script) = Report (report_of comes script)
 outcome_of_script comes (Err fault) = Refused (line (fault_text fault))
 
 -- the line of a configuration's counts, or its first refusal
-abbrev pub outcome_of_limits : Result Config LimitFault → Outcome
+abbrev pub outcome_of_limits : Result LimitsConfig LimitFault → Outcome
 outcome_of_limits (Ok config) = Valid (line (valid_text config))
 outcome_of_limits (Err fault) = Refused (line (refusal_text fault))
 

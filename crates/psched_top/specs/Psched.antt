@@ -5,7 +5,7 @@ use Rattle.ps_ports.specs.All.{WrotePrefix}
 use Rattle.ps_ports.specs.Causes.{Rose}
 use Rattle.world_law.specs.Laws.{Safe}
 use Rattle.world_law.specs.World.{World}
-use Rattle.limit_apply.specs.Limits.{Config}
+use Rattle.limit_apply.specs.Limits.{LimitsConfig}
 use Rattle.rehearsal_script.specs.declared.script.Script.{Script}
 use Rattle.rehearsal_model.specs.Moves.{Outcomes}
 use Rattle.rehearsal_model.specs.Simulations.{UnsyncedKept, world_of}
@@ -74,7 +74,7 @@ pub record Checked (held left : Option (List ℕ)) : Type 0 where
   pub input : List ℕ
   pub all : IsAll held input
   pub ended : IsReadToEnd held left
-  pub config : Config
+  pub config : LimitsConfig
   pub grammar : config_in input ≡ Ok config
 
 -- the line of its counts is the outcome
@@ -83,7 +83,7 @@ IsChecked held left outcome = (c : Checked held left) × (outcome ≡ Valid (lin
 
 -- the input is a configuration of limits, and the line of its counts is the outcome
 pub record IsValid (input : List ℕ) (outcome : Outcome) : Type 0 where
-  pub config : Config
+  pub config : LimitsConfig
   pub grammar : config_in input ≡ Ok config
   pub counts : outcome ≡ Valid (line (valid_text config))
 

@@ -16,7 +16,7 @@ use Rattle.ps_time.specs.declared.class.Class.TheVariants.{Exclusive}
 use Rattle.archivers.specs.Outcome.{plain}
 use Rattle.schedule_rule.specs.Rule.{first_from}
 use Rattle.limit_rule.specs.declared.limit.Rule.TheVariants.{PassFail}
-use Rattle.limit_apply.specs.Limits.{Config}
+use Rattle.limit_apply.specs.Limits.{LimitsConfig}
 use Rattle.limit_apply.specs.Open.{open_config}
 use Rattle.api_reply.specs.Shown.{moment_data, run_text, second_data, task_text}
 use Rattle.rehearsal_script.specs.declared.script.Numbered.{Numbered}
@@ -118,7 +118,7 @@ unfolding is_utf8 chars encode digits uuid_on_literals serde_json_on_literals es
 canceling = refl
 
 -- limits under which nothing is allowed
-abbrev deny : Config
+abbrev deny : LimitsConfig
 deny = record open_config { limits = record { name = codes "no"; value = record { rule = PassFail false; invert = false } } ∷ []; text = codes "{}" }
 
 denying : report_of plain (script (host (codes "a") 1 ∷ []) (line.Host 0 ∷ line.Book 0 0 Exclusive (pos 0) 100 10 ∷ line.Limits 0 deny ∷ line.Book 0 0 Exclusive (pos 0) 200 10 ∷ [])) ≡
@@ -127,7 +127,7 @@ unfolding digits uuid_on_literals escape_byte length_text_of moment_text_of day_
 denying = refl
 
 -- limits are set at the greatest moment of the lines above, so an earlier start is past
-abbrev others : Config
+abbrev others : LimitsConfig
 others = record open_config { text = codes "{}" }
 
 setting : report_of plain (script (host (codes "a") 1 ∷ []) (line.Host 0 ∷ line.Turn 95 0 ∷ line.Limits 0 others ∷ line.Book 50 0 Exclusive (pos 0) 90 10 ∷ [])) ≡ codes "1 ok\n2 changes 0\n3 ok\n4 denied 2 past\n"

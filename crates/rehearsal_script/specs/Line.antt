@@ -7,7 +7,7 @@ use Rattle.ps_json.specs.Answer.{then_with}
 use Rattle.ps_time.specs.Class.{class_of_text}
 use Rattle.ps_time.specs.Name.{is_name}
 use Rattle.ps_time.specs.Numbers.{greatest_length, most_script_hosts}
-use Rattle.limit_apply.specs.Limits.{Config}
+use Rattle.limit_apply.specs.Limits.{LimitsConfig}
 use Rattle.limit_apply.specs.Read.{config_in}
 use Rattle.rehearsal_script.specs.Words.{number_of, moment_of, numeral_of, image_of, priority_of, is_address, tools_of}
 use Rattle.rehearsal_script.specs.declared.kind.Kind.{Kind}
@@ -62,7 +62,7 @@ abbrev pub rest : List (List ℕ) → List ℕ
 rest fields = join_with_byte 32 fields
 
 -- the configuration of limits that the rest of a line is
-unfoldable pub limits_of : List (List ℕ) → Option Config
+unfoldable pub limits_of : List (List ℕ) → Option LimitsConfig
 limits_of fields = result_ok (config_in (rest fields))
 
 -- ---- lines

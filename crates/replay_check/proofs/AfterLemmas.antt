@@ -4,7 +4,7 @@ use Rattle.std.proofs.Common.{◌≡◌, ◌∙◌, ℕ, true, cond, List, [], �
 use Rattle.std.proofs.lemmas.List.Elements.{All-head, All-tail}
 use Rattle.ps_time.specs.declared.key.RunKey.{RunKey}
 use Rattle.run_states.specs.Conflict.{in_conflict}
-use Rattle.run_states.specs.Life.{close_row, first}
+use Rattle.run_states.specs.Life.{close_row, first_there}
 use Rattle.run_states.specs.Preemption.{Incoming, give_way}
 use Rattle.run_states.specs.Rows.{find_row, put_row}
 use Rattle.run_states.specs.declared.row.RunRow.{RunRow}
@@ -58,11 +58,11 @@ module _ (self m n : ℕ) (tasks others : List TaskRow) (c : Change) (rows : Lis
     host_came all = found_of_all (IsHostRow self others n) r.key r (put_new (new_row m c) (map changed rows)) all found
 
 -- ---- what gives way isn't started
-closed_some : (o : Option Closing) (c : Closing) → IsNone (first o (Some c)) → ⊥
+closed_some : (o : Option Closing) (c : Closing) → IsNone (first_there o (Some c)) → ⊥
 closed_some None c none = cc
 closed_some (Some x) c none = cc
 
-no_start : (o : Option ℕ) (confirmed : Option ℕ) (closed : Option Closing) (c : Closing) → IfSome o (λ m. IsSome confirmed × IsNone (first closed (Some c))) → IsNone o
+no_start : (o : Option ℕ) (confirmed : Option ℕ) (closed : Option Closing) (c : Closing) → IfSome o (λ m. IsSome confirmed × IsNone (first_there closed (Some c))) → IsNone o
 no_start None confirmed closed c life = refl
 no_start (Some s) confirmed closed c life = absurd (closed_some closed c life.1)
 

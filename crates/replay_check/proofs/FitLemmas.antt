@@ -28,7 +28,7 @@ use Rattle.host_model.proofs.RowLemmas.{found_of_all}
 use Rattle.replay_check.proofs.AfterLemmas.{none_is}
 use Rattle.replay_check.proofs.NeedLemmas.{unaccepted}
 use Rattle.replay_check.proofs.WayLemmas.{way_apart}
-use Rattle.replay_check.specs.Suits.{Fits}
+use Rattle.replay_check.specs.Suits.{FitsBook}
 use Rattle.replay_check.specs.Way.{IsFreeWay}
 
 new_unbooked : (o : Option RunRow) → IsNone o → IfSome o (λ x. is_booked x ≡ false)
@@ -44,7 +44,7 @@ module _ (self other : ℕ) (b : Book) (lawful : Lawful other b) where
     apart : IsNewKey b p.key → Way ↔ IsWayFree b.rows (Accepted p hosts epoch)
     apart new = way_apart (test_class p.test) (wanted_span p) b.rows lawful.ascending p.key (new_unbooked (find_row b.rows p.key) new)
 
-    pub accept_fits : (IsNewKey b p.key × CanAccept self p hosts × HasRoom b × ((epoch ≤ length b.epochs) × Way)) ↔ Fits self b (Accepted p hosts epoch)
+    pub accept_fits : (IsNewKey b p.key × CanAccept self p hosts × HasRoom b × ((epoch ≤ length b.epochs) × Way)) ↔ FitsBook self b (Accepted p hosts epoch)
     accept_fits = (
       λ may. (may.0, (may.1, may.2, record { known = may.3.0; way = (apart may.0).0 may.3.1 })),
       λ fits. (fits.0, fits.1.0, fits.1.1, (fits.1.2.known, (apart fits.0).1 fits.1.2.way)),
@@ -83,7 +83,7 @@ module _ (self other : ℕ) (b : Book) (lawful : Lawful other b) where
                 (subst (λ i. in_conflict q.key (test_class q.test) i r ≡ true → IsNone r.started) interval_is (subst (λ o. IfSome o (λ i. in_conflict i.key i.class i.interval r ≡ true → IsNone r.started)) (ap (option_map (planned_run start)) at) (way r found)))),
           )
 
-    pub plan_fits : (IsNone q.accepted × IsNone q.closed × (IsSome (tool_of_text tool) × (start ≤ greatest_moment)) × ((epoch ≤ length b.epochs) × PlanWay)) ↔ Fits self b (Planned k start tool epoch)
+    pub plan_fits : (IsNone q.accepted × IsNone q.closed × (IsSome (tool_of_text tool) × (start ≤ greatest_moment)) × ((epoch ≤ length b.epochs) × PlanWay)) ↔ FitsBook self b (Planned k start tool epoch)
     plan_fits = (
       λ may. (
         subst (λ o. MatchOption o ⊥ (λ r. IsNone r.accepted × IsNone r.closed)) (sym at) (may.0, may.1),

@@ -19,7 +19,7 @@ use Rattle.limit_apply.specs.Read.{IsKept}
 use Rattle.run_states.specs.Conflict.{blocks, in_conflict}
 use Rattle.run_states.specs.Effect.{accept_row, change_at, change_other, confirmed_if, is_alone, with_free, with_result}
 use Rattle.run_states.specs.LawfulRow.{HasArchives, IsDueInTime, IsFreeAnswer, IsLawfulRow, IsOther, IsWhy, Reserves}
-use Rattle.run_states.specs.Life.{close_row, first, is_booked, may_take}
+use Rattle.run_states.specs.Life.{close_row, first_there, is_booked, may_take}
 use Rattle.run_states.specs.Preemption.{give_way, planned_run, planned_span}
 use Rattle.run_states.specs.Rows.{find_row}
 use Rattle.run_states.specs.declared.answer.FreeAnswer.{FreeAnswer}
@@ -85,23 +85,23 @@ not_true : (t : Bool) → not t ≡ true → t ≡ false
 not_true false is = refl
 not_true true is = cc
 
-closing_why : (c : Closing) (o : Option Closing) → o ≡ None → IfSome (first o (Some c)) (λ x. IsWhy x.why) → IsWhy c.why
+closing_why : (c : Closing) (o : Option Closing) → o ≡ None → IfSome (first_there o (Some c)) (λ x. IsWhy x.why) → IsWhy c.why
 closing_why c None none is = is
 closing_why c (Some x) none is = cc
 
-ending_text : (e : Ending) (o : Option Ending) → o ≡ None → IfSome (option_map (λ (x : Ending). x.body) (first o (Some e))) IsResultText → IsResultText e.body
+ending_text : (e : Ending) (o : Option Ending) → o ≡ None → IfSome (option_map (λ (x : Ending). x.body) (first_there o (Some e))) IsResultText → IsResultText e.body
 ending_text e None none is = is
 ending_text e (Some x) none is = cc
 
-first_free : (answer : FreeAnswer) (o : Option FreeAnswer) → IfSome (first o (Some answer)) IsFreeAnswer → IsNone o → IsFreeAnswer answer
+first_free : (answer : FreeAnswer) (o : Option FreeAnswer) → IfSome (first_there o (Some answer)) IsFreeAnswer → IsNone o → IsFreeAnswer answer
 first_free answer None is none = is
 first_free answer (Some x) is none = cc
 
-first_heard : (result : Option (List ℕ)) (o : Option (Option (List ℕ))) → IsResult (option_and_then (λ told. told) (first o (Some result))) → IsNone o → IsResult result
+first_heard : (result : Option (List ℕ)) (o : Option (Option (List ℕ))) → IsResult (option_and_then (λ told. told) (first_there o (Some result))) → IsNone o → IsResult result
 first_heard result None is none = is
 first_heard result (Some x) is none = cc
 
-first_needs : (m : ℕ) (o started : Option ℕ) → IfSome (first o (Some m)) (λ a. IsSome started) → IsSome started
+first_needs : (m : ℕ) (o started : Option ℕ) → IfSome (first_there o (Some m)) (λ a. IsSome started) → IsSome started
 first_needs m None started needs = needs
 first_needs m (Some x) started needs = needs
 
@@ -121,7 +121,7 @@ unaccepted test (Some tool) interval reserves = absurd reserves
 unaccepted test None (Some i) reserves = absurd reserves
 
 reserves_first : (test : TestSpec) (accepted : Option ℕ) (tool : Option (List ℕ)) (interval : Option Span) (m : ℕ) (name : List ℕ) (span : Span) → accepted ≡ None → tool ≡ None → interval ≡ None →
-    Reserves test (first accepted (Some m)) (first tool (Some name)) (first interval (Some span)) → Reserves test (Some m) (Some name) (Some span)
+    Reserves test (first_there accepted (Some m)) (first_there tool (Some name)) (first_there interval (Some span)) → Reserves test (Some m) (Some name) (Some span)
 reserves_first test None None None m name span no_moment no_tool no_span reserves = reserves
 reserves_first test (Some x) tool interval m name span no_moment no_tool no_span reserves = cc
 reserves_first test None (Some x) interval m name span no_moment no_tool no_span reserves = cc
@@ -255,7 +255,7 @@ module _ (self : ℕ) (b : Book) (lawful : Lawful self b) where
       go None at none = cc
       go (Some r) at some = λ first_time.
           let host : IsHostRow self b.tasks m (effect m b.tasks (Merged k body) r) = own_host (Merged k body) k r at refl after.rows in
-          let merged : first r.merged (Some body) ≡ Some body = ap (λ o. first o (Some body)) (none_is r.merged first_time) in
+          let merged : first_there r.merged (Some body) ≡ Some body = ap (λ o. first_there o (Some body)) (none_is r.merged first_time) in
           let kept = subst (HasArchives (effect m b.tasks (Merged k body) r)) merged host.row.merged in
           let led = subst (HasStates self (archives_of b.tasks r.key) (effect m b.tasks (Merged k body) r)) merged host.merged in
           (kept.0, ap (λ j. j.lead) (sym (find_row-key b.rows k r at)) ∙ led.0, kept.1)

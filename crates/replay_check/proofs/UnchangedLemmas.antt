@@ -9,7 +9,7 @@ use Rattle.ps_time.specs.declared.key.RunKey.{RunKey}
 use Rattle.archive_retry.specs.Retry.{due_from}
 use Rattle.archive_retry.specs.declared.state.ArchiveState.{ArchiveState}
 use Rattle.run_states.specs.Effect.{change_at, change_other, merge_row, or_else, with_free, with_result}
-use Rattle.run_states.specs.Life.{first}
+use Rattle.run_states.specs.Life.{first_there}
 use Rattle.run_states.specs.Rows.{IsAscendingRows, find_row}
 use Rattle.run_states.specs.declared.answer.FreeAnswer.{FreeAnswer}
 use Rattle.run_states.specs.declared.answer.Other.{Other}
@@ -23,7 +23,7 @@ use Rattle.host_model.proofs.Keyed.{key_is}
 use Rattle.host_model.proofs.RowLemmas.{all_of_found}
 
 -- ---- one row
-kept_first : {A : Type 0} (o later : Option A) → is_some o ≡ true → first o later ≡ o
+kept_first : {A : Type 0} (o later : Option A) → is_some o ≡ true → first_there o later ≡ o
 kept_first (Some a) later some = refl
 kept_first None later some = cc
 

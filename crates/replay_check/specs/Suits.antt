@@ -28,5 +28,5 @@ Suits self b (Merged k body) = WithRow b k (IsFirstMerge self k body)
 Suits self b c = Brings self b.moment b c
 
 -- it can be applied, and suits the book
-abbrev pub Fits : ℕ → Book → Change → Type 0
-Fits self b c = CanApply b c × Suits self b c
+abbrev pub FitsBook : ℕ → Book → Change → Type 0
+FitsBook self b c = CanApply b c × Suits self b c

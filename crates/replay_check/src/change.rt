@@ -2,7 +2,7 @@
 ghost use Rattle.std.specs.Prelude.{◌≡◌, ◌↔◌, IfOk, IsTrue};
 ghost use Rattle.replay_check.specs.Follows.{Follows};
 ghost use Rattle.replay_check.specs.ReadChange.{IsReadChange};
-ghost use Rattle.replay_check.specs.Suits.{Fits};
+ghost use Rattle.replay_check.specs.Suits.{FitsBook};
 ghost use Rattle.host_model.specs.declared.change.Change.TheVariants.{LimitsSet as LimitsSetChange};
 
 use crate::comes::{fits_accepted, fits_asked, fits_planned, fits_task};
@@ -19,7 +19,7 @@ use std::alloc::Global;
 
 // Limits that are there are in bounds.
 fn fits_limits(number: u16, book: &HostBook, limits: &Limits) -> bool
-    ensures { IsTrue result ↔ Fits number book.now.book (LimitsSetChange limits.now) }
+    ensures { IsTrue result ↔ FitsBook number book.now.book (LimitsSetChange limits.now) }
 {
     let _known = book.moment();
     law_one_kept(limits);
@@ -28,7 +28,7 @@ fn fits_limits(number: u16, book: &HostBook, limits: &Limits) -> bool
 
 fn fits(alloc: Global, number: u16, book: &HostBook, change: &Change) -> Result<bool, Memory>
     requires { IsReadChange change.now }
-    ensures { IfOk result (λ fits. IsTrue fits ↔ Fits number book.now.book change.now) }
+    ensures { IfOk result (λ fits. IsTrue fits ↔ FitsBook number book.now.book change.now) }
 {
     match change {
         Change::Posted(task) => Ok(fits_task(number, book, task.value())),

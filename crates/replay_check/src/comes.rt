@@ -12,7 +12,7 @@ ghost use Rattle.host_model.specs.declared.change.Change.TheVariants.{Accepted a
 ghost use Rattle.host_model.proofs.Brings.{HasRoom};
 ghost use Rattle.host_model.proofs.NewRows.{CanAccept};
 ghost use Rattle.book_check.specs.Known.{IsReadTask};
-ghost use Rattle.replay_check.specs.Suits.{Fits};
+ghost use Rattle.replay_check.specs.Suits.{FitsBook};
 ghost use Rattle.replay_check.specs.Way.{IsFreeWay};
 
 use crate::runs::{can_accept, can_ask};
@@ -36,7 +36,7 @@ use run_states::row::RunRow;
 /// Whether the task may be posted.
 pub(crate) fn fits_task(number: u16, book: &HostBook, task: &TaskRow) -> bool
     requires { IsReadTask task.now }
-    ensures { IsTrue result ↔ Fits number book.now.book (PostedChange task.now) }
+    ensures { IsTrue result ↔ FitsBook number book.now.book (PostedChange task.now) }
 {
     let count = book.tasks().len();
     count < MOST_TASKS && task.serial as usize == count + 1 && is_lawful_task(book.moment(), task)
@@ -87,7 +87,7 @@ pub(crate) fn fits_accepted(
     epoch: u32,
 ) -> bool
     requires { IsTest proposal.now.test }
-    ensures { IsTrue result ↔ Fits number book.now.book (AcceptedChange proposal.now hosts.now epoch) }
+    ensures { IsTrue result ↔ FitsBook number book.now.book (AcceptedChange proposal.now hosts.now epoch) }
 {
     let _known = book.rows();
     may_accept(number, book, proposal, hosts, epoch)
@@ -102,7 +102,7 @@ pub(crate) fn fits_asked(
     asker: &Asker,
 ) -> bool
     requires { IsTest question.now.test }
-    ensures { IsTrue result ↔ Fits number book.now.book (AskedChange question.now hosts.now asker.now) }
+    ensures { IsTrue result ↔ FitsBook number book.now.book (AskedChange question.now hosts.now asker.now) }
 {
     is_new(book, question.key) && can_ask(number, book.tasks(), question, hosts) && has_room(book)
 }
@@ -143,7 +143,7 @@ pub(crate) fn fits_planned(
     tool: &Text,
     epoch: u32,
 ) -> bool
-    ensures { IsTrue result ↔ Fits number book.now.book (PlannedChange key start tool.now epoch) }
+    ensures { IsTrue result ↔ FitsBook number book.now.book (PlannedChange key start tool.now epoch) }
 {
     match book.rows().find(key) {
         None => false,

@@ -3,7 +3,7 @@ ghost use Rattle.std.specs.Prelude.{◌↔◌, IfOk, IsTrue};
 ghost use Rattle.host_model.specs.declared.change.Change.TheVariants.{AcceptHeard as AcceptHeardChange, Closed as ClosedChange, Confirmed as ConfirmedChange, Ended as EndedChange, FreeHeard as FreeHeardChange, MaterialHeard as MaterialHeardChange, Merged as MergedChange, Purged as PurgedChange, ResultHeard as ResultHeardChange, Started as StartedChange, TaskClosed as TaskClosedChange, Told as ToldChange, Tried as TriedChange};
 ghost use Rattle.run_states.specs.declared.answer.Told.{Told as What};
 ghost use Rattle.row_check.specs.HasTests.{WhyTests};
-ghost use Rattle.replay_check.specs.Suits.{Fits};
+ghost use Rattle.replay_check.specs.Suits.{FitsBook};
 
 use crate::heard::{has_place, hears_free, hears_result, merges, tries};
 use crate::steps::{closes, ends};
@@ -20,14 +20,14 @@ use std::alloc::Global;
 
 /// Whether there is a task of the serial, to be canceled.
 pub(crate) fn fits_task_closed(number: u16, book: &HostBook, serial: u32) -> bool
-    ensures { IsTrue result ↔ Fits number book.now.book (TaskClosedChange serial) }
+    ensures { IsTrue result ↔ FitsBook number book.now.book (TaskClosedChange serial) }
 {
     find_task(book.tasks(), serial).is_some()
 }
 
 /// Whether the run may be confirmed.
 pub(crate) fn fits_confirmed(number: u16, book: &HostBook, key: RunKey) -> bool
-    ensures { IsTrue result ↔ Fits number book.now.book (ConfirmedChange key) }
+    ensures { IsTrue result ↔ FitsBook number book.now.book (ConfirmedChange key) }
 {
     match book.rows().find(key) {
         None => false,
@@ -38,7 +38,7 @@ pub(crate) fn fits_confirmed(number: u16, book: &HostBook, key: RunKey) -> bool
 /// Whether the run may be closed for this reason.
 pub(crate) fn fits_closed(number: u16, book: &HostBook, key: RunKey, why: &Why) -> bool
     requires { WhyTests why.now }
-    ensures { IsTrue result ↔ Fits number book.now.book (ClosedChange key why.now) }
+    ensures { IsTrue result ↔ FitsBook number book.now.book (ClosedChange key why.now) }
 {
     match book.rows().find(key) {
         None => false,
@@ -48,7 +48,7 @@ pub(crate) fn fits_closed(number: u16, book: &HostBook, key: RunKey, why: &Why) 
 
 /// Whether the run may start.
 pub(crate) fn fits_started(number: u16, book: &HostBook, key: RunKey) -> bool
-    ensures { IsTrue result ↔ Fits number book.now.book (StartedChange key) }
+    ensures { IsTrue result ↔ FitsBook number book.now.book (StartedChange key) }
 {
     match book.rows().find(key) {
         None => false,
@@ -65,7 +65,7 @@ pub(crate) fn fits_ended(
     good: bool,
     body: &Text,
 ) -> Result<bool, Memory>
-    ensures { IfOk result (λ fits. IsTrue fits ↔ Fits number book.now.book (EndedChange key good body.now)) }
+    ensures { IfOk result (λ fits. IsTrue fits ↔ FitsBook number book.now.book (EndedChange key good body.now)) }
 {
     match book.rows().find(key) {
         None => Ok(false),
@@ -81,7 +81,7 @@ pub(crate) fn fits_free_heard(
     place: u8,
     answer: &FreeAnswer,
 ) -> bool
-    ensures { IsTrue result ↔ Fits number book.now.book (FreeHeardChange key place answer.now) }
+    ensures { IsTrue result ↔ FitsBook number book.now.book (FreeHeardChange key place answer.now) }
 {
     match book.rows().find(key) {
         None => false,
@@ -91,8 +91,8 @@ pub(crate) fn fits_free_heard(
 
 /// Whether the run has such another participant.
 pub(crate) fn fits_acceptance(number: u16, book: &HostBook, key: RunKey, place: u8) -> bool
-    ensures accepted { IsTrue result ↔ Fits number book.now.book (AcceptHeardChange key place) }
-    ensures told { (told : What) → IsTrue result ↔ Fits number book.now.book (ToldChange key place told) }
+    ensures accepted { IsTrue result ↔ FitsBook number book.now.book (AcceptHeardChange key place) }
+    ensures told { (told : What) → IsTrue result ↔ FitsBook number book.now.book (ToldChange key place told) }
 {
     match book.rows().find(key) {
         None => false,
@@ -102,7 +102,7 @@ pub(crate) fn fits_acceptance(number: u16, book: &HostBook, key: RunKey, place: 
 
 /// Whether material may come to the run.
 pub(crate) fn fits_material(number: u16, book: &HostBook, key: RunKey) -> bool
-    ensures { IsTrue result ↔ Fits number book.now.book (MaterialHeardChange key) }
+    ensures { IsTrue result ↔ FitsBook number book.now.book (MaterialHeardChange key) }
 {
     match book.rows().find(key) {
         None => false,
@@ -119,7 +119,7 @@ pub(crate) fn fits_result(
     place: u8,
     told: &Option<Text>,
 ) -> Result<bool, Memory>
-    ensures { IfOk result (λ fits. IsTrue fits ↔ Fits number book.now.book (ResultHeardChange key place told.now)) }
+    ensures { IfOk result (λ fits. IsTrue fits ↔ FitsBook number book.now.book (ResultHeardChange key place told.now)) }
 {
     match book.rows().find(key) {
         None => Ok(false),
@@ -138,7 +138,7 @@ pub(crate) fn fits_merged(
     key: RunKey,
     body: &Text,
 ) -> Result<bool, Memory>
-    ensures { IfOk result (λ fits. IsTrue fits ↔ Fits number book.now.book (MergedChange key body.now)) }
+    ensures { IfOk result (λ fits. IsTrue fits ↔ FitsBook number book.now.book (MergedChange key body.now)) }
 {
     match book.rows().find(key) {
         None => Ok(false),
@@ -154,7 +154,7 @@ pub(crate) fn fits_tried(
     index: u8,
     state: &ArchiveState,
 ) -> bool
-    ensures { IsTrue result ↔ Fits number book.now.book (TriedChange key index state.now) }
+    ensures { IsTrue result ↔ FitsBook number book.now.book (TriedChange key index state.now) }
 {
     match book.rows().find(key) {
         None => false,
@@ -164,7 +164,7 @@ pub(crate) fn fits_tried(
 
 /// Whether the run has a row, to be purged.
 pub(crate) fn fits_purged(number: u16, book: &HostBook, key: RunKey) -> bool
-    ensures { IsTrue result ↔ Fits number book.now.book (PurgedChange key) }
+    ensures { IsTrue result ↔ FitsBook number book.now.book (PurgedChange key) }
 {
     book.rows().find(key).is_some()
 }

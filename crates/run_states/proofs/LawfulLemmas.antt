@@ -25,7 +25,7 @@ use Rattle.run_states.specs.declared.why.Why.{Why}
 use Rattle.run_states.specs.declared.why.Why.TheVariants.{Missed, Nonstart}
 use Rattle.run_states.specs.Effect.{accept_row, change_at, change_other, confirmed_complete, confirmed_if, is_acceptance, is_alone, is_complete, material_row, merge_row, noted_row, or_else, tried_row, with_answer}
 use Rattle.run_states.specs.LawfulRow.{BringsAnswer, BringsHeard, BringsResults, CanNote, CanTake, HasArchives, HasOrigin, IsDueInTime, IsFreeAnswer, IsLawfulRow, IsOther, IsUpTo, IsWhy, Needs, Reserves}
-use Rattle.run_states.specs.Life.{first, close_row, closed_by, confirm_row, end_row, start_row, is_booked, lapse_asked, lapse_at, lapse_held, lapse_missed, lapse_of, marked_row, settled_row, settled_rows}
+use Rattle.run_states.specs.Life.{first_there, close_row, closed_by, confirm_row, end_row, start_row, is_booked, lapse_asked, lapse_at, lapse_held, lapse_missed, lapse_of, marked_row, settled_row, settled_rows}
 use Rattle.run_states.specs.Rows.{change_row, find_row, IsAscendingRows}
 use Rattle.run_states.proofs.EffectLemmas.{change_all, change_length}
 use Rattle.run_states.proofs.Place.{changed_all}
@@ -68,17 +68,17 @@ module _ (m n : ℕ) (later : m ≤ n) where
     archives = l.archives;
   }
 
--- ---- what is set by `first`
+-- ---- what is set by `first_there`
 -- what holds of what stands, and of what comes, holds after
-first_if : {A : Type 0} (P : A → Type 0) (o : Option A) (a : A) → IfSome o P → P a → IfSome (first o (Some a)) P
+first_if : {A : Type 0} (P : A → Type 0) (o : Option A) (a : A) → IfSome o P → P a → IfSome (first_there o (Some a)) P
 first_if P None a stands comes = comes
 first_if P (Some b) a stands comes = stands
 
-first_some : {A : Type 0} (o : Option A) (a : A) → IsSome (first o (Some a))
+first_some : {A : Type 0} (o : Option A) (a : A) → IsSome (first_there o (Some a))
 first_some None a = refl
 first_some (Some b) a = refl
 
-needs_first : {A B : Type 0} (o : Option A) (p : Option B) (b : B) → Needs o (first p (Some b))
+needs_first : {A B : Type 0} (o : Option A) (p : Option B) (b : B) → Needs o (first_there p (Some b))
 needs_first None p b = tt
 needs_first (Some a) p b = first_some p b
 
@@ -114,7 +114,7 @@ module _ (m : ℕ) (r : RunRow) (l : IsLawfulRow m r) where
     archives = l.archives;
   }
     where
-      still : (o : Option ℕ) → IfSome o (λ x. IsSome r.confirmed × IsNone r.closed) → IfSome o (λ x. IsSome (first r.confirmed (Some m)) × IsNone r.closed)
+      still : (o : Option ℕ) → IfSome o (λ x. IsSome r.confirmed × IsNone r.closed) → IfSome o (λ x. IsSome (first_there r.confirmed (Some m)) × IsNone r.closed)
       still None started = tt
       still (Some s) started = (first_some r.confirmed m, started.1)
 
@@ -178,7 +178,7 @@ module _ (m : ℕ) (r : RunRow) (l : IsLawfulRow m r) where
     archives = l.archives;
   }
     where
-      result_after : (o : Option Ending) → IsResult (option_map (λ x. x.body) o) → IsResult (option_map (λ x. x.body) (first o (Some e)))
+      result_after : (o : Option Ending) → IsResult (option_map (λ x. x.body) o) → IsResult (option_map (λ x. x.body) (first_there o (Some e)))
       result_after None result = text
       result_after (Some x) result = result
 
@@ -216,7 +216,7 @@ module _ (m : ℕ) (r : RunRow) (l : IsLawfulRow m r) where
     archives = l.archives;
   }
     where
-      still : (o : Option ℕ) → IsNone o → IfSome o (λ x. IsSome r.confirmed × IsNone (first r.closed (Some c)))
+      still : (o : Option ℕ) → IsNone o → IfSome o (λ x. IsSome r.confirmed × IsNone (first_there r.closed (Some c)))
       still None none = tt
       still (Some s) none = cc
 
@@ -281,7 +281,7 @@ module _ (m : ℕ) (r : RunRow) (l : IsLawfulRow m r) where
     archives = l.archives;
   }
     where
-      reserves_after : (a : Option ℕ) (t : Option (List ℕ)) (i : Option Span) → Reserves r.test a t i → Reserves r.test (first a (Some m)) (first t (Some tool)) (first i (Some s))
+      reserves_after : (a : Option ℕ) (t : Option (List ℕ)) (i : Option Span) → Reserves r.test a t i → Reserves r.test (first_there a (Some m)) (first_there t (Some tool)) (first_there i (Some s))
       reserves_after None None None all = (known, low, exact)
       reserves_after (Some a) (Some t) (Some i) all = all
       reserves_after None None (Some i) all = absurd all
@@ -348,7 +348,7 @@ module _ (m : ℕ) (r : RunRow) (l : IsLawfulRow m r) where
     archives = archives_after r.archives l.archives;
   }
     where
-      merged_after : (o : Option (List ℕ)) → HasArchives r o → HasArchives (merge_row states body r) (first o (Some body))
+      merged_after : (o : Option (List ℕ)) → HasArchives r o → HasArchives (merge_row states body r) (first_there o (Some body))
       merged_after None has = (text, ended)
       merged_after (Some old) has = has
 
@@ -475,7 +475,7 @@ complete_lawful true m r l = confirmed_if_lawful (is_booked r && is_complete r) 
     both false b fails = cc
 complete_lawful false m r l = l
 
-heard_keeps : (result : Option (List ℕ)) → IsResult result → (o : Option (Option (List ℕ))) → IsResult (option_and_then (λ told. told) o) → IsResult (option_and_then (λ told. told) (first o (Some result)))
+heard_keeps : (result : Option (List ℕ)) → IsResult result → (o : Option (Option (List ℕ))) → IsResult (option_and_then (λ told. told) o) → IsResult (option_and_then (λ told. told) (first_there o (Some result)))
 heard_keeps result brings None is = brings
 heard_keeps result brings (Some old) is = is
 

@@ -6,7 +6,7 @@ use Rattle.std.proofs.lemmas.Bool.Decides.{nat_tests}
 use Rattle.ps_time.specs.Span.{Span}
 use Rattle.run_states.specs.declared.row.RunRow.{RunRow}
 use Rattle.run_states.specs.declared.why.Closing.{Closing}
-use Rattle.run_states.specs.Life.{first, close_row, lapse_asked, lapse_held, lapse_missed, lapse_at, lapse_of, closed_by, settled_row, settled_rows, HasMoments}
+use Rattle.run_states.specs.Life.{first_there, close_row, lapse_asked, lapse_held, lapse_missed, lapse_at, lapse_of, closed_by, settled_row, settled_rows, HasMoments}
 
 module _ (m n : ℕ) (later : m ≤ n) (c : Closing) where
   asked_alike : (o : Option ℕ) → lapse_asked m o ≡ Some c → lapse_asked n o ≡ Some c
@@ -38,7 +38,7 @@ closed_stays : (n : ℕ) (r : RunRow) (c : Closing) (o : Option Closing) → o �
 closed_stays n r c (Some d) is a k s = refl
 closed_stays n r c None is a k s = cc
 
-first_here : (c : Closing) (o : Option Closing) → o ≡ None → first o (Some c) ≡ Some c
+first_here : (c : Closing) (o : Option Closing) → o ≡ None → first_there o (Some c) ≡ Some c
 first_here c None is = refl
 first_here c (Some d) is = cc
 

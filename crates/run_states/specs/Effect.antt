@@ -1,9 +1,9 @@
--- What each fact does to a row. What is set once stays: `first` keeps it.
+-- What each fact does to a row. What is set once stays: `first_there` keeps it.
 use Rattle.std.specs.List.{list_all}
 use Rattle.std.specs.Prelude.{◌&&◌, ◌==◌, ◌∷◌, Bool, List, Option, Some, [], false, if◌then◌else◌, length, suc, true, zero, ℕ}
 use Rattle.ps_time.specs.Span.{Span}
 use Rattle.archive_retry.specs.declared.state.ArchiveState.{ArchiveState}
-use Rattle.run_states.specs.Life.{confirm_row, first, is_booked}
+use Rattle.run_states.specs.Life.{confirm_row, first_there, is_booked}
 use Rattle.run_states.specs.declared.answer.Answer.{Answer}
 use Rattle.run_states.specs.declared.answer.Answer.TheVariants.{Free, Accepted, Acknowledged, Result}
 use Rattle.run_states.specs.declared.answer.FreeAnswer.{FreeAnswer}
@@ -27,7 +27,7 @@ change_other f (suc i) r = record r { others = change_at f i r.others }
 
 -- ---- acceptance and confirmation
 abbrev pub accept_row : ℕ → Span → List ℕ → RunRow → RunRow
-accept_row m interval tool r = record r { tool = first r.tool (Some tool); interval = first r.interval (Some interval); accepted = first r.accepted (Some m) }
+accept_row m interval tool r = record r { tool = first_there r.tool (Some tool); interval = first_there r.interval (Some interval); accepted = first_there r.accepted (Some m) }
 
 -- the lead is the only participant
 abbrev pub is_alone : RunRow → Bool
@@ -52,7 +52,7 @@ confirmed_complete m r = confirmed_if (is_booked r && is_complete r) m r
 -- ---- what is heard of another participant
 -- when it is free
 abbrev pub with_free : FreeAnswer → Other → Other
-with_free answer o = record o { free = first o.free (Some answer) }
+with_free answer o = record o { free = first_there o.free (Some answer) }
 
 -- it has accepted
 abbrev pub with_acceptance : Other → Other
@@ -66,7 +66,7 @@ with_told Material o = record o { material_told = true }
 
 -- its result, or that it has none
 abbrev pub with_result : Option (List ℕ) → Other → Other
-with_result result o = record o { heard = first o.heard (Some result) }
+with_result result o = record o { heard = first_there o.heard (Some result) }
 
 -- what it answered
 abbrev pub with_answer : Answer → Other → Other
@@ -86,7 +86,7 @@ confirmed_by answer m r = if is_acceptance answer then confirmed_complete m r el
 -- ---- material, merging and archives
 -- the material came at m
 abbrev pub material_row : ℕ → RunRow → RunRow
-material_row m r = record r { material = first r.material (Some m) }
+material_row m r = record r { material = first_there r.material (Some m) }
 
 -- what stands, unless that is nothing
 abbrev pub or_else : {A : Type 0} → List A → List A → List A
@@ -95,7 +95,7 @@ or_else (x ∷ xs) ys = x ∷ xs
 
 -- merged into this text, with one state for each archive of the run's task
 abbrev pub merge_row : List ArchiveState → List ℕ → RunRow → RunRow
-merge_row states body r = record r { merged = first r.merged (Some body); archives = or_else r.archives states }
+merge_row states body r = record r { merged = first_there r.merged (Some body); archives = or_else r.archives states }
 
 -- the state of one archive is this from now on
 abbrev pub tried_row : ℕ → ArchiveState → RunRow → RunRow

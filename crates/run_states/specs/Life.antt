@@ -14,9 +14,9 @@ use Rattle.run_states.specs.declared.why.Why.TheVariants.{Missed, Preempted, Non
 use Rattle.run_states.specs.declared.why.Cause.TheVariants.{Silent, HoldEnded}
 
 -- what came first stays
-abbrev pub first : {A : Type 0} → Option A → Option A → Option A
-first (Some a) later = Some a
-first None later = later
+abbrev pub first_there : {A : Type 0} → Option A → Option A → Option A
+first_there (Some a) later = Some a
+first_there None later = later
 
 -- ---- what a row is ----
 -- it was accepted here and isn't closed
@@ -29,16 +29,16 @@ is_active r = is_some r.started && not (is_some r.ended)
 
 -- ---- the steps of its life: what is set stays ----
 abbrev pub confirm_row : ℕ → RunRow → RunRow
-confirm_row m r = record r { confirmed = first r.confirmed (Some m) }
+confirm_row m r = record r { confirmed = first_there r.confirmed (Some m) }
 
 abbrev pub start_row : ℕ → RunRow → RunRow
-start_row m r = record r { started = first r.started (Some m) }
+start_row m r = record r { started = first_there r.started (Some m) }
 
 abbrev pub end_row : Ending → RunRow → RunRow
-end_row e r = record r { ended = first r.ended (Some e) }
+end_row e r = record r { ended = first_there r.ended (Some e) }
 
 abbrev pub close_row : Closing → RunRow → RunRow
-close_row c r = record r { closed = first r.closed (Some c) }
+close_row c r = record r { closed = first_there r.closed (Some c) }
 
 -- the row after a step at m, whether or not its life has such a step
 abbrev pub marked_row : LifeStep → ℕ → RunRow → RunRow

@@ -9,7 +9,7 @@ use Rattle.ps_time.specs.declared.asker.Asker.{Asker}
 use Rattle.ps_time.proofs.LengthTextLemmas.{length_text_read}
 use Rattle.ps_time.proofs.MomentTextLemmas.{moment_text_read}
 use Rattle.plugin_core.proofs.WrittenLemmas.{test_back}
-use Rattle.limit_apply.specs.Limits.{Config}
+use Rattle.limit_apply.specs.Limits.{LimitsConfig}
 use Rattle.limit_apply.specs.Read.{config_in, of_own, own_config}
 use Rattle.task_spec.specs.Bounds.{IsTask}
 use Rattle.task_spec.specs.ReadTask.{task_of}
@@ -108,30 +108,30 @@ task_row_is =
     pair_is number_32_is (pair_is text_is (pair_is asker_is (pair_is number_64_is (option_is number_64 number_64_is)))))
 
 -- ---- limits: their text
-pub record FitsLimits (l : Config) : Type 0 where
+pub record FitsLimits (l : LimitsConfig) : Type 0 where
   pub again : config_in l.text ≡ Ok l
   pub text : IsText l.text
 
-abbrev pub text_of_limits : Config → List ℕ
+abbrev pub text_of_limits : LimitsConfig → List ℕ
 text_of_limits l = l.text
 
-abbrev pub AnyLimits : Config → Type 0
+abbrev pub AnyLimits : LimitsConfig → Type 0
 AnyLimits l = Unit {0}
 
-abbrev pub limits : Codec Config
+abbrev pub limits : Codec LimitsConfig
 limits = partly own_config text_of_limits AnyLimits FitsLimits text
 
-limits_again : (l : Config) → FitsLimits l → own_config l.text ≡ Some l
+limits_again : (l : LimitsConfig) → FitsLimits l → own_config l.text ≡ Some l
 limits_again l fits = rw (fits.again, same_text l.text) refl
 
-limits_read : (bytes : List ℕ) (l : Config) → own_config bytes ≡ Some l → l.text ≡ bytes
+limits_read : (bytes : List ℕ) (l : LimitsConfig) → own_config bytes ≡ Some l → l.text ≡ bytes
 limits_read bytes l e = by_config (config_in bytes) e
   where
-    by_same : (c : Config) (b : Bool) → bytes_eq c.text bytes ≡ b → cond b (Some c) None ≡ Some l → l.text ≡ bytes
+    by_same : (c : LimitsConfig) (b : Bool) → bytes_eq c.text bytes ≡ b → cond b (Some c) None ≡ Some l → l.text ≡ bytes
     by_same c true same e = ap text_of_limits (sym (some_is c l e)) ∙ (bytes_eq-Decides c.text bytes).0 same
     by_same c false same e = absurd cc
 
-    by_config : (r : Result Config _) → of_own bytes r ≡ Some l → l.text ≡ bytes
+    by_config : (r : Result LimitsConfig _) → of_own bytes r ≡ Some l → l.text ≡ bytes
     by_config (Ok c) e = by_same c (bytes_eq c.text bytes) refl e
     by_config (Err fault) e = absurd cc
 

@@ -6,7 +6,7 @@ use Rattle.ps_time.specs.declared.key.RunKey.{RunKey}
 use Rattle.plugin_core.specs.Participants.{participants}
 use Rattle.run_states.specs.Content.{kept_proposal, same_content}
 use Rattle.run_states.specs.LawfulRow.{Needs}
-use Rattle.run_states.specs.Life.{first, settled_row}
+use Rattle.run_states.specs.Life.{first_there, settled_row}
 use Rattle.run_states.specs.Rows.{find_row}
 use Rattle.run_states.specs.declared.proposal.Proposal.{Proposal}
 use Rattle.run_states.specs.declared.row.RunRow.{RunRow}
@@ -187,7 +187,7 @@ none_some o r e f = cc
 abbrev IsOtherDenial : Option Denial → Type 0
 IsOtherDenial o = IfSome o (λ d. SaysDiffers (reply.Denied d) → ⊥)
 
-first_other : (o q : Option Denial) → IsOtherDenial o → IsOtherDenial q → IsOtherDenial (first o q)
+first_other : (o q : Option Denial) → IsOtherDenial o → IsOtherDenial q → IsOtherDenial (first_there o q)
 first_other None q f g = g
 first_other (Some d) q f g = f
 
@@ -213,10 +213,10 @@ denial_other place rows m p =
     let runs : Bool = nat_lt (length rows) most_rows in
     let bytes : Bool = nat_lt place.bytes most_kept_bytes in
     let behind_late = first_other (limits_denial verdict) (conflict_denial firm) (limits_other verdict) (conflict_other firm) in
-    let behind_tool = first_other (unless late (Past m p.start)) (first (limits_denial verdict) (conflict_denial firm)) (unless_other late (Past m p.start) (λ f. f)) behind_late in
-    let against = first_other (unless tool (NoTool p.tool)) (first (unless late (Past m p.start)) (first (limits_denial verdict) (conflict_denial firm))) (unless_other tool (NoTool p.tool) (λ f. f)) behind_tool in
+    let behind_tool = first_other (unless late (Past m p.start)) (first_there (limits_denial verdict) (conflict_denial firm)) (unless_other late (Past m p.start) (λ f. f)) behind_late in
+    let against = first_other (unless tool (NoTool p.tool)) (first_there (unless late (Past m p.start)) (first_there (limits_denial verdict) (conflict_denial firm))) (unless_other tool (NoTool p.tool) (λ f. f)) behind_tool in
     let full = first_other (unless runs (Full Runs (length rows))) (unless bytes (Full Results place.bytes)) (unless_other runs (Full Runs (length rows)) (λ f. f)) (unless_other bytes (Full Results place.bytes) (λ f. f)) in
-    first_other (unless part NotParticipant) (first (objection place.installed place.limits rows m p) (full_denial rows place.bytes)) (unless_other part NotParticipant (λ f. f))
+    first_other (unless part NotParticipant) (first_there (objection place.installed place.limits rows m p) (full_denial rows place.bytes)) (unless_other part NotParticipant (λ f. f))
     (first_other (objection place.installed place.limits rows m p) (full_denial rows place.bytes) against full)
 
 never_differs : (place : Place) (rows : List RunRow) (m : ℕ) (p : Proposal) (d : Denial) → denial_of place rows m p ≡ Some d → SaysDiffers (reply.Denied d) → ⊥

@@ -7,7 +7,7 @@ use Rattle.ps_time.specs.Span.{Range, Span, span_of}
 use Rattle.ps_time.specs.declared.key.RunKey.{RunKey}
 use Rattle.ps_time.proofs.PictureLemmas.{and_true}
 use Rattle.run_states.specs.Effect.{accept_row, change_other, confirmed_if, is_alone, is_complete, with_acceptance, with_free, with_result, with_told}
-use Rattle.run_states.specs.Life.{first, is_booked}
+use Rattle.run_states.specs.Life.{first_there, is_booked}
 use Rattle.run_states.specs.LawfulRow.{HasOrigin, Reserves}
 use Rattle.run_states.specs.Life.{confirm_row, end_row}
 use Rattle.run_states.specs.declared.answer.Other.{Other}
@@ -30,7 +30,7 @@ use Rattle.host_model.specs.Book.{Book, epoch_of, find_pair, find_task, latest_e
 use Rattle.host_model.specs.Effect.{change_key, effect, has_key}
 use Rattle.host_model.specs.Fits.{wanted_span}
 use Rattle.host_model.specs.Granting.{AcceptsGranted, IsGrantedUnder, limits_of_epoch}
-use Rattle.host_model.specs.Grown.{Kept}
+use Rattle.host_model.specs.Grown.{Remains}
 use Rattle.host_model.specs.Lawful.{Lawful}
 use Rattle.host_model.specs.MayFollow.{CanApply, WithRow}
 use Rattle.host_model.specs.NewRow.{accepted_row, asked_row, new_row}
@@ -99,11 +99,11 @@ pair_comes k epoch pairs none = go (find_pair pairs k) refl none
     go (Some p) e f = cc
 
 -- what was there stays
-pairs_stay : (o : Option (RunKey × ℕ)) (pairs : List (RunKey × ℕ)) (k : RunKey) → Kept (option_map (λ p. p.1) (find_pair pairs k)) (option_map (λ p. p.1) (find_pair (put_pair o pairs) k))
+pairs_stay : (o : Option (RunKey × ℕ)) (pairs : List (RunKey × ℕ)) (k : RunKey) → Remains (option_map (λ p. p.1) (find_pair pairs k)) (option_map (λ p. p.1) (find_pair (put_pair o pairs) k))
 pairs_stay None pairs k n e = e
 pairs_stay (Some q) pairs k n e = go (find_pair pairs k) refl n e
   where
-    go : (o : Option (RunKey × ℕ)) → find_pair pairs k ≡ o → Kept (option_map (λ p. p.1) o) (option_map (λ p. p.1) (find_pair (put_pair (Some q) pairs) k))
+    go : (o : Option (RunKey × ℕ)) → find_pair pairs k ≡ o → Remains (option_map (λ p. p.1) o) (option_map (λ p. p.1) (find_pair (put_pair (Some q) pairs) k))
     go None f n e = cc
     go (Some p) f n e = ap (option_map (λ p. p.1)) (Keyed.put_keeps (λ p. p.0) q pairs k p f) ∙ e
 
@@ -190,7 +190,7 @@ module _ (names : ℕ → List ℕ) (self m : ℕ) (i : Input) (c : Config) (d :
     timed = λ x. inl (subst (λ o. IsSome o) acc x);
   }
 
-  of_facets : (a : Book) (k : RunKey) (q r : RunRow) (e : Option ℕ) → find_row a.rows k ≡ Some q → Carries q r → Kept (epoch_of a k) e → Facets k q r e → Moved names self m i c d a k (Some r) e
+  of_facets : (a : Book) (k : RunKey) (q r : RunRow) (e : Option ℕ) → find_row a.rows k ≡ Some q → Carries q r → Remains (epoch_of a k) e → Facets k q r e → Moved names self m i c d a k (Some r) e
   of_facets a k q r e at on epoch f = record {
     grown = λ x g. let same : q ≡ x = cc in (r, refl, subst (λ y. Carries y r) same on);
     epoch = epoch;
@@ -253,7 +253,7 @@ module _ (names : ℕ → List ℕ) (self m : ℕ) (i : Input) (c : Config) (d :
       timed = λ y. inl (subst (λ o. IsSome o) like.accepted y);
     }
       where
-        ends : (o : Option Ending) → w.ended ≡ o → (y : Ending) → first o (Some x) ≡ Some y → (q.ended ≡ Some y) ⊎ (length y.body ≤ most_result_bytes)
+        ends : (o : Option Ending) → w.ended ≡ o → (y : Ending) → first_there o (Some x) ≡ Some y → (q.ended ≡ Some y) ⊎ (length y.body ≤ most_result_bytes)
         ends None f y h = let same : x ≡ y = cc in inr (subst (λ z. length z.body ≤ most_result_bytes) same bound)
         ends (Some z) f y h = inl (sym like.ended ∙ f ∙ h)
 
@@ -305,7 +305,7 @@ module _ (names : ℕ → List ℕ) (self m : ℕ) (i : Input) (c : Config) (d :
       span_same = ap (λ t. span_of start (test_length t)) like.test
 
       at_span : made.interval ≡ Some (planned_span start q)
-      at_span = ap (λ o. first o (Some (planned_span start w))) (like.interval ∙ unreserved self a.tasks a.moment q row_is none) ∙ ap Some span_same
+      at_span = ap (λ o. first_there o (Some (planned_span start w))) (like.interval ∙ unreserved self a.tasks a.moment q row_is none) ∙ ap Some span_same
 
       cause : (r : RunRow) → r.interval ≡ made.interval → r.asker ≡ w.asker → r.test ≡ w.test → r.priority ≡ w.priority → AcceptCause c d r
       cause r same asker test priority = (
@@ -393,7 +393,7 @@ module _ (names : ℕ → List ℕ) (self m : ℕ) (i : Input) (c : Config) (d :
   some_row n e = cc
 
   new_accepted : (a : Book) (p : Proposal) (hosts : List (List ℕ)) (epoch : ℕ) → Lawful self a → Allows names self m i a (Accepted p hosts epoch) → AcceptsGranted c a (Accepted p hosts epoch) → (a.epochs ≡ d.epochs) × (a.tasks ≡ d.tasks) →
-      (k : RunKey) (n : RunRow) → Some (accepted_row m p hosts) ≡ Some n → n.key ≡ k → find_row a.rows k ≡ None → (e : Option ℕ) → Kept (epoch_of a k) e → e ≡ option_map (λ p. p.1) (find_pair (put_pair (Some (p.key, epoch)) a.pairs) k) → Moved names self m i c d a k (Some n) e
+      (k : RunKey) (n : RunRow) → Some (accepted_row m p hosts) ≡ Some n → n.key ≡ k → find_row a.rows k ≡ None → (e : Option ℕ) → Remains (epoch_of a k) e → e ≡ option_map (λ p. p.1) (find_pair (put_pair (Some (p.key, epoch)) a.pairs) k) → Moved names self m i c d a k (Some n) e
   new_accepted a p hosts epoch lawful allows granted same k n new key none e kept pairs =
       let row : accepted_row m p hosts ≡ n = cc in
       subst (λ x. Moved names self m i c d a k (Some x) e) row (record {
@@ -436,7 +436,7 @@ module _ (names : ℕ → List ℕ) (self m : ℕ) (i : Input) (c : Config) (d :
           pairs ∙ subst (λ j. option_map (λ x. x.1) (find_pair (put_pair (Some (p.key, epoch)) a.pairs) j) ≡ Some epoch) at comes ∙ ap Some (granted.0 ∙ ap length same.0)
 
   new_asked : (a : Book) (v : Question) (hosts : List (List ℕ)) (asker : Asker) → Allows names self m i a (Asked v hosts asker) → (a.epochs ≡ d.epochs) × (a.tasks ≡ d.tasks) →
-      (k : RunKey) (n : RunRow) → Some (asked_row m v hosts asker) ≡ Some n → n.key ≡ k → find_row a.rows k ≡ None → (e : Option ℕ) → Kept (epoch_of a k) e → Moved names self m i c d a k (Some n) e
+      (k : RunKey) (n : RunRow) → Some (asked_row m v hosts asker) ≡ Some n → n.key ≡ k → find_row a.rows k ≡ None → (e : Option ℕ) → Remains (epoch_of a k) e → Moved names self m i c d a k (Some n) e
   new_asked a v hosts asker allows same k n new key none e kept =
       let row : asked_row m v hosts asker ≡ n = cc in
       subst (λ x. Moved names self m i c d a k (Some x) e) row (record {
@@ -470,7 +470,7 @@ module _ (names : ℕ → List ℕ) (self m : ℕ) (i : Input) (c : Config) (d :
       no_flag (lead ∷ others) j x = unflagged others j x.0 x.1 x.2
 
   new_moved : (a : Book) (ch : Change) → Lawful self a → Allows names self m i a ch → AcceptsGranted c a ch → IsIdle ch ⊎ ((a.epochs ≡ d.epochs) × (a.tasks ≡ d.tasks)) →
-      (k : RunKey) (n : RunRow) → new_row m ch ≡ Some n → n.key ≡ k → find_row a.rows k ≡ None → (e : Option ℕ) → Kept (epoch_of a k) e → e ≡ option_map (λ p. p.1) (find_pair (put_pair (new_pair ch) a.pairs) k) → Moved names self m i c d a k (Some n) e
+      (k : RunKey) (n : RunRow) → new_row m ch ≡ Some n → n.key ≡ k → find_row a.rows k ≡ None → (e : Option ℕ) → Remains (epoch_of a k) e → e ≡ option_map (λ p. p.1) (find_pair (put_pair (new_pair ch) a.pairs) k) → Moved names self m i c d a k (Some n) e
   new_moved a (Accepted p hosts epoch) lawful allows granted (inr same) k n new key none e kept pairs = new_accepted a p hosts epoch lawful allows granted same k n new key none e kept pairs
   new_moved a (Asked v hosts asker) lawful allows granted (inr same) k n new key none e kept pairs = new_asked a v hosts asker allows same k n new key none e kept
   new_moved a (Accepted p hosts epoch) lawful allows granted (inl never) k n new key none e kept pairs = absurd never
@@ -486,7 +486,7 @@ module _ (names : ℕ → List ℕ) (self m : ℕ) (i : Input) (c : Config) (d :
       go (Some j) h = ap Some (sym (Keyed.key_is k j h))
 
   -- no row comes
-  idle_moved : (a : Book) (k : RunKey) (e : Option ℕ) → find_row a.rows k ≡ None → Kept (epoch_of a k) e → (o : Option RunRow) → o ≡ None → Moved names self m i c d a k o e
+  idle_moved : (a : Book) (k : RunKey) (e : Option ℕ) → find_row a.rows k ≡ None → Remains (epoch_of a k) e → (o : Option RunRow) → o ≡ None → Moved names self m i c d a k o e
   idle_moved a k e none kept (Some r) f = absurd (some_row r f)
   idle_moved a k e none kept None f = record {
     grown = λ x g. absurd (no_row x (sym none ∙ g));
@@ -512,7 +512,7 @@ module _ (names : ℕ → List ℕ) (self m : ℕ) (i : Input) (c : Config) (d :
     epoch_is : epoch_of (apply m ch a) k ≡ option_map (λ p. p.1) (find_pair (put_pair (new_pair ch) a.pairs) k)
     epoch_is = ap (λ o. option_map (λ p. p.1) (find_pair (without_pair o (put_pair (new_pair ch) a.pairs)) k)) (none_goes ch stays)
 
-    epoch_kept : Kept (epoch_of a k) (epoch_of (apply m ch a) k)
+    epoch_kept : Remains (epoch_of a k) (epoch_of (apply m ch a) k)
     epoch_kept n g = epoch_is ∙ pairs_stay (new_pair ch) a.pairs k n g
 
     rows_are : find_row (apply m ch a).rows k ≡ find_row (put_new (new_row m ch) (map f a.rows)) k
@@ -549,7 +549,7 @@ module _ (names : ℕ → List ℕ) (self m : ℕ) (i : Input) (c : Config) (d :
     gone : find_row a.rows k ≡ None → find_row (map f a.rows) k ≡ None
     gone none = mapped ∙ ap (option_map f) none
 
-    put_row_moved : (n : RunRow) → new_row m ch ≡ Some n → find_row a.rows k ≡ None → (e : Option ℕ) → Kept (epoch_of a k) e → e ≡ option_map (λ p. p.1) (find_pair (put_pair (new_pair ch) a.pairs) k) →
+    put_row_moved : (n : RunRow) → new_row m ch ≡ Some n → find_row a.rows k ≡ None → (e : Option ℕ) → Remains (epoch_of a k) e → e ≡ option_map (λ p. p.1) (find_pair (put_pair (new_pair ch) a.pairs) k) →
         (rows : List RunRow) → find_row rows k ≡ None → (o : Option RunRow) → find_row (put_new (Some n) rows) k ≡ o → Moved names self m i c d a k o e
     put_row_moved n new none e kept pairs rows away None g = idle_moved a k e none kept None refl
     put_row_moved n new none e kept pairs rows away (Some r) g = elim (put_from n rows k r g) [
@@ -557,7 +557,7 @@ module _ (names : ℕ → List ℕ) (self m : ℕ) (i : Input) (c : Config) (d :
       | inr h ↦ subst (λ x. Moved names self m i c d a k (Some x) e) h.1 (new_moved a ch lawful allows granted steady k n new h.0 none e kept pairs)
     ]
 
-    new_by : (o : Option RunRow) → new_row m ch ≡ o → find_row a.rows k ≡ None → (e : Option ℕ) → Kept (epoch_of a k) e → e ≡ option_map (λ p. p.1) (find_pair (put_pair (new_pair ch) a.pairs) k) →
+    new_by : (o : Option RunRow) → new_row m ch ≡ o → find_row a.rows k ≡ None → (e : Option ℕ) → Remains (epoch_of a k) e → e ≡ option_map (λ p. p.1) (find_pair (put_pair (new_pair ch) a.pairs) k) →
         (rows : List RunRow) → find_row rows k ≡ None → Moved names self m i c d a k (find_row (put_new o rows) k) e
     new_by None g none e kept pairs rows away = idle_moved a k e none kept (find_row rows k) away
     new_by (Some n) g none e kept pairs rows away = put_row_moved n g none e kept pairs rows away (find_row (put_new (Some n) rows) k) refl

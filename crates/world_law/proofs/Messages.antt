@@ -19,7 +19,7 @@ use Rattle.plugin_core.specs.declared.test_spec.TestSpec.{TestSpec}
 use Rattle.plugin_tool.specs.Choice.{is_tool_for, tool_of_text}
 use Rattle.run_states.specs.Content.{kept_proposal, same_content, start_of_span}
 use Rattle.run_states.specs.LawfulRow.{IsDenial, IsProposal, IsResultText, IsUpTo, IsWindow, Reserves}
-use Rattle.run_states.specs.Life.{closed_state, first, is_active}
+use Rattle.run_states.specs.Life.{closed_state, first_there, is_active}
 use Rattle.run_states.specs.ResultBytes.{result_bytes}
 use Rattle.run_states.specs.Rows.{find_row}
 use Rattle.run_states.specs.declared.proposal.Proposal.{Proposal}
@@ -132,7 +132,7 @@ kept_start test (Some a) None i has = absurd has
 kept_start test (Some a) (Some t) None has = absurd has
 
 -- ---- denials
-first_in : (o p : Option Denial) → IfSome o IsDenial → IfSome p IsDenial → IfSome (first o p) IsDenial
+first_in : (o p : Option Denial) → IfSome o IsDenial → IfSome p IsDenial → IfSome (first_there o p) IsDenial
 first_in None p one other = other
 first_in (Some d) p one other = one
 

@@ -11,16 +11,16 @@ use Rattle.run_states.specs.declared.proposal.Proposal.{Proposal}
 use Rattle.run_states.specs.declared.row.Ending.{Ending}
 use Rattle.run_states.specs.declared.row.RunRow.{RunRow}
 use Rattle.host_model.specs.Book.{Book, epoch_of, latest_epoch}
-use Rattle.host_model.specs.Grown.{Kept}
+use Rattle.host_model.specs.Grown.{Remains}
 use Rattle.host_model.specs.declared.config.Config.{Config}
 use Rattle.host_model.specs.declared.input.Input.{Input}
-use Rattle.host_model.proofs.Evolve.{Kept-refl, Kept-trans}
+use Rattle.host_model.proofs.Evolve.{Remains-refl, Remains-trans}
 use Rattle.world_law.specs.Laws.{Holds}
 use Rattle.world_law.proofs.Allowed.{AcceptCause, AllFlagged, AskedIn, BornCause, ConfirmCause, Fresh, HasFlag, HeardAccepted, StartsIn, TimedCause, Was}
 use Rattle.world_law.proofs.Carries.{Alike, Carries, RowGrown, grown_refl, grown_to, grown_trans}
 
 -- an option that has something has it still
-pub set_up : {A : Type 0} (o p : Option A) → Kept o p → IsSome o → IsSome p
+pub set_up : {A : Type 0} (o p : Option A) → Remains o p → IsSome o → IsSome p
 set_up None p kept e = cc
 set_up (Some a) p kept e = ap is_some (kept a refl)
 
@@ -65,7 +65,7 @@ module _ (names : ℕ → List ℕ) (self m : ℕ) (i : Input) (c : Config) (d :
   -- from the row that the book a has of the key to this one, with this epoch
   pub record Moved (a : Book) (k : RunKey) (o : Option RunRow) (e : Option ℕ) : Type 0 where
     pub grown : RowGrown (find_row a.rows k) o
-    pub epoch : Kept (epoch_of a k) e
+    pub epoch : Remains (epoch_of a k) e
     pub born : (r : RunRow) → find_row a.rows k ≡ None → o ≡ Some r → BornCause names self m i a.rows k r
     pub accepted : (r : RunRow) → o ≡ Some r → IsSome r.accepted → Was (find_row a.rows k) (λ q. IsSome q.accepted) ⊎ (AcceptCause c d r × (e ≡ Some (latest_epoch d)))
     pub confirmed : (r : RunRow) → o ≡ Some r → IsSome r.confirmed → Was (find_row a.rows k) (λ q. IsSome q.confirmed) ⊎ ConfirmCause names self m i k r
@@ -77,7 +77,7 @@ module _ (names : ℕ → List ℕ) (self m : ℕ) (i : Input) (c : Config) (d :
   pub moved_refl : (a : Book) (k : RunKey) → Moved a k (find_row a.rows k) (epoch_of a k)
   moved_refl a k = record {
     grown = grown_refl (find_row a.rows k);
-    epoch = Kept-refl (epoch_of a k);
+    epoch = Remains-refl (epoch_of a k);
     born = λ r e f. cc;
     accepted = λ r e f. inl (r, e, f);
     confirmed = λ r e f. inl (r, e, f);
@@ -114,7 +114,7 @@ module _ (names : ℕ → List ℕ) (self m : ℕ) (i : Input) (c : Config) (d :
     pub moved_trans : Moved a k o e
     moved_trans = record {
       grown = grown_trans (find_row a.rows k) (find_row b.rows k) o first.grown next.grown;
-      epoch = Kept-trans (epoch_of a k) (epoch_of b k) e first.epoch next.epoch;
+      epoch = Remains-trans (epoch_of a k) (epoch_of b k) e first.epoch next.epoch;
       born = λ r none at. trans_born r none at (find_row b.rows k) refl;
       accepted = λ r at f. elim (next.accepted r at f) [
         | inr x ↦ inr x
@@ -134,7 +134,7 @@ module _ (names : ℕ → List ℕ) (self m : ℕ) (i : Input) (c : Config) (d :
     }
 
   -- ---- a row that differs in its closing alone
-  pub moved_alike : (a : Book) (k : RunKey) (q r : RunRow) (e : Option ℕ) → find_row a.rows k ≡ Some q → Alike q r → Carries q r → Kept (epoch_of a k) e → Moved a k (Some r) e
+  pub moved_alike : (a : Book) (k : RunKey) (q r : RunRow) (e : Option ℕ) → find_row a.rows k ≡ Some q → Alike q r → Carries q r → Remains (epoch_of a k) e → Moved a k (Some r) e
   moved_alike a k q r e at like on epoch = record {
     grown = λ x f. let same : q ≡ x = cc in (r, refl, subst (λ y. Carries y r) same on);
     epoch = epoch;

@@ -8,7 +8,7 @@ use Rattle.ps_time.specs.declared.class.Class.TheVariants.{BackgroundMulti, Back
 use Rattle.plugin_core.specs.Participants.{participants}
 use Rattle.plugin_core.specs.declared.test_spec.TestSpec.{TestSpec}
 use Rattle.plugin_core.specs.declared.test_spec.TestSpec.TheVariants.{Idle, Idleex, Idlebgm, Idlemany, Simplestream}
-use Rattle.run_states.specs.Life.{first}
+use Rattle.run_states.specs.Life.{first_there}
 use Rattle.task_spec.specs.ReadTask.{leads}
 use Rattle.host_model.specs.Apply.{apply, close_task}
 use Rattle.host_model.specs.Book.{Book, find_task}
@@ -79,7 +79,7 @@ module _ (names : ℕ → List ℕ) (self m : ℕ) (i : Input) where
       same : (x : TaskRow) → (close_task m closed x).asker ≡ x.asker
       same x = pick (x.serial == closed)
         where
-          pick : (b : Bool) → (cond b (record x { closed = first x.closed (Some m) }) x).asker ≡ x.asker
+          pick : (b : Bool) → (cond b (record x { closed = first_there x.closed (Some m) }) x).asker ≡ x.asker
           pick true = refl
           pick false = refl
 

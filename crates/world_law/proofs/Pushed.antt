@@ -8,7 +8,7 @@ use Rattle.ps_time.specs.declared.key.RunKey.{RunKey}
 use Rattle.ps_time.proofs.KeyLemmas.{key_cmp_same, key_cmp_total}
 use Rattle.plugin_core.specs.Participants.{participants}
 use Rattle.run_states.specs.Content.{kept_proposal}
-use Rattle.run_states.specs.Life.{first}
+use Rattle.run_states.specs.Life.{first_there}
 use Rattle.run_states.specs.LawfulRow.{Needs, Reserves}
 use Rattle.run_states.specs.Purging.{later_of, rest_of}
 use Rattle.run_states.specs.Rows.{find_row}
@@ -38,7 +38,7 @@ use Rattle.world_law.proofs.Steps.{StepOk}
 use Rattle.world_law.proofs.Worlds.{now_same, pushed_all, pushed_cases, stages_same}
 
 -- ---- options
-pub first_set : {A : Type 0} (o p : Option A) (a : A) → o ≡ Some a → first o p ≡ Some a
+pub first_set : {A : Type 0} (o p : Option A) (a : A) → o ≡ Some a → first_there o p ≡ Some a
 first_set None p a e = cc
 first_set (Some b) p a e = e
 
@@ -60,7 +60,7 @@ module _ (w : World) (inv : Inv w) (h m : ℕ) (i : Input) (ok : InputOk w h i) 
   abbrev v : World
   v = push w h s
 
-  row_same : (k : RunKey) → row_at (push w h s) h k ≡ first (find_row s.book.rows k) (row_at w h k)
+  row_same : (k : RunKey) → row_at (push w h s) h k ≡ first_there (find_row s.book.rows k) (row_at w h k)
   row_same k = ap (λ xs. last_row xs k) (stages_same w h s)
 
   row_other : (g : ℕ) (k : RunKey) → stages (push w h s) g ≡ stages w g → row_at (push w h s) g k ≡ row_at w g k
@@ -110,7 +110,7 @@ module _ (w : World) (inv : Inv w) (h m : ℕ) (i : Input) (ok : InputOk w h i) 
   rows_here k r e = go (find_row s.book.rows k) refl
     where
       go : (o : Option RunRow) → find_row s.book.rows k ≡ o → (t : RunRow) × (row_at (push w h s) h k ≡ Some t) × Carries r t
-      go None f = (r, row_same k ∙ ap (λ o. first o (row_at w h k)) f ∙ e, carries_refl r)
+      go None f = (r, row_same k ∙ ap (λ o. first_there o (row_at w h k)) f ∙ e, carries_refl r)
       go (Some t) f = (t, new_last k t f, grown_to (find_row old.rows k) (Some t) r t (step.stands k t f).grown (known k t r f e) refl)
 
   firsts_here : (k : RunKey) (a : Acceptance) → first_accepted (stages w h) k ≡ Some a → first_accepted (stages (push w h s) h) k ≡ Some a
@@ -292,7 +292,7 @@ module _ (w : World) (inv : Inv w) (h m : ℕ) (i : Input) (ok : InputOk w h i) 
         go None f x =
             let held : Holds (kept_proposal r) r = holds_of s.book.moment r (kept_proposal r) row_is.row acc refl in
             let there : first_accepted (stages (push w h s) h) k ≡ Some (record { stage = s; row = r }) =
-            ap (λ xs. first_accepted xs k) (stages_same w h s) ∙ ap (λ o. first o (accepted_in s (find_row s.book.rows k))) f ∙ ap (accepted_in s) at ∙ set_in r.accepted acc in
+            ap (λ xs. first_accepted xs k) (stages_same w h s) ∙ ap (λ o. first_there o (accepted_in s (find_row s.book.rows k))) f ∙ ap (accepted_in s) at ∙ set_in r.accepted acc in
             (kept_proposal r, held, (record { stage = s; row = r }, there, held, refl, (x.0.0, x.0.1, x.1, x.0.2)))
         go (Some a) f x = let y = inv.firsts h k a f in was_within y.0 (known k r y.0 at y.1) y.2
 
@@ -316,7 +316,7 @@ module _ (w : World) (inv : Inv w) (h m : ℕ) (i : Input) (ok : InputOk w h i) 
   rows_ok : (k : RunKey) (r : RunRow) → row_at (push w h s) h k ≡ Some r → RowOk (push w h s) h k r
   rows_ok k r e = go (find_row s.book.rows k) refl (sym (row_same k) ∙ e)
     where
-      go : (o : Option RunRow) → find_row s.book.rows k ≡ o → first o (row_at w h k) ≡ Some r → RowOk (push w h s) h k r
+      go : (o : Option RunRow) → find_row s.book.rows k ≡ o → first_there o (row_at w h k) ≡ Some r → RowOk (push w h s) h k r
       go None f g = row_up w (push w h s) h k r later (inv.rows h k r g)
       go (Some t) f g = let same : t ≡ r = cc in changed_ok k r (f ∙ ap Some same)
 
@@ -324,7 +324,7 @@ module _ (w : World) (inv : Inv w) (h m : ℕ) (i : Input) (ok : InputOk w h i) 
   dead_ok k r e n = go (find_row old.rows k) refl
     where
       was : row_at w h k ≡ Some r
-      was = sym (row_same k ∙ ap (λ o. first o (row_at w h k)) n) ∙ e
+      was = sym (row_same k ∙ ap (λ o. first_there o (row_at w h k)) n) ∙ e
 
       long : (t : RunRow) (x : Span) → t.interval ≡ Some x → rest_of t + keeping ≤ s.book.moment → x.start ≤ x.end → x.start < s.book.moment
       long t x i p order = let low : x.end ≤ rest_of t = end_rests t x i in omega (arith, low, p, order)
@@ -359,14 +359,14 @@ module _ (w : World) (inv : Inv w) (h m : ℕ) (i : Input) (ok : InputOk w h i) 
           let g = step.gone k q f n in
           (λ x i. long g.row x (g.carries.interval x (subst (λ z. z.interval ≡ Some x) (sym same) i)) g.past (ordered x i), g.newer)
 
-  firsts_of : (k : RunKey) (a : Acceptance) → first (first_accepted (stages w h) k) (accepted_in s (find_row s.book.rows k)) ≡ Some a → Has (push w h s) h k (λ r. IsSome r.accepted)
+  firsts_of : (k : RunKey) (a : Acceptance) → first_there (first_accepted (stages w h) k) (accepted_in s (find_row s.book.rows k)) ≡ Some a → Has (push w h s) h k (λ r. IsSome r.accepted)
   firsts_of k a = go (first_accepted (stages w h) k) refl (find_row s.book.rows k) refl
     where
       set_by : (r : RunRow) (o : Option ℕ) → acceptance s r o ≡ Some a → IsSome o
       set_by r None e = cc
       set_by r (Some n) e = refl
 
-      go : (o : Option Acceptance) → first_accepted (stages w h) k ≡ o → (p : Option RunRow) → find_row s.book.rows k ≡ p → first o (accepted_in s p) ≡ Some a → Has (push w h s) h k (λ r. IsSome r.accepted)
+      go : (o : Option Acceptance) → first_accepted (stages w h) k ≡ o → (p : Option RunRow) → find_row s.book.rows k ≡ p → first_there o (accepted_in s p) ≡ Some a → Has (push w h s) h k (λ r. IsSome r.accepted)
       go (Some b) f p g e = accepted_there_up w (push w h s) h k later (inv.firsts h k b f)
       go None f None g e = cc
       go None f (Some r) g e = (r, new_last k r g, set_by r r.accepted e)

@@ -7,7 +7,7 @@ use Rattle.plugin_core.specs.Participants.{participants}
 use Rattle.plugin_core.specs.TestSpec.{test_length}
 use Rattle.run_states.specs.Content.{kept_proposal, same_content, start_of_span}
 use Rattle.run_states.specs.LawfulRow.{IsLawfulRow, Reserves}
-use Rattle.run_states.specs.Life.{confirm_row, first, settled_row, settled_rows}
+use Rattle.run_states.specs.Life.{confirm_row, first_there, settled_row, settled_rows}
 use Rattle.run_states.specs.Rows.{find_row}
 use Rattle.run_states.specs.declared.proposal.Proposal.{Proposal}
 use Rattle.run_states.specs.declared.why.Closing.{Closing}
@@ -191,7 +191,7 @@ module _ (c : Config) (config : IsConfig c) (b : Book) (m : ℕ) (lawful : Lawfu
       let f : RunRow → RunRow = changed_row m s.tasks (Confirmed r.key) s.rows in
       let there : find_row (apply m (Confirmed r.key) s).rows k ≡ Some (f r) = find_row-map f (changed_key m s.tasks (Confirmed r.key) s.rows) s.rows k ∙ ap (option_map f) at in
       let same : f r ≡ confirm_row m r = ap (λ t. cond t (confirm_row m r) r) (key_same r.key) in
-      let value : (confirm_row m r).confirmed ≡ Some (unwrap_or r.confirmed m) = ap (λ y. first y (Some m)) e ∙ ap Some (sym (ap (λ y. unwrap_or y m) e)) in
+      let value : (confirm_row m r).confirmed ≡ Some (unwrap_or r.confirmed m) = ap (λ y. first_there y (Some m)) e ∙ ap Some (sym (ap (λ y. unwrap_or y m) e)) in
       (f r, there, subst (λ q. q.confirmed ≡ Some (unwrap_or r.confirmed m)) (sym same) value)
 
   confirm_shown : (sender : ℕ) → BoundReply (find_row (after (confirm c s m sender k)).rows) k order.Confirm (confirm c s m sender k).reply

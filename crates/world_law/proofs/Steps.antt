@@ -15,7 +15,7 @@ use Rattle.host_model.specs.Step.{step, step_book, step_changes}
 use Rattle.host_model.specs.declared.change.Change.{Change}
 use Rattle.host_model.specs.declared.config.Config.{Config}
 use Rattle.host_model.specs.declared.input.Input.{Input}
-use Rattle.host_model.proofs.Evolve.{Kept-refl}
+use Rattle.host_model.proofs.Evolve.{Remains-refl}
 use Rattle.host_model.proofs.SettledBook.{book_settled}
 use Rattle.host_model.proofs.WalkLemmas.{AllAlong}
 use Rattle.world_law.specs.Events.{Right}
@@ -55,7 +55,7 @@ module _ (names : ℕ → List ℕ) (self m : ℕ) (i : Input) (c : Config) wher
           subst (λ o. Moved names self m i c d b k o (epoch_of b k)) (sym none) (moved_refl names self m i c d b k)
       go (Some q) e =
           let at : find_row (settled m b).rows k ≡ Some (settled_row m q) = settled_find m b.rows k ∙ ap (option_map (settled_row m)) e in
-          subst (λ o. Moved names self m i c d b k o (epoch_of b k)) (sym at) (moved_alike names self m i c d b k q (settled_row m q) (epoch_of b k) e (settled_alike m q) (settled_carries m q) (Kept-refl (epoch_of b k)))
+          subst (λ o. Moved names self m i c d b k o (epoch_of b k)) (sym at) (moved_alike names self m i c d b k q (settled_row m q) (epoch_of b k) e (settled_alike m q) (settled_carries m q) (Remains-refl (epoch_of b k)))
 
   moment_stays : (cs : List Change) (a : Book) → (apply_all m cs a).moment ≡ a.moment
   moment_stays [] a = refl

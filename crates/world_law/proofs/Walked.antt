@@ -19,14 +19,14 @@ use Rattle.host_model.specs.Apply.{apply, apply_all}
 use Rattle.host_model.specs.Book.{Book, epoch_of, find_pair}
 use Rattle.host_model.specs.Effect.{has_key}
 use Rattle.host_model.specs.Granting.{AcceptsGranted}
-use Rattle.host_model.specs.Grown.{Kept}
+use Rattle.host_model.specs.Grown.{Remains}
 use Rattle.host_model.specs.Lawful.{Lawful}
 use Rattle.host_model.specs.MayFollow.{CanApply}
 use Rattle.host_model.specs.declared.change.Change.{Change}
 use Rattle.host_model.specs.declared.change.Change.TheVariants.{Posted, TaskClosed, LimitsSet, Purged}
 use Rattle.host_model.specs.declared.config.Config.{Config}
 use Rattle.host_model.specs.declared.input.Input.{Input}
-use Rattle.host_model.proofs.Evolve.{Kept-refl, Kept-trans}
+use Rattle.host_model.proofs.Evolve.{Remains-refl, Remains-trans}
 use Rattle.host_model.proofs.Placed.{find_row-key, lift_from, lift_keeps}
 use Rattle.host_model.proofs.RowLemmas.{all_of_found}
 use Rattle.host_model.proofs.Standing.{changed_row, changed_key, find_row-map}
@@ -101,10 +101,10 @@ module _ (m : ℕ) (j : RunKey) (a : Book) where
           let some : find_row (apply m (Purged j) a).rows j ≡ Some r = subst (λ x. find_row (apply m (Purged j) a).rows x ≡ Some r) (Keyed.key_is k j h) e in
           cc
 
-  purge_epoch : (k : RunKey) → is_eq (key_cmp k j) ≡ false → Kept (epoch_of a k) (epoch_of (apply m (Purged j) a) k)
+  purge_epoch : (k : RunKey) → is_eq (key_cmp k j) ≡ false → Remains (epoch_of a k) (epoch_of (apply m (Purged j) a) k)
   purge_epoch k other = go (find_pair a.pairs k) refl
     where
-      go : (o : Option (RunKey × ℕ)) → find_pair a.pairs k ≡ o → Kept (option_map (λ p. p.1) o) (epoch_of (apply m (Purged j) a) k)
+      go : (o : Option (RunKey × ℕ)) → find_pair a.pairs k ≡ o → Remains (option_map (λ p. p.1) o) (epoch_of (apply m (Purged j) a) k)
       go None e n g = cc
       go (Some p) e n g = ap (option_map (λ p. p.1)) (Keyed.without_keeps (λ p. p.0) j k other a.pairs p e) ∙ g
 
@@ -202,11 +202,11 @@ module _ (names : ℕ → List ℕ) (self m : ℕ) (i : Input) (c : Config) wher
   newer_end (Purged j ∷ cs) a all g k own n = newer_end cs (apply m (Purged j) a) all.1 g.1 k own (newer_after a j g.0 k own n)
   newer_end (ch ∷ cs) a all g k own n = absurd all.0
 
-  stands_end : (cs : List Change) (a : Book) → AllByRecursion IsPurge cs → (k : RunKey) (r : RunRow) → find_row (apply_all m cs a).rows k ≡ Some r → (find_row a.rows k ≡ Some r) × Kept (epoch_of a k) (epoch_of (apply_all m cs a) k)
-  stands_end [] a all k r e = (e, Kept-refl (epoch_of a k))
+  stands_end : (cs : List Change) (a : Book) → AllByRecursion IsPurge cs → (k : RunKey) (r : RunRow) → find_row (apply_all m cs a).rows k ≡ Some r → (find_row a.rows k ≡ Some r) × Remains (epoch_of a k) (epoch_of (apply_all m cs a) k)
+  stands_end [] a all k r e = (e, Remains-refl (epoch_of a k))
   stands_end (Purged j ∷ cs) a all k r e =
       let x = stands_end cs (apply m (Purged j) a) all.1 k r e in
-      (purge_from m j a k r x.0, Kept-trans (epoch_of a k) (epoch_of (apply m (Purged j) a) k) (epoch_of (apply_all m (Purged j ∷ cs) a) k) (purge_epoch m j a k (purge_other m j a k r x.0)) x.1)
+      (purge_from m j a k r x.0, Remains-trans (epoch_of a k) (epoch_of (apply m (Purged j) a) k) (epoch_of (apply_all m (Purged j ∷ cs) a) k) (purge_epoch m j a k (purge_other m j a k r x.0)) x.1)
   stands_end (ch ∷ cs) a all k r e = absurd all.0
 
   gone_end : (cs : List Change) (a : Book) → AllByRecursion IsPurge cs → AllAlong Guarded m a cs → (k : RunKey) (r : RunRow) → find_row a.rows k ≡ Some r → find_row (apply_all m cs a).rows k ≡ None → Left self m (apply_all m cs a) k r
@@ -242,7 +242,7 @@ module _ (names : ℕ → List ℕ) (self m : ℕ) (i : Input) (c : Config) wher
       accepts : (r s : RunRow) → Some r ≡ Some s → IsTrue (is_some s.accepted) → IsTrue (is_some r.accepted)
       accepts r s f g = let same : s ≡ r = cc in subst (λ x. IsTrue (is_some x.accepted)) same g
 
-      stood : (k : RunKey) (r : RunRow) → find_row a.rows k ≡ Some r → Kept (epoch_of a k) (epoch_of (apply_all m cs a) k) → Moved names self m i c (apply_all m cs a) a k (Some r) (epoch_of (apply_all m cs a) k)
+      stood : (k : RunKey) (r : RunRow) → find_row a.rows k ≡ Some r → Remains (epoch_of a k) (epoch_of (apply_all m cs a) k) → Moved names self m i c (apply_all m cs a) a k (Some r) (epoch_of (apply_all m cs a) k)
       stood k r e kept =
           let x = moved_refl names self m i c (apply_all m cs a) a k in
           let y : Moved names self m i c (apply_all m cs a) a k (Some r) (epoch_of a k) = subst (λ o. Moved names self m i c (apply_all m cs a) a k o (epoch_of a k)) e x in

@@ -4,7 +4,7 @@ use Rattle.ps_time.specs.Numbers.{keeping}
 use Rattle.ps_time.specs.Span.{Span}
 use Rattle.ps_time.specs.declared.class.Class.{Class}
 use Rattle.ps_time.specs.declared.key.RunKey.{RunKey}
-use Rattle.run_states.specs.Life.{first}
+use Rattle.run_states.specs.Life.{first_there}
 use Rattle.run_states.specs.Purging.{rest_of}
 use Rattle.run_states.specs.Rows.{IsAscendingRows, find_row}
 use Rattle.run_states.specs.declared.answer.Other.{Other}
@@ -169,7 +169,7 @@ accepted_in s (Some r) = acceptance s r r.accepted
 
 abbrev pub first_accepted : List Stage → RunKey → Option Acceptance
 first_accepted [] k = None
-first_accepted (s ∷ older) k = first (first_accepted older k) (accepted_in s (find_row s.book.rows k))
+first_accepted (s ∷ older) k = first_there (first_accepted older k) (accepted_in s (find_row s.book.rows k))
 
 -- the row names an epoch, the last one of the stage, or 0 where it has none; the limits of that epoch, or the configuration's for 0,
 -- permit the run at its priority

@@ -1,7 +1,7 @@
 -- A world of hosts: their stages, the messages that were ever sent, and the answers that were given.
 use Rattle.std.specs.Prelude.{◌==◌, ◌∷◌, List, None, Option, Some, [], bytes_eq, find, if◌then◌else◌, length, option_map, ℕ}
 use Rattle.ps_time.specs.declared.key.RunKey.{RunKey}
-use Rattle.run_states.specs.Life.{closed_state, first}
+use Rattle.run_states.specs.Life.{closed_state, first_there}
 use Rattle.run_states.specs.Rows.{find_row}
 use Rattle.run_states.specs.declared.row.RunRow.{RunRow}
 use Rattle.run_states.specs.declared.why.Denial.TheVariants.{Closed as closed_there}
@@ -105,7 +105,7 @@ aged (s ∷ older) n = if n == length older then Some s else aged older n
 -- the row of a key in the last stage that has one
 abbrev pub last_row : List Stage → RunKey → Option RunRow
 last_row [] k = None
-last_row (s ∷ older) k = first (find_row s.book.rows k) (last_row older k)
+last_row (s ∷ older) k = first_there (find_row s.book.rows k) (last_row older k)
 
 abbrev pub row_at : World → ℕ → RunKey → Option RunRow
 row_at w h k = last_row (stages w h) k
