@@ -63,7 +63,7 @@ after_day m rule k a (Some s) closed e = fresh_day m rule (k.number + 1) a e
 after_day m rule k a None None e = cc
 after_day m rule k a None (Some c) e = failure_day m rule k c a e
 
-next_day : (self : ℕ) (t : TaskRow) (rows : List RunRow) (m : ℕ) (a : Attempt) → next_attempt self t rows m ≡ Some a → IsWithinDay a.window
+next_day : (self : ℕ) (t : TaskRow) (rows : List RunRow) (m : ℕ) (a : Attempt) → next_attempt self rows m t ≡ Some a → IsWithinDay a.window
 next_day self t rows m a e = go (is_some t.closed) e
   where
     by : (o : Option RunRow) → attempt_by m t.task.rule o ≡ Some a → IsWithinDay a.window
@@ -83,7 +83,7 @@ heard_orderly name k place (Result result) = tt
 
 planned_orderly : (c : Config) (b : Book) (m : ℕ) (r : RunRow) (o : Option Range) → BringsOrderly c.name (plan_asked c b m r o)
 planned_orderly c b m r None = tt
-planned_orderly c b m r (Some w) = made (plan (wanted_tools (find_task b.tasks r.key.task)) r (own_answer c b m r w) m)
+planned_orderly c b m r (Some w) = made (plan m (wanted_tools (find_task b.tasks r.key.task)) r (own_answer c b m r w))
   where
     unless : (start : ℕ) (tool : List ℕ) (o : Option Denial) → BringsOrderly c.name (unless_objected c b (planned_proposal r start tool) o)
     unless start tool None = tt
@@ -99,7 +99,7 @@ module _ (c : Config) (m : ℕ) (b : Book) where
   abbrev Along : List Change → Type 0
   Along cs = AllAlong (KeepsOrderly c.name) m b cs
 
-  turn_orderly : Along (turn_changes c m b)
+  turn_orderly : Along (turn_changes c b m)
   turn_orderly = turn_along (KeepsOrderly c.name) m c
       (λ a r d at e own. let g = end_granted c m a r d e in subst (BringsOrderly c.name) g.is tt)
       (λ a r d at e own. let g = merge_granted c m a r d e in subst (BringsOrderly c.name) g.is tt)

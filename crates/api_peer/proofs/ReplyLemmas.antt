@@ -77,7 +77,7 @@ post_shown None Exhausted t row = tt
 post_shown None (AboveCeiling z) t row = tt
 
 -- ---- archives and limits
-try_shown : (k : RunKey) (i m : ℕ) (good : Bool) (retry : Option ℕ) (s : Option ArchiveState) (a : Option Archive) → IsShown (try_at k i m good retry s a)
+try_shown : (k : RunKey) (i m : ℕ) (good : Bool) (retry : Option ℕ) (s : Option ArchiveState) (a : Option Archive) → IsShown (try_at m k i good retry s a)
 try_shown k i m good retry None a = tt
 try_shown k i m good retry (Some s) None = tt
 try_shown k i m good retry (Some s) (Some a) = go (is_due s m)
@@ -92,7 +92,7 @@ limits_shown b l false true v = tt
 limits_shown b l false false true = tt
 limits_shown b l false false false = tt
 
-open_shown : (c : Config) (m : ℕ) (b : Book) (t : Bool) → IsShown (cond t (refused (Bytes (length c.limits.text))) (changed (open_changes c m b)))
+open_shown : (c : Config) (m : ℕ) (b : Book) (t : Bool) → IsShown (cond t (refused (Bytes (length c.limits.text))) (changed (open_changes c b m)))
 open_shown c m b true = tt
 open_shown c m b false = tt
 
@@ -100,7 +100,7 @@ cancel_shown : (c : Config) (b : Book) (m : ℕ) (requester : List ℕ) (o : Opt
 cancel_shown c b m requester None = tt
 cancel_shown c b m requester (Some t) = go (bytes_eq t.asker.requester requester)
   where
-    go : (x : Bool) → IsShown (cond x (record { reply = reply.Canceled; list = cancel_changes c.number m t b }) (answered reply.NotPoster))
+    go : (x : Bool) → IsShown (cond x (record { reply = reply.Canceled; list = cancel_changes c.number b m t }) (answered reply.NotPoster))
     go true = tt
     go false = tt
 
@@ -161,7 +161,7 @@ module _ (c : Config) (b : Book) (m : ℕ) (within : m ≤ greatest_moment) (law
   page_shown (page.Task serial) = task_shown (find_task s.tasks serial) serial refl
   page_shown (page.Runs serial) = go (find_task s.tasks serial)
     where
-      go : (o : Option TaskRow) → IsShown (shown (option_map (λ t. view.Runs (runs_of c.number serial s.rows)) o))
+      go : (o : Option TaskRow) → IsShown (shown (option_map (λ t. view.Runs (runs_of c.number s.rows serial)) o))
       go None = tt
       go (Some t) = tt
   page_shown (page.Run k) = run_shown (find_row s.rows k) k refl
@@ -258,4 +258,4 @@ reply_shown c b clock i may = go i may
         try_shown k index m good retry (option_and_then (λ r. state_at_index r index) (find_row (settled m b).rows k)) (slice_get (archives_of b.tasks k) index)
     go input.Turn may = tt
     go input.Open may = open_shown c m (settled m b) ((latest_epoch b == 0) && is_too_long c.limits)
-    go (input.Limits l) may = limits_shown (settled m b) l (is_latest l (settled m b)) (is_too_long l) (nat_le most_epochs (latest_epoch b))
+    go (input.Limits l) may = limits_shown (settled m b) l (is_latest (settled m b) l) (is_too_long l) (nat_le most_epochs (latest_epoch b))

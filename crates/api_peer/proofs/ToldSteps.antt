@@ -47,7 +47,7 @@ heard_told k place (Result result) = tt
 
 planned_told : (c : Config) (b : Book) (m : ℕ) (r : RunRow) (o : Option Range) → BringsTold (plan_asked c b m r o)
 planned_told c b m r None = tt
-planned_told c b m r (Some w) = made (plan (wanted_tools (find_task b.tasks r.key.task)) r (own_answer c b m r w) m)
+planned_told c b m r (Some w) = made (plan m (wanted_tools (find_task b.tasks r.key.task)) r (own_answer c b m r w))
   where
     unless : (start : ℕ) (tool : List ℕ) (o : Option Denial) → BringsTold (unless_objected c b (planned_proposal r start tool) o)
     unless start tool None = tt
@@ -66,7 +66,7 @@ module _ (c : Config) (m : ℕ) (within : m ≤ greatest_moment) (b : Book) wher
   abbrev Along : List Change → Type 0
   Along cs = AllAlong Keeps m b cs
 
-  turn_told : Along (turn_changes c m b)
+  turn_told : Along (turn_changes c b m)
   turn_told = turn_along Keeps m c
       (λ a r d at e now lawful.
       let g = end_granted c m a r d e in

@@ -219,13 +219,13 @@ module _ (now touched : List RunRow) (gone : List RunKey) (book : List RunRow) (
   all_alike f g same [] = refl
   all_alike f g same (r ∷ rs) = ap₂ (λ a b. a && b) (same r) (all_alike f g same rs)
 
-  free_at : (class : Class) (len s : ℕ) → list_all (λ b. not (conflicts_with class (span_of s len) b)) (booked gathered_now []) ≡ is_free_row class len now s
+  free_at : (class : Class) (len s : ℕ) → list_all (λ b. not (conflicts_with class (span_of s len) b)) (booked gathered_now []) ≡ is_free_row now class len s
   free_at class len s =
       all_gathered (λ b. not (conflicts_with class (span_of s len) b))
       ∙ (rows_all (λ b. not (conflicts_with class (span_of s len) b)) now
       ∙ all_alike (holds (λ b. not (conflicts_with class (span_of s len) b))) (λ r. not (blocks class (span_of s len) r)) (λ r. free_row class (span_of s len) r (is_booked r) r.interval) now)
 
-  freeable_at : (class : Class) (len : ℕ) (priority : ℤ) (m s : ℕ) → list_all (λ b. not (conflicts_with class (span_of s len) b) || can_preempt priority m b) (booked gathered_now []) ≡ is_freeable_row class len priority m now s
+  freeable_at : (class : Class) (len : ℕ) (priority : ℤ) (m s : ℕ) → list_all (λ b. not (conflicts_with class (span_of s len) b) || can_preempt priority m b) (booked gathered_now []) ≡ is_freeable_row now m class len priority s
   freeable_at class len priority m s =
       all_gathered (λ b. not (conflicts_with class (span_of s len) b) || can_preempt priority m b)
       ∙ (rows_all (λ b. not (conflicts_with class (span_of s len) b) || can_preempt priority m b) now
@@ -465,13 +465,13 @@ module _ (now touched : List RunRow) (gone : List RunKey) (book : List RunRow) (
   tier_within f g w same = ap (λ starts. take most_intervals (gathered_starts starts)) (starts_alike f g (w.last + 1 - w.first) w.first (λ s le lt. same s le (omega arith)))
 
   pub tiers_near : (class : Class) (reach : Option Span) (len : ℕ) (priority : ℤ) (w : Range) (m : ℕ) → IfSome reach (λ i. i ≡ reach_of len w) → (list : List Booking) → list ≡ booked (near_gathered class reach touched gone (bookings_of book)) []
-      → free_among class len priority w m list ≡ free_tiers class len priority w m now
+      → free_among class len priority w m list ≡ free_tiers now m class len priority w
   tiers_near class reach len priority w m covers list is =
       ap (free_among class len priority w m) is
       ∙ ap₂ (λ a b. record { first = a; second = b })
-      (tier_within (is_free class len (booked (near_now class reach) [])) (is_free_row class len now) w (λ s low high.
+      (tier_within (is_free class len (booked (near_now class reach) [])) (is_free_row now class len) w (λ s low high.
       near_decides class reach (λ b. not (conflicts_with class (span_of s len) b)) (λ b far. ap not (far_away class len w reach covers s low high b far))
       ∙ (sym (all_gathered (λ b. not (conflicts_with class (span_of s len) b))) ∙ free_at class len s)))
-      (tier_within (is_freeable class len priority m (booked (near_now class reach) [])) (is_freeable_row class len priority m now) w (λ s low high.
+      (tier_within (is_freeable class len priority m (booked (near_now class reach) [])) (is_freeable_row now m class len priority) w (λ s low high.
       near_decides class reach (λ b. not (conflicts_with class (span_of s len) b) || can_preempt priority m b) (λ b far. ap (λ t. not t || can_preempt priority m b) (far_away class len w reach covers s low high b far))
       ∙ (sym (all_gathered (λ b. not (conflicts_with class (span_of s len) b) || can_preempt priority m b)) ∙ freeable_at class len priority m s)))

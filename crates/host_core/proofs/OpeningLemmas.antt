@@ -79,7 +79,7 @@ module _ (c : Config) where
   by_keys b (x ∷ xs) found = ap (λ o. cons_option (option_and_then (restart_run c b) o) (filter_map (restart_at c b) (keys_of_rows xs))) found.0 ∙ ap (λ l. cons_option (wish x) l) (by_keys b xs found.1)
 
   -- the limits, and the runs that the walk finds
-  pub opened_are : (m : ℕ) (b : Book) → IsAscendingRows b.rows → first_limits c.limits b ++ filter_map (restart_at c b) (keys_of_rows b.rows) ≡ open_changes c m b
+  pub opened_are : (m : ℕ) (b : Book) → IsAscendingRows b.rows → first_limits c.limits b ++ filter_map (restart_at c b) (keys_of_rows b.rows) ≡ open_changes c b m
   opened_are m b up =
       let runs : filter_map (restart_at c b) (keys_of_rows b.rows) ≡ each_row (restart_run c) m (apply_all m (first_limits c.limits b) b) =
       by_keys b b.rows (found_up b.rows up) ∙ sym (after_limits m (length b.epochs == 0) b up) in

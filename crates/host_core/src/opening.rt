@@ -28,7 +28,7 @@ use std::alloc::Global;
 pub fn open_host<R: Showing>(alloc: Global, rows: &R, config: &Config) -> Result<Outcome, Memory>
     requires epoch { R.latest rows.now ≡ length (R.kept rows.now).epochs }
     requires lawful { Lawful config.now.number (book_of (R.at rows.now) (R.seen rows.now) (R.kept rows.now)) }
-    ensures { IfOk result (λ o. o ≡ open_host config.now (R.at rows.now) (book_of (R.at rows.now) (R.seen rows.now) (R.kept rows.now))) }
+    ensures { IfOk result (λ o. o ≡ open_host config.now (book_of (R.at rows.now) (R.seen rows.now) (R.kept rows.now)) (R.at rows.now)) }
 {
     let is_new = rows.epoch() == 0;
     if is_new && is_too_long(&config.limits) {
@@ -75,7 +75,7 @@ fn open_changes<R: Showing>(
 ) -> Result<Items<Change>, Memory>
     requires new { is_new ≡ (length (R.kept rows.now).epochs == 0) }
     requires lawful { Lawful config.now.number (book_of (R.at rows.now) (R.seen rows.now) (R.kept rows.now)) }
-    ensures { IfOk result (λ list. list ≡ open_changes config.now (R.at rows.now) (book_of (R.at rows.now) (R.seen rows.now) (R.kept rows.now))) }
+    ensures { IfOk result (λ list. list ≡ open_changes config.now (book_of (R.at rows.now) (R.seen rows.now) (R.kept rows.now)) (R.at rows.now)) }
 {
     let mut list = first_limits(alloc, &config.limits, is_new)?;
     add_restarts(alloc, rows, config, &mut list)?;

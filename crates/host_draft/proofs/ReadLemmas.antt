@@ -62,7 +62,7 @@ module _ (number m : ℕ) (began now : Book) (touched : List RunRow) (gone : Lis
 
   pub read_tiers : (class : Class) (reach : Option Span) (len : ℕ) (priority : ℤ) (w : Range) → IfSome reach (λ i. i ≡ reach_of len w)
       → (bookings list made : List Booking) → bookings ≡ bookings_of began.rows → list ≡ near_gathered class reach touched gone bookings → made ≡ booked list []
-      → free_among class len priority w m made ≡ free_tiers class len priority w now.moment now.rows
+      → free_among class len priority w m made ≡ free_tiers now.rows now.moment class len priority w
   read_tiers class reach len priority w covers bookings list made index is made_is =
       tiers_near now.rows touched gone began.rows sound.lawful.ascending up lawful.ascending sound.found class reach len priority w m covers made (made_is ∙ ap (λ l. booked l []) (is ∙ ap (near_gathered class reach touched gone) index))
-      ∙ ap (λ n. free_tiers class len priority w n now.rows) (sym sound.at)
+      ∙ ap (λ n. free_tiers now.rows n class len priority w) (sym sound.at)

@@ -106,7 +106,7 @@ module _ (lead serial : ℕ) where
       go false is later = later ∙ sym (ap (λ t. cons_option (change_if (t && (not (is_some x.started) && not (is_some x.closed))) (Closed x.key Canceled)) (filter_map wish xs)) is)
 
 -- the task, and those of its runs that the walk finds
-pub canceled_are : (lead m : ℕ) (t : TaskRow) (b : Book) → IsAscendingRows b.rows → close_unless t ++ canceled_runs lead t.serial b.rows (runs_of_task lead t.serial b.rows) ≡ cancel_changes lead m t b
+pub canceled_are : (lead m : ℕ) (t : TaskRow) (b : Book) → IsAscendingRows b.rows → close_unless t ++ canceled_runs lead t.serial b.rows (runs_of_task lead t.serial b.rows) ≡ cancel_changes lead b m t
 canceled_are lead m t b up =
     let runs : canceled_runs lead t.serial b.rows (runs_of_task lead t.serial b.rows) ≡ each_row (cancel_run lead t.serial) m (apply_all m (close_unless t) b) =
     by_keys lead t.serial b.rows b.rows (found_up b.rows up) ∙ sym (after_task lead t.serial m t.serial (is_some t.closed) b up) in

@@ -46,7 +46,7 @@ fn cancel_changes<R: Hosting>(
     lead: u16,
     task: &TaskRow,
 ) -> Result<Items<Change>, Memory>
-    ensures { IfOk result (λ list. list ≡ cancel_changes lead (R.at rows.now) task.now (book_of (R.at rows.now) (R.seen rows.now) (R.kept rows.now))) }
+    ensures { IfOk result (λ list. list ≡ cancel_changes lead (book_of (R.at rows.now) (R.seen rows.now) (R.kept rows.now)) (R.at rows.now) task.now) }
 {
     let mut list = listed(alloc, close_task(task))?;
     cancel_runs(rows, lead, task.serial, &mut list)?;

@@ -43,7 +43,7 @@ pub fn set_limits<R: Hosting>(alloc: Global, rows: &R, limits: Limits) -> Result
 
 // Whether the limits are those of the latest epoch already.
 fn is_latest<R: Hosting>(rows: &R, limits: &Limits) -> bool
-    ensures { result ≡ is_latest limits.now (book_of (R.at rows.now) (R.seen rows.now) (R.kept rows.now)) }
+    ensures { result ≡ is_latest (book_of (R.at rows.now) (R.seen rows.now) (R.kept rows.now)) limits.now }
 {
     match rows.latest_limits() {
         Some(latest) => latest.text() == limits.text(),

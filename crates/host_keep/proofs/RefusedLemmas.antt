@@ -32,8 +32,8 @@ refused_empty : (b : Bool) (w wrong : LimitsWrong) (cs : List Change) → (if b 
 refused_empty true w wrong cs is = refl
 refused_empty false w wrong cs is = cc is
 
-open_empty : (c : Config) (m : ℕ) (b : Book) (wrong : LimitsWrong) → (open_host c m b).reply ≡ limits_wrong wrong → (open_host c m b).list ≡ []
-open_empty c m b wrong is = refused_empty ((latest_epoch b == 0) && is_too_long c.limits) (Bytes (length c.limits.text)) wrong (open_changes c m b) is
+open_empty : (c : Config) (m : ℕ) (b : Book) (wrong : LimitsWrong) → (open_host c b m).reply ≡ limits_wrong wrong → (open_host c b m).list ≡ []
+open_empty c m b wrong is = refused_empty ((latest_epoch b == 0) && is_too_long c.limits) (Bytes (length c.limits.text)) wrong (open_changes c b m) is
 
 nothing_refused : (c : Config) (b : Book) (clock : ℕ) (wrong : LimitsWrong) → step_reply c b clock Open ≡ limits_wrong wrong → (step_changes c b clock Open).list ≡ []
 nothing_refused c b clock wrong is = open_empty c (moment_at b clock) (settled (moment_at b clock) b) wrong is

@@ -142,7 +142,7 @@ module _ (m : ℕ) (rule : Schedule) where
       window_allowed rule a.number s x.0 x.1 (omega (arith, at.0), omega (arith, at.1))
 
 -- each start about which an attempt asks is allowed to its number by the schedule of its task
-pub attempt_allowed : (self : ℕ) (t : TaskRow) (rows : List RunRow) (m : ℕ) (a : Attempt) → next_attempt self t rows m ≡ Some a → AsksAllowed t.task.rule a
+pub attempt_allowed : (self : ℕ) (t : TaskRow) (rows : List RunRow) (m : ℕ) (a : Attempt) → next_attempt self rows m t ≡ Some a → AsksAllowed t.task.rule a
 attempt_allowed self t rows m a e = go (is_some t.closed) e
   where
     go : (b : Bool) → cond b None (attempt_by m t.task.rule (newest_row self t.serial rows)) ≡ Some a → AsksAllowed t.task.rule a

@@ -186,7 +186,7 @@ module _ (c : Config) (b : Book) (m : ℕ) (up : IsAscendingRows b.rows) where
 
     asked_granted : (o : Option Range) → AcceptsGranted c b (plan_asked c b m r o)
     asked_granted None = tt
-    asked_granted (Some w) = of_plan_granted (plan (wanted_tools (find_task b.tasks r.key.task)) r (own_answer c b m r w) m)
+    asked_granted (Some w) = of_plan_granted (plan m (wanted_tools (find_task b.tasks r.key.task)) r (own_answer c b m r w))
 
     pub plan_granted : (x : Change) → plan_run c m b r ≡ Some x → AcceptsGranted c b x
     plan_granted x e = go (is_answered r) e

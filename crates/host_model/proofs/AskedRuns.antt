@@ -81,7 +81,7 @@ by_window m rule None a e = fresh_window m rule 0 a e
 by_window m rule (Some r) a e = after_window m rule r.key a r.confirmed r.closed e
 
 -- the window of a task's next attempt
-pub next_window : (self : ℕ) (t : TaskRow) (rows : List RunRow) (m : ℕ) (a : Attempt) → next_attempt self t rows m ≡ Some a → IsWindow a.window
+pub next_window : (self : ℕ) (t : TaskRow) (rows : List RunRow) (m : ℕ) (a : Attempt) → next_attempt self rows m t ≡ Some a → IsWindow a.window
 next_window self t rows m a e = go (is_some t.closed) e
   where
     go : (b : Bool) → cond b None (attempt_by m t.task.rule (newest_row self t.serial rows)) ≡ Some a → IsWindow a.window

@@ -139,7 +139,7 @@ module _ (m : ℕ) where
       go false rest = ap (λ x. x.book) (stays cs (draft b done zero left) refl)
 
   -- both at once
-  pub turned_is : (config : Config) (b : Book) → ((turned config m (fresh b)).changes ≡ turn_changes config m b) × ((turned config m (fresh b)).book ≡ apply_all m (turn_changes config m b) b)
+  pub turned_is : (config : Config) (b : Book) → ((turned config m (fresh b)).changes ≡ turn_changes config b m) × ((turned config m (fresh b)).book ≡ apply_all m (turn_changes config b m) b)
   turned_is config b =
       let due : List Change = due_changes config m b in
       let left : ℕ = most_record_bytes - record_bytes [] in

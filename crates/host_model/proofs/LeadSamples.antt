@@ -114,11 +114,11 @@ hold_lost = refl
 abbrev failed_at : ℕ → RunRow
 failed_at m = record many_asked { closed = Some (record { moment = m; why = Nonstart NoSlot }) }
 
-not_yet_again : next_attempt 1 many_row (failed_at 1033 ∷ []) 1062 ≡ None
+not_yet_again : next_attempt 1 (failed_at 1033 ∷ []) 1062 many_row ≡ None
 unfolding first_from
 not_yet_again = refl
 
-again : next_attempt 1 many_row (failed_at 1033 ∷ []) 1063 ≡ Some (record { number = 0; attempt = 1; window = window 1068 1300 })
+again : next_attempt 1 (failed_at 1033 ∷ []) 1063 many_row ≡ Some (record { number = 0; attempt = 1; window = window 1068 1300 })
 unfolding first_from
 again = refl
 

@@ -120,7 +120,7 @@ found_kept P t k r (x ∷ xs) all found is = go (t x) (is_eq (key_cmp x.key k)) 
     go false false tests all found later = later all found
 
 -- ---- the next attempt
-pub attempt_new : (self : ℕ) (t : TaskRow) (rows : List RunRow) (m : ℕ) (a : Attempt) → IsAscendingRows rows → next_attempt self t rows m ≡ Some a → IsNone (find_row rows (attempt_key self t.serial a))
+pub attempt_new : (self : ℕ) (t : TaskRow) (rows : List RunRow) (m : ℕ) (a : Attempt) → IsAscendingRows rows → next_attempt self rows m t ≡ Some a → IsNone (find_row rows (attempt_key self t.serial a))
 attempt_new self t rows m a up e = by_newest (newest_row self t.serial rows) refl (given_else (is_some t.closed) (attempt_by m t.task.rule (newest_row self t.serial rows)) a e).1
   where
     k : RunKey

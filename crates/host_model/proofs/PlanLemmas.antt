@@ -61,5 +61,5 @@ module _ (wanted : List (List ℕ)) (r : RunRow) (own : FreeAnswer) (m : ℕ) (s
   with_start answers (Some t) e = let x = at_start (common_start m r.question answers) t e in common_inside answers r.question refl x.0 x.1 x.2
 
   -- the start lies in the window of the row's question, at least five seconds ahead
-  pub planned_inside : plan wanted r own m ≡ At start tool → StartsInside
+  pub planned_inside : plan m wanted r own ≡ At start tool → StartsInside
   planned_inside e = with_start (own ∷ answers_of r) (chosen (map (λ a. a.tools) (own ∷ answers_of r)) wanted) e

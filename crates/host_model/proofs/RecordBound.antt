@@ -325,13 +325,13 @@ module _ (c : Config) (m : ℕ) (b : Book) (epochs : All IsKept b.epochs) where
       due_now s a true = omega (arith, one (Tried k index (state_after a.policy s m retry good)), state_short (state_after a.policy s m retry good))
       due_now s a false = none_short 28
 
-      go : (o : Option ArchiveState) (p : Option Archive) → Short 28 (try_at k index m good retry o p)
+      go : (o : Option ArchiveState) (p : Option Archive) → Short 28 (try_at m k index good retry o p)
       go (Some s) (Some a) = due_now s a (is_due s m)
       go (Some s) None = none_short 28
       go None p = none_short 28
 
   limits_short : (l : Limits) → Short 1_048_581 (set_limits b l)
-  limits_short l = go (is_latest l b) (is_too_long l) (nat_le most_epochs (latest_epoch b)) refl
+  limits_short l = go (is_latest b l) (is_too_long l) (nat_le most_epochs (latest_epoch b)) refl
     where
       go : (s t u : Bool) → is_too_long l ≡ t → Short 1_048_581 (cond s (answered (LimitsSet_reply (latest_epoch b))) (cond t (refused (Bytes (length l.text))) (cond u (refused (Epochs (latest_epoch b))) (record { reply = LimitsSet_reply (latest_epoch b + 1); list = LimitsSet l ∷ [] }))))
       go true t u e = none_short 1_048_581
@@ -480,7 +480,7 @@ module _ (c : Config) (m : ℕ) (b : Book) (few : length b.rows ≤ most_rows) w
             few,
           )
 
-      own : (t : TaskRow) (u : Bool) → total (cond u (record { reply = Canceled_reply; list = cancel_changes c.number m t b }) (answered NotPoster)).list ≤ 700_005
+      own : (t : TaskRow) (u : Bool) → total (cond u (record { reply = Canceled_reply; list = cancel_changes c.number b m t }) (answered NotPoster)).list ≤ 700_005
       own t true = runs t t.closed
       own t false = omega arith
 
@@ -488,7 +488,7 @@ module _ (c : Config) (m : ℕ) (b : Book) (few : length b.rows ≤ most_rows) w
       go None = omega arith
       go (Some t) = own t (bytes_eq t.asker.requester requester)
 
-  open_short : total (open_host c m b).list ≤ 7_048_581
+  open_short : total (open_host c b m).list ≤ 7_048_581
   open_short = go (latest_epoch b == 0) (is_too_long c.limits) refl
     where
       ends : (a : Book) → length a.rows ≤ most_rows → total (each_row (restart_run c) m a ++ []) ≤ 6_000_000
@@ -530,7 +530,7 @@ input_short c m b (input.Heard order said) lawful config is short =
     omega (arith, record_total (hear b order said).list, hear_short b order said (λ r at. (lawful_at c.number b lawful order.key r at).row.participants.named), short)
 input_short c m b (input.Tried key index good retry) lawful config is short = omega (arith, record_total (try_archive b m key index good retry).list, tried_short c m b lawful.epochs key index good retry)
 input_short c m b input.Turn lawful config is short = omega (arith, turn_bytes c m b)
-input_short c m b input.Open lawful config is short = omega (arith, record_total (open_host c m b).list, open_short c m b lawful.few_rows)
+input_short c m b input.Open lawful config is short = omega (arith, record_total (open_host c b m).list, open_short c m b lawful.few_rows)
 input_short c m b (input.Limits limits) lawful config is short = omega (arith, record_total (set_limits b limits).list, limits_short c m b lawful.epochs limits)
 
 -- the record of a step whose input isn't too long

@@ -222,20 +222,20 @@ module _ (P : Book → Change → Type 0) (m : ℕ) (c : Config) (b : Book) wher
       Along (try_archive b m k index good retry).list
   tried_along k index good retry due = go (find_row b.rows k) refl
     where
-      at_row : (r : RunRow) → find_row b.rows k ≡ Some r → (o : Option ArchiveState) (p : Option Archive) → state_at_index r index ≡ o → slice_get (archives_of b.tasks k) index ≡ p → Along (try_at k index m good retry o p).list
+      at_row : (r : RunRow) → find_row b.rows k ≡ Some r → (o : Option ArchiveState) (p : Option Archive) → state_at_index r index ≡ o → slice_get (archives_of b.tasks k) index ≡ p → Along (try_at m k index good retry o p).list
       at_row r found (Some s) (Some a) e f = by_test (is_due s m) _ _ (λ is. (due r s a found e f is, tt)) (λ fails. tt)
       at_row r found (Some s) None e f = tt
       at_row r found None p e f = tt
 
-      go : (o : Option RunRow) → find_row b.rows k ≡ o → Along (try_at k index m good retry (option_and_then (λ r. state_at_index r index) o) (slice_get (archives_of b.tasks k) index)).list
+      go : (o : Option RunRow) → find_row b.rows k ≡ o → Along (try_at m k index good retry (option_and_then (λ r. state_at_index r index) o) (slice_get (archives_of b.tasks k) index)).list
       go None found = tt
       go (Some r) found = at_row r found (state_at_index r index) (slice_get (archives_of b.tasks k) index) refl refl
 
   -- ---- an operator
   pub limits_along : (l : Limits) → (is_too_long l ≡ false → nat_le most_epochs (latest_epoch b) ≡ false → P b (LimitsSet l)) → Along (set_limits b l).list
-  limits_along l has = by_test (is_latest l b) _ _ (λ is. tt) (λ new. by_test (is_too_long l) _ _ (λ long. tt) (λ short. by_test (nat_le most_epochs (latest_epoch b)) _ _ (λ full. tt) (λ room. (has short room, tt))))
+  limits_along l has = by_test (is_latest b l) _ _ (λ is. tt) (λ new. by_test (is_too_long l) _ _ (λ long. tt) (λ short. by_test (nat_le most_epochs (latest_epoch b)) _ _ (λ full. tt) (λ room. (has short room, tt))))
 
-  pub open_along : ((latest_epoch b == 0) ≡ true → P b (LimitsSet c.limits)) → GrantsRow P m (restart_run c) → Along (open_host c m b).list
+  pub open_along : ((latest_epoch b == 0) ≡ true → P b (LimitsSet c.limits)) → GrantsRow P m (restart_run c) → Along (open_host c b m).list
   open_along first runs =
       let rest : Book = apply_all m (first_limits c.limits b) b in
       let ends : AllAlong P m rest (each_row (restart_run c) m rest) = rows_along P m (restart_run c) runs rest in

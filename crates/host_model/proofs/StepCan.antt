@@ -181,7 +181,7 @@ module _ (c : Config) (m : ℕ) (b : Book) where
   pub limits_can : (l : Limits) → AllAlong Q m b (set_limits b l).list
   limits_can l = limits_along Q m c b l (λ short room now lawful. tt)
 
-  pub open_can : AllAlong Q m b (open_host c m b).list
+  pub open_can : AllAlong Q m b (open_host c b m).list
   open_can = open_along Q m c b (λ first now lawful. tt) (λ a r d at e now lawful.
       let g = restart_granted c a r d e in subst (CanApply a) g.1 (with_row a r.key _ r at g.0))
 

@@ -156,7 +156,7 @@ module _ (c : Config) (m : ℕ) (b : Book) where
   cancel_along requester None = tt
   cancel_along requester (Some t) = go (bytes_eq t.asker.requester requester)
     where
-      go : (same : Bool) → AllGranted (cond same (record { reply = Canceled; list = cancel_changes c.number m t b }) (answered NotPoster))
+      go : (same : Bool) → AllGranted (cond same (record { reply = Canceled; list = cancel_changes c.number b m t }) (answered NotPoster))
       go true = groups_along (AcceptsGranted c) m ((λ a. close_unless t) ∷ each_row (cancel_run c.number t.serial) m ∷ [])
           ((λ a. closing_along t (is_some t.closed) a), (rows_along (AcceptsGranted c) m (cancel_run c.number t.serial) (λ a r x found e. test_along a _ _ x tt e), tt)) b
       go false = tt
@@ -208,7 +208,7 @@ module _ (c : Config) (m : ℕ) (b : Book) where
   due_along k index s t true = (tt, tt)
   due_along k index s t false = tt
 
-  tried_along : (k : RunKey) (index : ℕ) (good : Bool) (retry : Option ℕ) (s : Option ArchiveState) (a : Option Archive) → AllGranted (try_at k index m good retry s a)
+  tried_along : (k : RunKey) (index : ℕ) (good : Bool) (retry : Option ℕ) (s : Option ArchiveState) (a : Option Archive) → AllGranted (try_at m k index good retry s a)
   tried_along k index good retry (Some s) (Some a) = due_along k index s _ (is_due s m)
   tried_along k index good retry s a = tt
 
@@ -222,7 +222,7 @@ module _ (c : Config) (m : ℕ) (b : Book) where
   first_along l true a = (tt, tt)
   first_along l false a = tt
 
-  open_along : (long : Bool) → AllGranted (cond long (refused (Bytes (length c.limits.text))) (changed (open_changes c m b)))
+  open_along : (long : Bool) → AllGranted (cond long (refused (Bytes (length c.limits.text))) (changed (open_changes c b m)))
   open_along true = tt
   open_along false = groups_along (AcceptsGranted c) m (first_limits c.limits ∷ each_row (restart_run c) m ∷ [])
       ((λ a. first_along c.limits (latest_epoch a == 0) a), (rows_along (AcceptsGranted c) m (restart_run c) (λ a r x found e. test_along a _ _ x tt e), tt)) b
@@ -243,4 +243,4 @@ module _ (c : Config) (m : ℕ) (b : Book) where
   step_granted up (input.Tried key index good retry) = tried_along key index good retry _ _
   step_granted up input.Turn = turn_granted c m b up
   step_granted up input.Open = open_along ((latest_epoch b == 0) && is_too_long c.limits)
-  step_granted up (input.Limits limits) = limits_along limits (is_latest limits b) (is_too_long limits) (nat_le most_epochs (latest_epoch b))
+  step_granted up (input.Limits limits) = limits_along limits (is_latest b limits) (is_too_long limits) (nat_le most_epochs (latest_epoch b))

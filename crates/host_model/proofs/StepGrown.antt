@@ -94,8 +94,8 @@ purge_grows self m b r at may now = record {
 abbrev GrowsNow : ℕ → Book → Change → Type 0
 GrowsNow m b c = b.moment ≡ m → GrowsBy b c × (b.moment ≡ m)
 
-turn_grows : (c : Config) (m : ℕ) (b : Book) → b.moment ≡ m → AllAlong GrowsBy m b (turn_changes c m b)
-turn_grows c m b now = kept_along (λ a. a.moment ≡ m) GrowsBy m (turn_changes c m b) b now (turn_along (GrowsNow m) m c
+turn_grows : (c : Config) (m : ℕ) (b : Book) → b.moment ≡ m → AllAlong GrowsBy m b (turn_changes c b m)
+turn_grows c m b now = kept_along (λ a. a.moment ≡ m) GrowsBy m (turn_changes c b m) b now (turn_along (GrowsNow m) m c
     (λ a r d at e now. let g = end_granted c m a r d e in (subst (GrowsBy a) g.is (plain_grows a _ tt), now))
     (λ a r d at e now. let g = merge_granted c m a r d e in (subst (GrowsBy a) g.is (plain_grows a _ tt), now))
     (λ a r d at e now. let g = start_granted m a r d e in (subst (GrowsBy a) g.is (plain_grows a _ tt), now))

@@ -207,15 +207,15 @@ module _ (class : Class) (len : ℕ) (priority : ℤ) (m : ℕ) (rows : List Run
   clear_decided : (s : ℕ) (r : RunRow) → Decides (not (blocks class (span_of s len) r)) (Clear s r)
   clear_decided s r = Decides-like (not (blocks class (span_of s len) r)) (λ none i f. none (i, f)) (λ clear x. clear x.0 x.1) (Decides-not (blocks class (span_of s len) r) (blocks_decided class (span_of s len) r))
 
-  pub free_decided : (s : ℕ) → Decides (is_free class len rows s) (IsFreeStart class len rows s)
-  free_decided s = Decides-like (is_free class len rows s) (λ all k r i e f. all k r e i f) (λ free k r e i f. free k r i e f) (rows_decided (λ r. not (blocks class (span_of s len) r)) (Clear s) (clear_decided s) rows up)
+  pub free_decided : (s : ℕ) → Decides (is_free rows class len s) (IsFreeStart rows class len s)
+  free_decided s = Decides-like (is_free rows class len s) (λ all k r i e f. all k r e i f) (λ free k r e i f. free k r i e f) (rows_decided (λ r. not (blocks class (span_of s len) r)) (Clear s) (clear_decided s) rows up)
 
-  pub freeable_decided : (s : ℕ) → Decides (is_freeable class len priority m rows s) (IsFreeableStart class len priority m rows s)
+  pub freeable_decided : (s : ℕ) → Decides (is_freeable rows m class len priority s) (IsFreeableStart rows m class len priority s)
   freeable_decided s =
-      Decides-like (is_freeable class len priority m rows s) (λ all k r i e f. all k r e i f) (λ free k r e i f. free k r i e f)
+      Decides-like (is_freeable rows m class len priority s) (λ all k r i e f. all k r e i f) (λ free k r e i f. free k r i e f)
       (rows_decided (λ r. not (blocks class (span_of s len) r) || yields priority m r) (GivesWay class (span_of s len) priority m) (way_decided class (span_of s len) priority m) rows up)
 
   -- what a host answers that is asked when it is free
-  pub free_tiers_are : (w : Range) → IsTier (IsFreeStart class len rows) w (free_tiers class len priority w m rows).first × IsTier (IsFreeableStart class len priority m rows) w (free_tiers class len priority w m rows).second
+  pub free_tiers_are : (w : Range) → IsTier (IsFreeStart rows class len) w (free_tiers rows m class len priority w).first × IsTier (IsFreeableStart rows m class len priority) w (free_tiers rows m class len priority w).second
   free_tiers_are w =
-      (tier_is (is_free class len rows) (IsFreeStart class len rows) free_decided w, tier_is (is_freeable class len priority m rows) (IsFreeableStart class len priority m rows) freeable_decided w)
+      (tier_is (is_free rows class len) (IsFreeStart rows class len) free_decided w, tier_is (is_freeable rows m class len priority) (IsFreeableStart rows m class len priority) freeable_decided w)

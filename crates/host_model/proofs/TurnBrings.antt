@@ -85,7 +85,7 @@ module _ (c : Config) (b : Book) (m : ℕ) where
     at_start_brings start tool low None is denial = planning_brings c m b r start tool at row.row.reserves fresh.accepted low is
     at_start_brings start tool low (Some d) is denial = denial
 
-    plan_brings : (own : FreeAnswer) (wanted : List (List ℕ)) (v : Planned) → plan wanted r own m ≡ v → Brings c.number m b (change_of_plan c b m r v)
+    plan_brings : (own : FreeAnswer) (wanted : List (List ℕ)) (v : Planned) → plan m wanted r own ≡ v → Brings c.number m b (change_of_plan c b m r v)
     plan_brings own wanted (At start tool) is =
         let inside = planned_inside wanted r own m start tool is in
         let window : IsWindow inside.0 = subst (λ o. IfSome o IsWindow) inside.1 row.row.question in
@@ -159,7 +159,7 @@ module _ (c : Config) (m : ℕ) (b : Book) (lawful : Lawful c.number b) (r : Run
 
 -- ---- a turn, and an opening
 module _ (c : Config) (m : ℕ) (config : IsConfig c) where
-  pub turn_brings : (b : Book) → AllAlong (BringsLawful c.number m) m b (turn_changes c m b)
+  pub turn_brings : (b : Book) → AllAlong (BringsLawful c.number m) m b (turn_changes c b m)
   turn_brings b = turn_along (BringsLawful c.number m) m c
       (λ a r d at e now lawful. end_brings c m a lawful r at d (subst (λ n. n ≤ greatest_moment) now lawful.moment) e)
       (λ a r d at e now lawful. merge_brings c m a lawful r at d e)
@@ -171,5 +171,5 @@ module _ (c : Config) (m : ℕ) (config : IsConfig c) where
       (λ a r d at e now lawful. let g = purge_granted c m a r d e in subst (Brings c.number m a) g.1 tt)
       b
 
-  pub open_brings : (b : Book) → AllAlong (BringsLawful c.number m) m b (open_host c m b).list
+  pub open_brings : (b : Book) → AllAlong (BringsLawful c.number m) m b (open_host c b m).list
   open_brings b = open_along (BringsLawful c.number m) m c b (λ first now lawful. config.limits) (λ a r d at e now lawful. restart_brings c m a lawful r at d e)

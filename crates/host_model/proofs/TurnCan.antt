@@ -54,7 +54,7 @@ module _ (c : Config) (b : Book) (m : ℕ) (r : RunRow) (at : find_row b.rows r.
   plan_can (Some w) = planned_can _
 
 -- ---- the six wishes
-pub turn_can : (c : Config) (m : ℕ) (b : Book) → AllAlong (CanNow c.number m) m b (turn_changes c m b)
+pub turn_can : (c : Config) (m : ℕ) (b : Book) → AllAlong (CanNow c.number m) m b (turn_changes c b m)
 turn_can c m b = turn_along (CanNow c.number m) m c
     (λ a r d at e now lawful. let g = end_granted c m a r d e in subst (CanApply a) g.is (with_row a r.key _ r at g.active))
     (λ a r d at e now lawful. let g = merge_granted c m a r d e in subst (CanApply a) g.is (ap is_some at))

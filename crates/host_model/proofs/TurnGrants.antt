@@ -49,9 +49,9 @@ module _ (c : Config) (m : ℕ) where
   asks : (b : Book) (t : TaskRow) (x : Change) → ask c m b t ≡ Some x → WhereUp b x
   asks b t x e up = go (is_some (full_denial b.rows (result_bytes b.rows))) e
     where
-      go : (full : Bool) → cond full None (option_map (asked_change c t) (next_attempt c.number t b.rows m)) ≡ Some x → AcceptsGranted c b x
+      go : (full : Bool) → cond full None (option_map (asked_change c t) (next_attempt c.number b.rows m t)) ≡ Some x → AcceptsGranted c b x
       go true f = cc
-      go false f = by_map b (asked_change c t) (next_attempt c.number t b.rows m) x (λ a. tt) f
+      go false f = by_map b (asked_change c t) (next_attempt c.number b.rows m t) x (λ a. tt) f
 
   -- ---- planning
   plans : (b : Book) (r : RunRow) (x : Change) → find_row b.rows r.key ≡ Some r → plan_run c m b r ≡ Some x → WhereUp b x
@@ -62,7 +62,7 @@ module _ (c : Config) (m : ℕ) where
   ascending_along [] b all up = tt
   ascending_along (x ∷ xs) b all up = (all.0 up, ascending_along xs (apply m x b) all.1 (rows_up m b.tasks x b.rows up))
 
-  pub turn_granted : (b : Book) → IsAscendingRows b.rows → AllAlong (AcceptsGranted c) m b (turn_changes c m b)
+  pub turn_granted : (b : Book) → IsAscendingRows b.rows → AllAlong (AcceptsGranted c) m b (turn_changes c b m)
   turn_granted b up =
-      ascending_along (turn_changes c m b) b
+      ascending_along (turn_changes c b m) b
       (turn_along WhereUp m c (λ a r x found. ends a r x) (λ a r x found e up. by_test a _ _ x tt e) (λ a r x found e up. by_test a _ _ x tt e) plans (λ a t x found. asks a t x) (λ a r x found e up. by_test a _ _ x tt e) b) up

@@ -23,7 +23,7 @@ within_bound left (c ∷ cs) = go (nat_le (change_bytes c) left) refl (within_bo
         omega (arith, fits, head, rest)
 
 -- the record of a turn, with its moment and its count
-pub turn_bytes : (config : Config) (m : ℕ) (b : Book) → record_bytes (turn_changes config m b) ≤ most_record_bytes
+pub turn_bytes : (config : Config) (m : ℕ) (b : Book) → record_bytes (turn_changes config b m) ≤ most_record_bytes
 turn_bytes config m b =
     let cs : List Change = take most_changes (due_changes config m b) in
     let left : ℕ = most_record_bytes - record_bytes [] in
@@ -37,7 +37,7 @@ within_count left (c ∷ cs) = go (nat_le (change_bytes c) left) (within_count (
     go false rest = omega arith
     go true rest = omega (arith, rest)
 
-pub turn_count : (config : Config) (m : ℕ) (b : Book) → length (turn_changes config m b) ≤ most_changes
+pub turn_count : (config : Config) (m : ℕ) (b : Book) → length (turn_changes config b m) ≤ most_changes
 turn_count config m b =
     let cs : List Change = take most_changes (due_changes config m b) in
     omega (arith, within_count (most_record_bytes - record_bytes []) cs, length-take most_changes (due_changes config m b))

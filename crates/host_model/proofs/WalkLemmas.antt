@@ -98,7 +98,7 @@ module _ (P : Book → Change → Type 0) (m : ℕ) where
 
   -- what holds where each of the six wishes is granted holds of every change of a turn
   pub turn_along : (config : Config) → GrantsRow (end_run config m) → GrantsRow (merge_run config m) → GrantsRow (start_run m) → GrantsRow (plan_run config m) → GrantsTask (ask config m) → GrantsRow (purge_run config m) →
-      (b : Book) → AllAlong P m b (turn_changes config m b)
+      (b : Book) → AllAlong P m b (turn_changes config b m)
   turn_along config ends merges starts plans asks purges b =
       let groups : List (Book → List Change) = each_row (end_run config m) m ∷ each_row (merge_run config m) m ∷ each_row (start_run m) m ∷ each_row (plan_run config m) m ∷ each_task (ask config m) m ∷ each_row (purge_run config m) m ∷ [] in
       let due : AllAlong P m b (due_changes config m b) = groups_along groups

@@ -110,13 +110,13 @@ plan_granted c m b r d e = let g = given_if (is_answered r) (Some (plan_asked c 
 pub record AsksBy (c : Config) (m : ℕ) (b : Book) (t : TaskRow) (d : Change) : Type 0 where
   pub room : is_some (full_denial b.rows (result_bytes b.rows)) ≡ false
   pub attempt : Attempt
-  pub next : next_attempt c.number t b.rows m ≡ Some attempt
+  pub next : next_attempt c.number b.rows m t ≡ Some attempt
   pub is : asked_change c t attempt ≡ d
 
 pub ask_granted : (c : Config) (m : ℕ) (b : Book) (t : TaskRow) (d : Change) → ask c m b t ≡ Some d → AsksBy c m b t d
 ask_granted c m b t d e =
-    let g = given_else (is_some (full_denial b.rows (result_bytes b.rows))) (option_map (asked_change c t) (next_attempt c.number t b.rows m)) d e in
-    let f = mapped (asked_change c t) (next_attempt c.number t b.rows m) d g.1 in
+    let g = given_else (is_some (full_denial b.rows (result_bytes b.rows))) (option_map (asked_change c t) (next_attempt c.number b.rows m t)) d e in
+    let f = mapped (asked_change c t) (next_attempt c.number b.rows m t) d g.1 in
     record { room = g.0; attempt = f.0; next = f.1; is = f.2 }
 
 -- ---- a row goes, or is closed with its task

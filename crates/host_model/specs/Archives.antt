@@ -48,11 +48,11 @@ abbrev pub tried_to : RunKey → ℕ → ArchiveState → Outcome
 tried_to k index s = record { reply = archive_reply s; list = Tried k index s ∷ [] }
 
 -- an archive that isn't due stays as it is
-abbrev pub try_at : RunKey → ℕ → ℕ → Bool → Option ℕ → Option ArchiveState → Option Archive → Outcome
-try_at k index m good retry (Some s) (Some a) = if is_due s m then tried_to k index (state_after a.policy s m retry good) else answered (archive_reply s)
-try_at k index m good retry _ _ = answered NotFound
+abbrev pub try_at : ℕ → RunKey → ℕ → Bool → Option ℕ → Option ArchiveState → Option Archive → Outcome
+try_at m k index good retry (Some s) (Some a) = if is_due s m then tried_to k index (state_after a.policy s m retry good) else answered (archive_reply s)
+try_at m k index good retry _ _ = answered NotFound
 
 -- of the run of this key, at this index
 abbrev pub try_archive : Book → ℕ → RunKey → ℕ → Bool → Option ℕ → Outcome
 try_archive b m k index good retry =
-    try_at k index m good retry (option_and_then (λ r. state_at_index r index) (find_row b.rows k)) (slice_get (archives_of b.tasks k) index)
+    try_at m k index good retry (option_and_then (λ r. state_at_index r index) (find_row b.rows k)) (slice_get (archives_of b.tasks k) index)

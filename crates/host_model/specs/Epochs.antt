@@ -31,13 +31,13 @@ has_text text None = false
 has_text text (Some l) = bytes_eq l.text text
 
 -- they are those of the latest epoch already
-abbrev pub is_latest : Limits → Book → Bool
-is_latest l b = has_text l.text (last_or None b.epochs)
+abbrev pub is_latest : Book → Limits → Bool
+is_latest b l = has_text l.text (last_or None b.epochs)
 
 -- those of the latest epoch change nothing; others are refused for their length or for want of a place, or are a new epoch
 abbrev pub set_limits : Book → Limits → Outcome
 set_limits b l =
-    if is_latest l b then answered (LimitsSet (latest_epoch b))
+    if is_latest b l then answered (LimitsSet (latest_epoch b))
     else if is_too_long l then refused (Bytes (length l.text))
     else if nat_le most_epochs (latest_epoch b) then refused (Epochs (latest_epoch b))
     else record { reply = LimitsSet (latest_epoch b + 1); list = limits_change l ∷ [] }
@@ -48,9 +48,9 @@ abbrev pub first_limits : Limits → Book → List Change
 first_limits l b = if latest_epoch b == 0 then limits_change l ∷ [] else []
 
 -- and each active run ends as failed
-abbrev pub open_changes : Config → ℕ → Book → List Change
-open_changes c m b = in_turn m (first_limits c.limits ∷ each_row (restart_run c) m ∷ []) b
+abbrev pub open_changes : Config → Book → ℕ → List Change
+open_changes c b m = in_turn m (first_limits c.limits ∷ each_row (restart_run c) m ∷ []) b
 
 -- refused where the limits that would be the first epoch are too long
-abbrev pub open_host : Config → ℕ → Book → Outcome
-open_host c m b = if (latest_epoch b == 0) && is_too_long c.limits then refused (Bytes (length c.limits.text)) else changed (open_changes c m b)
+abbrev pub open_host : Config → Book → ℕ → Outcome
+open_host c b m = if (latest_epoch b == 0) && is_too_long c.limits then refused (Bytes (length c.limits.text)) else changed (open_changes c b m)

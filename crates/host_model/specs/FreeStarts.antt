@@ -31,20 +31,20 @@ use Rattle.host_model.specs.declared.reply.Reply.TheVariants.{Free, Denied}
 -- ---- the tests
 -- no booked row is in conflict with a run of this class and length that starts at s
 -- In words of rows it is `IsFreeStart` of `FreeTier`: see `free_decided` of `proofs/TierLemmas`.
-abbrev pub is_free : Class → ℕ → List RunRow → ℕ → Bool
-is_free class len rows s = list_all (λ r. not (blocks class (span_of s len) r)) rows
+abbrev pub is_free : List RunRow → Class → ℕ → ℕ → Bool
+is_free rows class len s = list_all (λ r. not (blocks class (span_of s len) r)) rows
 
 -- each one that is in conflict can be preempted at m
 -- In words of rows it is `IsFreeableStart` of `FreeTier`: see `freeable_decided` of `proofs/TierLemmas`.
-abbrev pub is_freeable : Class → ℕ → ℤ → ℕ → List RunRow → ℕ → Bool
-is_freeable class len priority m rows s = list_all (λ r. not (blocks class (span_of s len) r) || yields priority m r) rows
+abbrev pub is_freeable : List RunRow → ℕ → Class → ℕ → ℤ → ℕ → Bool
+is_freeable rows m class len priority s = list_all (λ r. not (blocks class (span_of s len) r) || yields priority m r) rows
 
 -- the starts in a window, over rows that are settled at m
 -- Each is an `IsTier` of `FreeTier`: see `free_tiers_are` of `proofs/TierLemmas`.
-abbrev pub free_tiers : Class → ℕ → ℤ → Range → ℕ → List RunRow → Tiers
-free_tiers class len priority w m rows = record {
-  first = tier_of (is_free class len rows) w;
-  second = tier_of (is_freeable class len priority m rows) w;
+abbrev pub free_tiers : List RunRow → ℕ → Class → ℕ → ℤ → Range → Tiers
+free_tiers rows m class len priority w = record {
+  first = tier_of (is_free rows class len) w;
+  second = tier_of (is_freeable rows m class len priority) w;
 }
 
 -- ---- the answer, which says nothing of limits
@@ -56,7 +56,7 @@ tools_here installed test = filter (is_tool_for (test_kind test)) installed
 abbrev pub free_answer : List (List ℕ) → List RunRow → ℕ → Question → FreeAnswer
 free_answer installed rows m q = record {
   tools = tools_here installed q.test;
-  tiers = free_tiers (test_class q.test) (test_length q.test) q.priority q.window m rows;
+  tiers = free_tiers rows m (test_class q.test) (test_length q.test) q.priority q.window;
 }
 
 -- only a participant answers

@@ -12,13 +12,13 @@ use Rattle.host_model.specs.Conflicting.{Conflicts, MayPreempt}
 -- ---- starts
 -- no booked row is in conflict with a run of this class and length that starts at s
 -- The test is `is_free` of `FreeStarts`: see `free_decided` of `proofs/TierLemmas`.
-abbrev pub IsFreeStart : Class → ℕ → List RunRow → ℕ → Type 0
-IsFreeStart class len rows s = (k : RunKey) (r : RunRow) (i : Span) → find_row rows k ≡ Some r → Conflicts class (span_of s len) r i → ⊥
+abbrev pub IsFreeStart : List RunRow → Class → ℕ → ℕ → Type 0
+IsFreeStart rows class len s = (k : RunKey) (r : RunRow) (i : Span) → find_row rows k ≡ Some r → Conflicts class (span_of s len) r i → ⊥
 
 -- each one that is in conflict may be preempted at m by a run of this priority
 -- The test is `is_freeable` of `FreeStarts`: see `freeable_decided` of `proofs/TierLemmas`.
-abbrev pub IsFreeableStart : Class → ℕ → ℤ → ℕ → List RunRow → ℕ → Type 0
-IsFreeableStart class len priority m rows s = (k : RunKey) (r : RunRow) (i : Span) → find_row rows k ≡ Some r → Conflicts class (span_of s len) r i → MayPreempt priority m r i
+abbrev pub IsFreeableStart : List RunRow → ℕ → Class → ℕ → ℤ → ℕ → Type 0
+IsFreeableStart rows m class len priority s = (k : RunKey) (r : RunRow) (i : Span) → find_row rows k ≡ Some r → Conflicts class (span_of s len) r i → MayPreempt priority m r i
 
 -- ---- windows
 -- the moment lies in the window

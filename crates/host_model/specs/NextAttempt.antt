@@ -60,8 +60,8 @@ attempt_by m rule None = fresh_attempt m rule 0
 attempt_by m rule (Some r) = attempt_after m rule r.key r.confirmed r.closed
 
 -- the next attempt at m of a task of the host, if there is one
-abbrev pub next_attempt : ℕ → TaskRow → List RunRow → ℕ → Option Attempt
-next_attempt self t rows m = if is_some t.closed then None else attempt_by m t.task.rule (newest_row self t.serial rows)
+abbrev pub next_attempt : ℕ → List RunRow → ℕ → TaskRow → Option Attempt
+next_attempt self rows m t = if is_some t.closed then None else attempt_by m t.task.rule (newest_row self t.serial rows)
 
 -- ---- its question
 abbrev pub attempt_key : ℕ → ℕ → Attempt → RunKey
@@ -73,4 +73,4 @@ asked_change c t a = Asked (record { key = attempt_key c.number t.serial a; test
 
 -- a book that isn't full gets its row
 abbrev pub ask : Config → ℕ → Book → TaskRow → Option Change
-ask c m b t = if is_some (full_denial b.rows (result_bytes b.rows)) then None else option_map (asked_change c t) (next_attempt c.number t b.rows m)
+ask c m b t = if is_some (full_denial b.rows (result_bytes b.rows)) then None else option_map (asked_change c t) (next_attempt c.number b.rows m t)

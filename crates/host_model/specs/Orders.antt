@@ -77,9 +77,9 @@ abbrev pub row_orders : ℕ → RunRow → List Order
 row_orders m r = if is_some r.asked then orders_from m r 1 r.others else []
 
 -- over rows that are settled at m, by key, then by place, the first 64
-abbrev pub orders_of : ℕ → List RunRow → List Order
-orders_of m rows = take most_orders (flat_map (row_orders m) rows)
+abbrev pub orders_of : List RunRow → ℕ → List Order
+orders_of rows m = take most_orders (flat_map (row_orders m) rows)
 
 -- the orders of a book at a clock
 abbrev pub orders : Book → ℕ → List Order
-orders b clock = let m = moment_at b clock in orders_of m (settled_rows m b.rows)
+orders b clock = let m = moment_at b clock in orders_of (settled_rows m b.rows) m

@@ -58,8 +58,8 @@ planned_with m question answers None = NoTool
 planned_with m question answers (Some tool) = planned_at (common_start m question answers) tool
 
 -- the tool that all have, and then the start: of these wanted tools, for this row, with the lead's own answer
-abbrev pub plan : List (List ℕ) → RunRow → FreeAnswer → ℕ → Planned
-plan wanted r own m =
+abbrev pub plan : ℕ → List (List ℕ) → RunRow → FreeAnswer → Planned
+plan m wanted r own =
     let answers = own ∷ answers_of r in planned_with m r.question answers (chosen (map (λ a. a.tools) answers) wanted)
 
 -- ---- what comes of it
@@ -89,7 +89,7 @@ wanted_tools (Some t) = t.task.tools
 -- by the question, which every asked row has: without one there would be no slot
 abbrev pub plan_asked : Config → Book → ℕ → RunRow → Option Range → Change
 plan_asked c b m r None = Closed r.key (Nonstart no_slot)
-plan_asked c b m r (Some w) = change_of_plan c b m r (plan (wanted_tools (find_task b.tasks r.key.task)) r (own_answer c b m r w) m)
+plan_asked c b m r (Some w) = change_of_plan c b m r (plan m (wanted_tools (find_task b.tasks r.key.task)) r (own_answer c b m r w))
 
 -- an asked row with all answers is planned or closed
 abbrev pub plan_run : Config → ℕ → Book → RunRow → Option Change

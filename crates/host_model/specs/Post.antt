@@ -85,14 +85,14 @@ abbrev pub cancel_run : ℕ → ℕ → Book → RunRow → Option Change
 cancel_run self serial b r = change_if (is_of_task self serial r && (not (is_some r.started) && not (is_some r.closed))) (Closed r.key canceled_run)
 
 -- the task, and then its runs
-abbrev pub cancel_changes : ℕ → ℕ → TaskRow → Book → List Change
-cancel_changes self m t b = in_turn m ((λ b. close_unless t) ∷ each_row (cancel_run self t.serial) m ∷ []) b
+abbrev pub cancel_changes : ℕ → Book → ℕ → TaskRow → List Change
+cancel_changes self b m t = in_turn m ((λ b. close_unless t) ∷ each_row (cancel_run self t.serial) m ∷ []) b
 
 -- only who posted the task may cancel it
 abbrev pub cancel_task : Config → Book → ℕ → List ℕ → Option TaskRow → Outcome
 cancel_task c b m requester None = answered NotFound
 cancel_task c b m requester (Some t) =
-    if bytes_eq t.asker.requester requester then record { reply = Canceled; list = cancel_changes c.number m t b } else answered NotPoster
+    if bytes_eq t.asker.requester requester then record { reply = Canceled; list = cancel_changes c.number b m t } else answered NotPoster
 
 -- of the task of this serial
 abbrev pub cancel : Config → Book → ℕ → ℕ → List ℕ → Outcome

@@ -19,10 +19,10 @@ may_start m None = false
 may_start m (Some s) = nat_le s.start m && nat_le m (s.start + grace)
 
 -- the class of an active run conflicts with this one
-abbrev pub is_hindered : Class → List RunRow → Bool
-is_hindered class rows = list_any (λ r. is_active r && conflicting_classes (test_class r.test) class) rows
+abbrev pub is_hindered : List RunRow → Class → Bool
+is_hindered rows class = list_any (λ r. is_active r && conflicting_classes (test_class r.test) class) rows
 
 -- a booked, confirmed run that isn't started starts in time, unless an active run hinders it
 abbrev pub start_run : ℕ → Book → RunRow → Option Change
 start_run m b r =
-    change_if (is_booked r && (is_some r.confirmed && (not (is_some r.started) && (may_start m r.interval && not (is_hindered (test_class r.test) b.rows))))) (Started r.key)
+    change_if (is_booked r && (is_some r.confirmed && (not (is_some r.started) && (may_start m r.interval && not (is_hindered b.rows (test_class r.test)))))) (Started r.key)

@@ -34,8 +34,8 @@ outcome_of c m b (input.Collect sender key) = collect c b m sender key
 outcome_of c m b (input.Material sender key text) = hear_material c b sender key
 outcome_of c m b (input.Heard order answer) = hear b order answer
 outcome_of c m b (input.Tried key index good retry) = try_archive b m key index good retry
-outcome_of c m b input.Turn = turn c m b
-outcome_of c m b input.Open = open_host c m b
+outcome_of c m b input.Turn = turn c b m
+outcome_of c m b input.Open = open_host c b m
 outcome_of c m b (input.Limits limits) = set_limits b limits
 
 -- what a step comes to, at a clock

@@ -37,13 +37,13 @@ within_bytes left [] = []
 within_bytes left (c ∷ cs) = if nat_le (change_bytes c) left then c ∷ within_bytes (left - change_bytes c) cs else []
 
 -- the first 64 of them, as far as their record has room
-abbrev pub turn_changes : Config → ℕ → Book → List Change
-turn_changes c m b = within_bytes (most_record_bytes - record_bytes []) (take most_changes (due_changes c m b))
+abbrev pub turn_changes : Config → Book → ℕ → List Change
+turn_changes c b m = within_bytes (most_record_bytes - record_bytes []) (take most_changes (due_changes c m b))
 
 -- the reply counts the changes
 abbrev pub changed : List Change → Outcome
 changed cs = record { reply = changes_reply (length cs); list = cs }
 
 -- the host does what is due
-abbrev pub turn : Config → ℕ → Book → Outcome
-turn c m b = changed (turn_changes c m b)
+abbrev pub turn : Config → Book → ℕ → Outcome
+turn c b m = changed (turn_changes c b m)

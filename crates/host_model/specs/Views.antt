@@ -31,12 +31,12 @@ test_view name = option_map (λ kind. view.Test name (kind_class kind)) (kind_of
 
 -- ---- tasks and runs
 -- the runs of the host's task that have an interval
-abbrev pub runs_of : ℕ → ℕ → List RunRow → List RunKey
-runs_of self serial rows = keys_of_rows (filter (λ r. is_of_task self serial r && is_some r.interval) rows)
+abbrev pub runs_of : ℕ → List RunRow → ℕ → List RunKey
+runs_of self rows serial = keys_of_rows (filter (λ r. is_of_task self serial r && is_some r.interval) rows)
 
 -- the runs of a task, if there is such a task
 abbrev pub runs_view : Config → Book → ℕ → Option View
-runs_view c b serial = option_map (λ t. view.Runs (runs_of c.number serial b.rows)) (find_task b.tasks serial)
+runs_view c b serial = option_map (λ t. view.Runs (runs_of c.number b.rows serial)) (find_task b.tasks serial)
 
 -- the archivers of its archive states, of which there are none before it is merged
 abbrev pub archivers_of : Book → RunRow → List (List ℕ)
@@ -62,8 +62,8 @@ line_of m w r None = None
 line_of m w r (Some s) = if overlap s w then Some (record { key = r.key; class = test_class r.test; interval = s; priority = r.priority; state = state_of r m }) else None
 
 -- the rows that overlap the interval, in order
-abbrev pub schedule_lines : ℕ → Span → List RunRow → List Line
-schedule_lines m w rows = in_order (filter_map (λ r. line_of m w r r.interval) rows)
+abbrev pub schedule_lines : List RunRow → ℕ → Span → List Line
+schedule_lines rows m w = in_order (filter_map (λ r. line_of m w r r.interval) rows)
 
 -- ---- each page, over a book that is settled at m; None where there is no such test, task or run
 abbrev pub view_of : Config → Book → ℕ → Page → Option View
@@ -77,7 +77,7 @@ view_of c b m page.Tasks = Some (view.Tasks (map (λ t. t.serial) b.tasks))
 view_of c b m (page.Task serial) = option_map view.Task (find_task b.tasks serial)
 view_of c b m (page.Runs serial) = runs_view c b serial
 view_of c b m (page.Run k) = option_map (run_view b m) (find_row b.rows k)
-view_of c b m (page.Schedule start end) = Some (view.Schedule (schedule_lines m (record { start = start; end = end }) b.rows))
+view_of c b m (page.Schedule start end) = Some (view.Schedule (schedule_lines b.rows m (record { start = start; end = end })))
 
 -- what is shown, or that there is nothing
 abbrev pub shown : Option View → Outcome

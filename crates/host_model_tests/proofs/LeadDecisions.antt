@@ -128,7 +128,7 @@ snooze = record always { tools = codes "snooze" ∷ [] }
 
 -- the others told this; by the lead's own answer, with these tools wanted, at a moment
 abbrev planned : ℕ → List (List ℕ) → FreeAnswer → List FreeAnswer → Planned
-planned m wished own theirs = plan wished (record (asked_row 1001 (question (k 1 1 0 0) idle (pos 0) 0 100) [] asker) { others = map (λ a. record unheard { free = Some a }) theirs }) own m
+planned m wished own theirs = plan m wished (record (asked_row 1001 (question (k 1 1 0 0) idle (pos 0) 0 100) [] asker) { others = map (λ a. record unheard { free = Some a }) theirs }) own
 
 abbrev with_sleep : ℕ → Planned
 with_sleep start = At start (codes "sleep")

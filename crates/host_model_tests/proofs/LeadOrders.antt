@@ -183,7 +183,7 @@ pub record Listed : Type 0 where
   pub letter : ℕ
 
 abbrev listed : ℕ → RunRow → List Listed
-listed m r = map (λ o. record { place = o.place; letter = body_letter o.body }) (orders_of m (r ∷ []))
+listed m r = map (λ o. record { place = o.place; letter = body_letter o.body }) (orders_of (r ∷ []) m)
 
 -- all to the first of the others
 abbrev to_b : List ℕ → List Listed

@@ -57,7 +57,7 @@ module _ (lead serial : ℕ) where
       go true true is later = ap₂ (λ o l. cons_option (option_and_then run_of o) l) found.0 later ∙ ap (λ i. cons_option (cond i (Some x.key) None) (keys_of_rows shown)) is
       go true false is later = ap₂ (λ o l. cons_option (option_and_then run_of o) l) found.0 later ∙ ap (λ i. cons_option (cond i (Some x.key) None) (keys_of_rows shown)) is
 
-  pub runs_are : (rows : List RunRow) → IsAscendingRows rows → filter_map (run_at rows) (runs_of_task lead serial rows) ≡ runs_of lead serial rows
+  pub runs_are : (rows : List RunRow) → IsAscendingRows rows → filter_map (run_at rows) (runs_of_task lead serial rows) ≡ runs_of lead rows serial
   runs_are rows up = by_task rows rows (found_up rows up)
 
 -- ---- the lines of a schedule

@@ -116,7 +116,7 @@ fn runs_view<R: Showing>(
     lead: u16,
     serial: u32,
 ) -> Result<Option<View>, Memory>
-    ensures { IfOk result (λ view. view ≡ option_map (λ t. RunsView (runs_of lead serial (R.seen rows.now))) (find_task (R.kept rows.now).tasks serial)) }
+    ensures { IfOk result (λ view. view ≡ option_map (λ t. RunsView (runs_of lead (R.seen rows.now) serial)) (find_task (R.kept rows.now).tasks serial)) }
 {
     match rows.task(serial) {
         Some(_) => Ok(Some(View::Runs(runs_of(alloc, rows, lead, serial)?))),
@@ -130,7 +130,7 @@ fn runs_of<R: Showing>(
     lead: u16,
     serial: u32,
 ) -> Result<Items<RunKey>, Memory>
-    ensures { IfOk result (λ runs. runs ≡ runs_of lead serial (R.seen rows.now)) }
+    ensures { IfOk result (λ runs. runs ≡ runs_of lead (R.seen rows.now) serial) }
 {
     let mut runs = Items::new(alloc);
     add_runs(rows, lead, serial, &mut runs)?;

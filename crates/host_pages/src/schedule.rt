@@ -26,7 +26,7 @@ pub(crate) fn schedule_lines<R: Showing>(
     start: Moment,
     end: Moment,
 ) -> Result<Items<Line>, Memory>
-    ensures { IfOk result (λ lines. lines ≡ schedule_lines (R.at rows.now) (record { start = start; end = end }) (R.seen rows.now)) }
+    ensures { IfOk result (λ lines. lines ≡ schedule_lines (R.seen rows.now) (R.at rows.now) (record { start = start; end = end })) }
 {
     let mut lines = Vec::new(alloc);
     add_lines(rows, start, end, &mut lines)?;

@@ -65,6 +65,6 @@ module _ (self m : ℕ) (b : Book) (lawful : Lawful self b) (later : b.moment �
       subst (λ (x : Seen). AreListed x.draft.book.moment x.draft.book.rows keys) (sym is) (subst (AreListed m (settled_rows m b.rows)) (sym named) book_listed)
 
 -- the orders of such a draft are those of the book at the clock
-pub opened_orders : (self clock m : ℕ) (l : Limits) (b : Book) (s : Seen) → s ≡ opened self m l b → m ≡ moment_at b clock → orders_of s.draft.book.moment s.draft.book.rows ≡ orders b clock
+pub opened_orders : (self clock m : ℕ) (l : Limits) (b : Book) (s : Seen) → s ≡ opened self m l b → m ≡ moment_at b clock → orders_of s.draft.book.rows s.draft.book.moment ≡ orders b clock
 opened_orders self clock m l b s is at =
-    ap (λ (x : Seen). orders_of x.draft.book.moment x.draft.book.rows) is ∙ ap (λ n. orders_of n (settled_rows n b.rows)) at
+    ap (λ (x : Seen). orders_of x.draft.book.rows x.draft.book.moment) is ∙ ap (λ n. orders_of (settled_rows n b.rows) n) at

@@ -63,9 +63,9 @@ module _ (class : Class) (rows : List RunRow) where
       go true is e later = found_any rows k is
       go false is e later = later e
 
-  pub hindered_among : (ks : List RunKey) → IsAscendingRows rows → HoldHindering class ks rows → among ks ≡ is_hindered class rows
+  pub hindered_among : (ks : List RunKey) → IsAscendingRows rows → HoldHindering class ks rows → among ks ≡ is_hindered rows class
   hindered_among ks up hold =
       let each : AllByRecursion (λ r. hinders class r ≡ true → among ks ≡ true) rows =
       recursion_from_All (λ r. hinders class r ≡ true → among ks ≡ true) rows (all_of_found (λ r. hinders class r ≡ true → among ks ≡ true) rows up (λ r at is.
       hit ks r.key r at is (hold r.key r at is))) in
-      bool_same (among ks) (is_hindered class rows) (among_any ks) (any_shows (hinders class) (among ks ≡ true) rows each)
+      bool_same (among ks) (is_hindered rows class) (among_any ks) (any_shows (hinders class) (among ks ≡ true) rows each)

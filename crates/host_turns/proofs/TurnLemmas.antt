@@ -146,5 +146,5 @@ module _ (c : Config) (number m : ℕ) (b : Book) (same : number ≡ c.number) (
       ∙ awake_same c m live b (subst (λ n. Lawful n b) same lawful)))
 
 -- what a turn ends with are its changes
-pub ended_turn : (c : Config) (m : ℕ) (b : Book) (t : Seen) → t.draft ≡ turned c m (fresh (settled m b)) → t.draft.changes ≡ turn_changes c m (settled m b)
+pub ended_turn : (c : Config) (m : ℕ) (b : Book) (t : Seen) → t.draft ≡ turned c m (fresh (settled m b)) → t.draft.changes ≡ turn_changes c (settled m b) m
 ended_turn c m b t is = ap (λ d. d.changes) is ∙ (turned_is m c (settled m b)).0

@@ -56,7 +56,7 @@ fn may_start(interval: &Option<Interval>, moment: Moment) -> bool
 fn is_hindered<R: Reading>(rows: &R, keys: &[RunKey], class: Class) -> bool
     requires hindering { HoldHindering class keys.now (R.seen rows.now) }
     requires ascending { IsAscendingRows (R.seen rows.now) }
-    ensures { result ≡ is_hindered class (R.seen rows.now) }
+    ensures { result ≡ is_hindered (R.seen rows.now) class }
 {
     any_hinders(rows, keys, class)
 }

@@ -44,7 +44,7 @@ pub fn turn(
     requires name { is_name config.now.name ≡ true }
     requires later { host.now.book.moment ≤ moment }
     requires bound { moment ≤ MAX_MOMENT }
-    ensures { IfOk result (λ outcome. outcome ≡ turn_of config.now moment (settled moment host.now.book)) }
+    ensures { IfOk result (λ outcome. outcome ≡ turn_of config.now (settled moment host.now.book) moment) }
 {
     let keys = host.live_by(alloc, moment)?;
     let live = keys.as_slice();

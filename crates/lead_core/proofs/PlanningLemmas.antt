@@ -26,7 +26,7 @@ use Rattle.lead_core.specs.Books.{IsBookOf}
 use Rattle.lead_core.specs.Planning.{IsInTime, unless_objected_at}
 
 -- ---- the start
-in_time : (wanted : List (List ℕ)) (r : RunRow) (own : FreeAnswer) (m : ℕ) (p : Planned) → plan wanted r own m ≡ p → IfSome r.question IsWindow → IsInTime p
+in_time : (wanted : List (List ℕ)) (r : RunRow) (own : FreeAnswer) (m : ℕ) (p : Planned) → plan m wanted r own ≡ p → IfSome r.question IsWindow → IsInTime p
 in_time wanted r own m (At start tool) is low =
     let inside = planned_inside wanted r own m start tool is in
     let window : IsWindow inside.0 = subst (λ o. IfSome o IsWindow) inside.1 low in
@@ -35,11 +35,11 @@ in_time wanted r own m NoTool is low = tt
 in_time wanted r own m NoSlot is low = tt
 
 -- the start of a plan is within bounds
-pub planned_in_time : (wanted : List (List ℕ)) (r : RunRow) (own : FreeAnswer) (m : ℕ) → IfSome r.question IsWindow → IsInTime (plan wanted r own m)
-planned_in_time wanted r own m low = in_time wanted r own m (plan wanted r own m) refl low
+pub planned_in_time : (wanted : List (List ℕ)) (r : RunRow) (own : FreeAnswer) (m : ℕ) → IfSome r.question IsWindow → IsInTime (plan m wanted r own)
+planned_in_time wanted r own m low = in_time wanted r own m (plan m wanted r own) refl low
 
-pub all_in_time : {E : Type 0} (result : Result Planned E) (wanted : List (List ℕ)) (r : RunRow) (own : FreeAnswer) (m : ℕ) → IfSome r.question IsWindow → IfOk result (λ p. p ≡ plan wanted r own m) → IfOk result IsInTime
-all_in_time result wanted r own m low is = IfOk-weaker result (λ p. p ≡ plan wanted r own m) IsInTime (λ p e. subst IsInTime (sym e) (planned_in_time wanted r own m low)) is
+pub all_in_time : {E : Type 0} (result : Result Planned E) (wanted : List (List ℕ)) (r : RunRow) (own : FreeAnswer) (m : ℕ) → IfSome r.question IsWindow → IfOk result (λ p. p ≡ plan m wanted r own) → IfOk result IsInTime
+all_in_time result wanted r own m low is = IfOk-weaker result (λ p. p ≡ plan m wanted r own) IsInTime (λ p e. subst IsInTime (sym e) (planned_in_time wanted r own m low)) is
 
 -- ---- the row
 not_and : (b x : Bool) → not b ≡ true → (b && x) ≡ false

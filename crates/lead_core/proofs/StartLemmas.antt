@@ -71,7 +71,7 @@ after_near rule m k a None (Some c) e = go (is_repeatable m rule k) refl e
     go false is e = fresh_near rule m (k.number + 1) a e
 
 -- the question of a task's next attempt lies in a window of its schedule
-pub next_scheduled : (self : ℕ) (t : TaskRow) (rows : List RunRow) (m : ℕ) (a : Attempt) → next_attempt self t rows m ≡ Some a → IsScheduled t.task.rule m a
+pub next_scheduled : (self : ℕ) (t : TaskRow) (rows : List RunRow) (m : ℕ) (a : Attempt) → next_attempt self rows m t ≡ Some a → IsScheduled t.task.rule m a
 next_scheduled self t rows m a e =
     let near : IsNear m a = go (is_some t.closed) e in
     record { allowed = attempt_allowed self t rows m a e; ahead = near.ahead; soon = near.soon; few = near.few }
@@ -178,5 +178,5 @@ module _ (wanted : List (List ℕ)) (r : RunRow) (own : FreeAnswer) (m start : �
   with_tool (Some t) e = let x = at_start (common_start m r.question (own ∷ answers_of r)) t e in found_start r.question refl x.0 x.1 x.2
 
   -- the planned start is the best one
-  pub planned_best : plan wanted r own m ≡ At start tool → IsPlannedStart m r own start
+  pub planned_best : plan m wanted r own ≡ At start tool → IsPlannedStart m r own start
   planned_best e = with_tool (chosen (map (λ a. a.tools) (own ∷ answers_of r)) wanted) e

@@ -31,7 +31,7 @@ IsInTime NoSlot = Unit {0}
 -- the plan of a row that was asked about this window, with the lead's own answer over these rows at m
 abbrev pub planned_from : List (List ℕ) → Option TaskRow → RunRow → Range → List RunRow → ℕ → Planned
 planned_from installed task r w rows m =
-    plan (wanted_tools task) r (free_answer installed rows m (record { key = r.key; test = r.test; priority = r.priority; window = w })) m
+    plan m (wanted_tools task) r (free_answer installed rows m (record { key = r.key; test = r.test; priority = r.priority; window = w }))
 
 -- it is accepted under this epoch, unless the host of this name objects
 abbrev pub unless_objected_at : List ℕ → ℕ → Proposal → Option Denial → Change

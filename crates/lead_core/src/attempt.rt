@@ -32,7 +32,7 @@ pub const LAST_ATTEMPT: u16 = 7;
 /// after a failure the same number again, half a minute later, else the first number that may still start in 5 s.
 /// The row is found by search; no other rows are looked at, and no memory is taken.
 pub fn next_attempt<R: Leading>(rows: &R, lead: u16, task: &TaskRow) -> Option<Attempt>
-    ensures { result ≡ next_attempt lead task.now (R.seen rows.now) (R.at rows.now) }
+    ensures { result ≡ next_attempt lead (R.seen rows.now) (R.at rows.now) task.now }
 {
     if task.closed.is_some() {
         return None;

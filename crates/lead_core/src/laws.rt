@@ -12,12 +12,12 @@ ghost use Rattle.lead_core.specs.Starts.{IsPlannedStart, IsScheduled};
 /// A law: each start that an attempt asks about is one at which the task's schedule allows its run, 5 s to a day ahead,
 /// and it is one of eight attempts at the run's number.
 pub fn law_attempt()
-    ensures { (self : ℕ) (t : TaskRow) (rows : List RunRow) (m : ℕ) (a : Attempt) → next_attempt self t rows m ≡ Some a → IsScheduled t.task.rule m a }
+    ensures { (self : ℕ) (t : TaskRow) (rows : List RunRow) (m : ℕ) (a : Attempt) → next_attempt self rows m t ≡ Some a → IsScheduled t.task.rule m a }
 {}
 
 /// A law: a planned start lies in the first tier of every participant, and no earlier one of the window does; or there is
 /// none such, it lies in the second tier of every participant, and no earlier one does.
 #[tactic(auto, using(crate::proofs::StartLemmas::planned_best))]
 pub fn law_plan()
-    ensures { (wanted : List (List ℕ)) (r : RunRow) (own : FreeAnswer) (m start : ℕ) (tool : List ℕ) → plan wanted r own m ≡ At start tool → IsPlannedStart m r own start }
+    ensures { (wanted : List (List ℕ)) (r : RunRow) (own : FreeAnswer) (m start : ℕ) (tool : List ℕ) → plan m wanted r own ≡ At start tool → IsPlannedStart m r own start }
 {}

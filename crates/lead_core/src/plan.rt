@@ -31,7 +31,7 @@ pub fn plan(
     moment: Moment,
 ) -> Result<Planned, Memory>
     requires { moment ≤ MAX_MOMENT }
-    ensures { IfOk result (λ planned. planned ≡ plan wanted.now row.now own.now moment) }
+    ensures { IfOk result (λ planned. planned ≡ plan moment wanted.now row.now own.now) }
 {
     match common_tool(alloc, wanted, row, own)? {
         Some(tool) => plan_with(alloc, tool, row, own, moment),

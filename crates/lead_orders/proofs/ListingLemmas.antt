@@ -178,5 +178,5 @@ module _ (m : ℕ) where
   covered [] up keys order covers = none_listed keys
   covered (r ∷ rs) up keys order covers = with_row r rs up.0 (covered rs up.1) keys order covers
 
-  pub listing_of : (rows : List RunRow) (keys : List RunKey) → IsAscendingRows rows → AreAscending keys → HaveOrders m keys rows → orders_at m keys rows ≡ orders_of m rows
+  pub listing_of : (rows : List RunRow) (keys : List RunKey) → IsAscendingRows rows → AreAscending keys → HaveOrders m keys rows → orders_at m keys rows ≡ orders_of rows m
   listing_of rows keys up order covers = ap (take most_orders) (covered rows up keys order covers)

@@ -30,7 +30,7 @@ pub fn orders<R: Reading>(alloc: Global, rows: &R, keys: &[RunKey]) -> Result<It
     requires ascending { AreAscending keys.now }
     requires named { HaveOrders (R.at rows.now) keys.now (R.seen rows.now) }
     requires few { All HasFewOthers (R.seen rows.now) }
-    ensures { IfOk result (λ orders. orders ≡ orders_of (R.at rows.now) (R.seen rows.now)) }
+    ensures { IfOk result (λ orders. orders ≡ orders_of (R.seen rows.now) (R.at rows.now)) }
 {
     orders_at(alloc, rows, keys)
 }

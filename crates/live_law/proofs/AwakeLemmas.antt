@@ -143,7 +143,7 @@ module _ (c : Config) (m : ℕ) (b : Book) (r : RunRow) where
 
   by_question : (w : Option Range) → Goes m b (plan_asked c b m r w)
   by_question None = closed_goes _
-  by_question (Some w) = by_plan (plan (wanted_tools (find_task b.tasks r.key.task)) r (own_answer c b m r w) m)
+  by_question (Some w) = by_plan (plan m (wanted_tools (find_task b.tasks r.key.task)) r (own_answer c b m r w))
 
 plan_wishes : (c : Config) (m : ℕ) → Wishes m (plan_run c m)
 plan_wishes c m = record { next = λ base b r x is stand. subst (Goes m b) (plan_granted c m b r x is).1 (by_question c m b r r.question) base stand }
@@ -164,7 +164,7 @@ module _ (c : Config) (m : ℕ) (base : List RunRow) (tasks : List TaskRow) wher
     pub sleep : (u : TaskRow) → find_task tasks u.serial ≡ Some u → awake u ≡ false → is_awake self b.rows m u ≡ false
 
   none_asked : (b : Book) (t : TaskRow) → is_awake self b.rows m t ≡ false → ask c m b t ≡ None
-  none_asked b t asleep = elim (is_some (full_denial b.rows (result_bytes b.rows))) as (λ x. cond x None (option_map (asked_change c t) (next_attempt self t b.rows m)) ≡ None) [
+  none_asked b t asleep = elim (is_some (full_denial b.rows (result_bytes b.rows))) as (λ x. cond x None (option_map (asked_change c t) (next_attempt self b.rows m t)) ≡ None) [
     | true ↦ refl
     | false ↦ ap (option_map (asked_change c t)) (none_asleep self m b.rows t asleep)
   ]

@@ -246,7 +246,7 @@ module _ (c : Config) (m : ℕ) (base : List RunRow) where
 
     by_question : (w : Option Range) → Held self m base (apply m (plan_asked c b m r w) b)
     by_question None = closed_held _
-    by_question (Some w) = by_plan (plan (wanted_tools (find_task b.tasks r.key.task)) r (own_answer c b m r w) m)
+    by_question (Some w) = by_plan (plan m (wanted_tools (find_task b.tasks r.key.task)) r (own_answer c b m r w))
 
   plan_keeps : Keeps self m base (plan_run c m)
   plan_keeps = record {

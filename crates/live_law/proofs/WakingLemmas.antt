@@ -90,7 +90,7 @@ none_by : (m : ℕ) (rule : Schedule) (o : Option RunRow) → has_come m (wake_b
 none_by m rule None asleep = none_fresh m rule 0 asleep
 none_by m rule (Some r) asleep = none_after m rule r.key r.confirmed r.closed asleep
 
-pub none_asleep : (self m : ℕ) (rows : List RunRow) (t : TaskRow) → is_awake self rows m t ≡ false → next_attempt self t rows m ≡ None
+pub none_asleep : (self m : ℕ) (rows : List RunRow) (t : TaskRow) → is_awake self rows m t ≡ false → next_attempt self rows m t ≡ None
 none_asleep self m rows t asleep = go (is_some t.closed) asleep
   where
     go : (b : Bool) → has_come m (cond b None (wake_by t.task.rule (newest_row self t.serial rows))) ≡ false → cond b None (attempt_by m t.task.rule (newest_row self t.serial rows)) ≡ None

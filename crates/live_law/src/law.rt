@@ -36,6 +36,6 @@ pub fn law_purging()
 pub fn law_still()
     ensures stands { (self m : ℕ) (r : RunRow) → is_live_by self m r ≡ false → settled_row m r ≡ r }
     ensures opened { (c : Config) (b : Book) (r : RunRow) → is_live c.number r ≡ false → restart_run c b r ≡ None }
-    ensures orders { (self m : ℕ) (rows : List RunRow) → orders_of m (live_rows self rows) ≡ orders_of m rows }
+    ensures orders { (self m : ℕ) (rows : List RunRow) → orders_of (live_rows self rows) m ≡ orders_of rows m }
     ensures due { (self m : ℕ) (rows : List RunRow) → due_pairs (live_rows self rows) m ≡ due_pairs rows m }
 {}

@@ -71,7 +71,7 @@ fn wake_from(rule: &Rule, number: u32) -> Option<Moment>
 
 /// A law: a task that isn't awake at a moment has no next attempt then.
 pub fn law_asleep()
-    ensures { (self m : ℕ) (rows : List RowSeen) (t : TaskSeen) → is_awake self rows m t ≡ false → next_attempt self t rows m ≡ None }
+    ensures { (self m : ℕ) (rows : List RowSeen) (t : TaskSeen) → is_awake self rows m t ≡ false → next_attempt self rows m t ≡ None }
 {}
 
 /// A law: the groups of a turn before the purging may ask about those tasks alone that were awake before it, and before the book

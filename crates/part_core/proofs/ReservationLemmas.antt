@@ -213,19 +213,19 @@ module _ (class : Class) (len : ℕ) (priority : ℤ) (m : ℕ) (rows : List Run
   way_agrees i r None none same = ap (λ b. not b || yields priority m r) none
   way_agrees i r (Some b) way same = ap₂ (λ x y. not x || y) way.1 same
 
-  free_at : (s : ℕ) → is_free_among class len (bookings_of rows) s ≡ is_free class len rows s
+  free_at : (s : ℕ) → is_free_among class len (bookings_of rows) s ≡ is_free rows class len s
   free_at s = all_same (λ r. not (blocks class (span_of s len) r)) (λ b. not (conflicts_with class (span_of s len) b)) (λ r. clear_agrees (span_of s len) r (booking_of r) (against class (span_of s len) r)) rows
 
-  freeable_at : (s : ℕ) → is_freeable_among class len priority m (bookings_of rows) s ≡ is_freeable class len priority m rows s
+  freeable_at : (s : ℕ) → is_freeable_among class len priority m (bookings_of rows) s ≡ is_freeable rows m class len priority s
   freeable_at s =
       all_same (λ r. not (blocks class (span_of s len) r) || yields priority m r) (λ b. not (conflicts_with class (span_of s len) b) || can_preempt priority m b)
       (λ r. way_agrees (span_of s len) r (booking_of r) (against class (span_of s len) r) (yields_with priority m r)) rows
 
   -- the starts at which a run is free, and those that preemption frees
-  pub tiers_found : (w : Range) → free_tiers_among class len priority w m (bookings_of rows) ≡ free_tiers class len priority w m rows
+  pub tiers_found : (w : Range) → free_tiers_among class len priority w m (bookings_of rows) ≡ free_tiers rows m class len priority w
   tiers_found w =
-      ap₂ (λ a b. record { first = a; second = b }) (tier_same (is_free_among class len (bookings_of rows)) (is_free class len rows) w free_at)
-      (tier_same (is_freeable_among class len priority m (bookings_of rows)) (is_freeable class len priority m rows) w freeable_at)
+      ap₂ (λ a b. record { first = a; second = b }) (tier_same (is_free_among class len (bookings_of rows)) (is_free rows class len) w free_at)
+      (tier_same (is_freeable_among class len priority m (bookings_of rows)) (is_freeable rows m class len priority) w freeable_at)
 
 -- ---- moments
 moments_at : (key : RunKey) (rows : List RunRow) (o : Option RunRow) → find_row rows key ≡ o → All HasMoments rows → IfSome o HasMoments

@@ -38,8 +38,8 @@ pub fn answer_free<R: Reading>(
 ) -> Result<FreeAnswer, Memory>
     requires { IsTest question.now.test }
     ensures value { IfOk result (λ a. a ≡ free_answer installed.now (R.seen rows.now) (R.at rows.now) question.now) }
-    ensures free { IfOk result (λ a. IsTier (IsFreeStart (test_class question.now.test) (test_length question.now.test) (R.seen rows.now)) question.now.window a.tiers.first) }
-    ensures freeable { IfOk result (λ a. IsTier (IsFreeableStart (test_class question.now.test) (test_length question.now.test) question.now.priority (R.at rows.now) (R.seen rows.now)) question.now.window a.tiers.second) }
+    ensures free { IfOk result (λ a. IsTier (IsFreeStart (R.seen rows.now) (test_class question.now.test) (test_length question.now.test)) question.now.window a.tiers.first) }
+    ensures freeable { IfOk result (λ a. IsTier (IsFreeableStart (R.seen rows.now) (R.at rows.now) (test_class question.now.test) (test_length question.now.test) question.now.priority) question.now.window a.tiers.second) }
 {
     let tools = tools_for(alloc, &question.test, installed)?;
     let tiers = tiers_of(alloc, rows, question)?;
@@ -48,7 +48,7 @@ pub fn answer_free<R: Reading>(
 
 fn tiers_of<R: Reading>(alloc: Global, rows: &R, question: &Question) -> Result<Tiers, Memory>
     requires { IsTest question.now.test }
-    ensures tiers { IfOk result (λ tiers. tiers ≡ free_tiers (test_class question.now.test) (test_length question.now.test) question.now.priority question.now.window (R.at rows.now) (R.seen rows.now)) }
+    ensures tiers { IfOk result (λ tiers. tiers ≡ free_tiers (R.seen rows.now) (R.at rows.now) (test_class question.now.test) (test_length question.now.test) question.now.priority question.now.window) }
     ensures ascending { IsAscendingRows (R.seen rows.now) }
 {
     rows.free(

@@ -78,7 +78,7 @@ pub trait Reading {
         priority: i16,
         window: Window,
     ) -> Result<Tiers, Memory>
-        ensures tiers { IfOk result (λ tiers. tiers ≡ free_tiers class length priority window (at self.now) (seen self.now)) }
+        ensures tiers { IfOk result (λ tiers. tiers ≡ free_tiers (seen self.now) (at self.now) class length priority window) }
         ensures ascending { IsAscendingRows (seen self.now) };
 
     /// How many rows there are.

@@ -192,11 +192,11 @@ module _ (c : Config) (m : ℕ) where
       goes a = append_purges (each_row (purge_run c m) m a)
           (all_of IsPurge IsPurge (λ ch p. p) m (each_row (purge_run c m) m a) a (rows_along (λ x ch. IsPurge ch) m (purge_run c m) (λ x r ch at e. let g = purge_granted c m x r ch e in subst IsPurge g.1 tt) a))
 
-  turn_last : (b : Book) → PurgesLast (turn_changes c m b)
+  turn_last : (b : Book) → PurgesLast (turn_changes c b m)
   turn_last b = within_last (most_record_bytes - record_bytes []) (take most_changes (due_changes c m b)) (take_last most_changes (due_changes c m b) (due_last b))
 
-  turn_steady : (b : Book) → AllByRecursion IsSteady (turn_changes c m b)
-  turn_steady b = all_of IsSteady IsSteady (λ ch p. p) m (turn_changes c m b) b (turn_along (λ a ch. IsSteady ch) m c
+  turn_steady : (b : Book) → AllByRecursion IsSteady (turn_changes c b m)
+  turn_steady b = all_of IsSteady IsSteady (λ ch p. p) m (turn_changes c b m) b (turn_along (λ a ch. IsSteady ch) m c
       (λ a r ch at e. plain_steady ch (ends a r ch at e)) (λ a r ch at e. plain_steady ch (merges a r ch at e)) (λ a r ch at e. plain_steady ch (starts a r ch at e)) (λ a r ch at e. plain_steady ch (plans a r ch at e))
       (λ a t ch at e. let g = ask_granted c m a t ch e in subst IsSteady g.is tt) (λ a r ch at e. let g = purge_granted c m a r ch e in subst IsSteady g.1 tt) b)
 

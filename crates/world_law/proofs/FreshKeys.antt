@@ -46,7 +46,7 @@ booking_fresh self rows j q e lead task =
 below_attempt : (j k : RunKey) → j.lead ≡ k.lead → j.task ≡ k.task → j.number ≡ k.number → j.attempt < k.attempt → key_cmp j k ≡ Less
 below_attempt j k lead task number low = grind (arith, nat_tests)
 
-pub attempt_fresh : (self : ℕ) (t : TaskRow) (rows : List RunRow) (m : ℕ) (a : Attempt) → IsAscendingRows rows → next_attempt self t rows m ≡ Some a → Fresh rows (attempt_key self t.serial a)
+pub attempt_fresh : (self : ℕ) (t : TaskRow) (rows : List RunRow) (m : ℕ) (a : Attempt) → IsAscendingRows rows → next_attempt self rows m t ≡ Some a → Fresh rows (attempt_key self t.serial a)
 attempt_fresh self t rows m a up next j q e lead task = by_newest (newest_row self t.serial rows) refl (given_else (is_some t.closed) (attempt_by m t.task.rule (newest_row self t.serial rows)) a next).1
   where
     k : RunKey

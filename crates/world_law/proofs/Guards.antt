@@ -217,7 +217,7 @@ module _ (names : ℕ → List ℕ) (c : Config) (config : IsConfig c) (named : 
       (λ a r ch at e can lawful own. let g = purge_granted c m a r ch e in subst (λ x. Allows names c.number m i a x) g.1 (with_row a r.key (λ s. IsTrue (is_purgeable c.number m a.rows s)) r at g.0))
       b
     where
-      asks : (a : Book) (t : TaskRow) (x : Attempt) → find_task a.tasks t.serial ≡ Some t → next_attempt c.number t a.rows m ≡ Some x → Lawful c.number a → t.asker.server ≡ c.name → Allows names c.number m i a (asked_change c t x)
+      asks : (a : Book) (t : TaskRow) (x : Attempt) → find_task a.tasks t.serial ≡ Some t → next_attempt c.number a.rows m t ≡ Some x → Lawful c.number a → t.asker.server ≡ c.name → Allows names c.number m i a (asked_change c t x)
       asks a t x at next lawful own = (
         ap (λ n. participants t.task.test n) named,
         refl,

@@ -192,8 +192,8 @@ module _ (c : Config) (config : IsConfig c) (b : Book) (m : ℕ) (within : m ≤
       record {
         bounds = record {
           tools = all_filter (λ name. is_some (tool_of_text name)) (is_tool_for (test_kind q.test)) c.installed config.tools;
-          first = tier_windows (IsFreeStart (test_class q.test) (test_length q.test) s.rows) q.window (free_answer c.installed s.rows m q).tiers.first tiers.0 window.last;
-          second = tier_windows (IsFreeableStart (test_class q.test) (test_length q.test) q.priority m s.rows) q.window (free_answer c.installed s.rows m q).tiers.second tiers.1 window.last;
+          first = tier_windows (IsFreeStart s.rows (test_class q.test) (test_length q.test)) q.window (free_answer c.installed s.rows m q).tiers.first tiers.0 window.last;
+          second = tier_windows (IsFreeableStart s.rows m (test_class q.test) (test_length q.test) q.priority) q.window (free_answer c.installed s.rows m q).tiers.second tiers.1 window.last;
         };
         different = differ_filter (is_tool_for (test_kind q.test)) c.installed config.different;
         few_first = tiers.0.few;
