@@ -31,13 +31,13 @@ use Rattle.host_model.proofs.NewRows.{CanAccept, CanAsk, SuitsNew}
 use Rattle.host_model.proofs.WalkLemmas.{AllAlong}
 
 -- what gives way to a run that is accepted isn't started
-abbrev pub IsWayFree : List RunRow → Change → Type 0
-IsWayFree rows c = (r : RunRow) → find_row rows r.key ≡ Some r → IfSome (incoming rows c) (λ i. in_conflict i.key i.class i.interval r ≡ true → IsNone r.started)
+abbrev pub IsWayUnstarted : List RunRow → Change → Type 0
+IsWayUnstarted rows c = (r : RunRow) → find_row rows r.key ≡ Some r → IfSome (incoming rows c) (λ i. in_conflict i.key i.class i.interval r ≡ true → IsNone r.started)
 
 -- a run is accepted under limits that were set, or under none, and what gives way to it isn't started
 pub record BringsRun (b : Book) (c : Change) (epoch : ℕ) : Type 0 where
   pub known : epoch ≤ length b.epochs
-  pub way : IsWayFree b.rows c
+  pub way : IsWayUnstarted b.rows c
 
 -- there is a place for one more row
 abbrev pub HasRoom : Book → Type 0
@@ -85,7 +85,7 @@ module _ (self m : ℕ) (b : Book) where
       (brings.0, λ a e. brings.1 a (subst (λ j. slice_get (archives_of b.tasks j) index ≡ Some a) (key_is r.key k own) e))
   own_suits c can brings r at own = tt
 
-  way_suits : (c : Change) → Brings self m b c → IsWayFree b.rows c
+  way_suits : (c : Change) → Brings self m b c → IsWayUnstarted b.rows c
   way_suits (Accepted p participants epoch) brings = brings.2.way
   way_suits (Planned k start tool epoch) brings = brings.2.way
   way_suits c brings = λ r at. tt

@@ -1,8 +1,9 @@
 -- What changes do to a book. Each of its parts changes for itself; only a merging looks at the tasks.
 --
--- Where to read of each change. Three tables have a line for every change: `MayFollow.CanApply` (what has to stand in the
--- book before it), `Effect.change_key` (the row that it is about) and `RecordLength.fields_bytes` (its length in a record).
--- Beside these, and without a file's name in this one:
+-- Where to read of each change. Four tables have a line for every change: `MayFollow.CanApply` (what has to stand in the
+-- book before it), `Effect.change_key` (the row that it is about), `Effect.effect` (what it does to that row) and
+-- `RecordLength.fields_bytes` (its length in a record). What it has to bring, so that a lawful book stays lawful, is told
+-- by `Brings` of `proofs/Brings`. Beside these (a name without a file's is one of this file):
 -- Posted: made by `Post.posted`; the task comes in `tasks_after`.
 -- TaskClosed: made by `Post.close_unless`; the task is closed by `close_task` in `tasks_after`.
 -- Accepted: made by `Propose.decided_outcome` and `Booking.booking_outcome`; its row is `NewRow.accepted_row`, what gives

@@ -21,7 +21,7 @@ use Rattle.host_model.specs.Lawful.{Lawful}
 use Rattle.host_model.specs.LawfulRow.{IsHostRow}
 use Rattle.host_model.specs.MayFollow.{IsNewKey}
 use Rattle.host_model.specs.declared.change.Change.TheVariants.{Accepted, Planned}
-use Rattle.host_model.proofs.Brings.{HasRoom, IsWayFree}
+use Rattle.host_model.proofs.Brings.{HasRoom, IsWayUnstarted}
 use Rattle.host_model.proofs.NewRows.{CanAccept}
 use Rattle.host_model.proofs.Placed.{find_row-key}
 use Rattle.host_model.proofs.RowLemmas.{found_of_all}
@@ -41,7 +41,7 @@ module _ (self other : ℕ) (b : Book) (lawful : Lawful other b) where
     abbrev Way : Type 0
     Way = IsFreeWay (test_class p.test) (wanted_span p) b.rows
 
-    apart : IsNewKey b p.key → Way ↔ IsWayFree b.rows (Accepted p hosts epoch)
+    apart : IsNewKey b p.key → Way ↔ IsWayUnstarted b.rows (Accepted p hosts epoch)
     apart new = way_apart (test_class p.test) (wanted_span p) b.rows lawful.ascending p.key (new_unbooked (find_row b.rows p.key) new)
 
     pub accept_fits : (IsNewKey b p.key × CanAccept self p hosts × HasRoom b × ((epoch ≤ length b.epochs) × Way)) ↔ FitsBook self b (Accepted p hosts epoch)
@@ -74,7 +74,7 @@ module _ (self other : ℕ) (b : Book) (lawful : Lawful other b) where
       key_is : q.key ≡ k
       key_is = find_row-key b.rows k q at
 
-      plan_apart : PlanWay ↔ IsWayFree b.rows (Planned k start tool epoch)
+      plan_apart : PlanWay ↔ IsWayUnstarted b.rows (Planned k start tool epoch)
       plan_apart =
           let both = way_apart (test_class q.test) (planned_span start q) b.rows lawful.ascending k unbooked in (
             λ way r found. subst (λ o. IfSome o (λ i. in_conflict i.key i.class i.interval r ≡ true → IsNone r.started)) (sym (ap (option_map (planned_run start)) at))

@@ -44,7 +44,7 @@ use Rattle.host_model.specs.Preemption.{incoming}
 use Rattle.host_model.specs.declared.change.Change.{Change}
 use Rattle.host_model.specs.declared.change.Change.TheVariants.{Posted, Accepted, Asked, Planned, Closed, Ended, FreeHeard, MaterialHeard, ResultHeard, Merged, Tried, LimitsSet}
 use Rattle.host_model.proofs.AcceptedKeys.{is_accepted, none_accepted}
-use Rattle.host_model.proofs.Brings.{Brings, IsWayFree}
+use Rattle.host_model.proofs.Brings.{Brings, IsWayUnstarted}
 use Rattle.host_model.proofs.Keyed.{key_of, key_same}
 use Rattle.host_model.proofs.KeyedLists.{has, keys_has, length-put}
 use Rattle.host_model.proofs.NewRows.{CanAccept, CanAsk}
@@ -181,7 +181,7 @@ module _ (self : ℕ) (b : Book) (lawful : Lawful self b) where
           lead = host.lead;
         }
 
-    accept_way : IsWayFree b.rows (Accepted p hosts epoch)
+    accept_way : IsWayUnstarted b.rows (Accepted p hosts epoch)
     accept_way r at against = way_free self m m b.tasks b.tasks (Accepted p hosts epoch) b.rows _ refl r at against (same (is_eq (key_cmp r.key p.key))) after.rows
       where
         closed : RunRow
@@ -315,7 +315,7 @@ module _ (self : ℕ) (b : Book) (lawful : Lawful self b) where
     apart : (r : RunRow) → in_conflict q.key (planned_run start q).class (planned_run start q).interval r ≡ true → is_eq (key_cmp r.key k) ≡ false
     apart r against = subst (λ j. is_eq (key_cmp r.key j) ≡ false) (find_row-key b.rows k q at) (not_true (is_eq (key_cmp r.key q.key)) (and_parts (not (is_eq (key_cmp r.key q.key))) (blocks (planned_run start q).class (planned_run start q).interval r) against).0)
 
-    plan_way : IsWayFree b.rows c
+    plan_way : IsWayUnstarted b.rows c
     plan_way r found = subst (λ o. IfSome o (λ i. in_conflict i.key i.class i.interval r ≡ true → IsNone r.started)) (sym comes) (λ against.
         way_free self m m b.tasks b.tasks c b.rows (planned_run start q) comes r found against (ap (λ t. cond t (effect m b.tasks c (closed r)) (closed r)) (apart r against)) after.rows)
 
