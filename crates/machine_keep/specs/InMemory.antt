@@ -17,8 +17,8 @@ use Rattle.machine_keep.specs.Kept.{Kept, StandsExcept, caught}
 use Rattle.machine_keep.specs.declared.machine.Machine as Machine
 
 -- what two disks stand for as they read
-abbrev pub pair_read : DiskState → DiskState → Result Counted DiskPlace
-pair_read first second = pair_of (seen_on first) (seen_on second)
+abbrev pub seen_pair : DiskState → DiskState → Result Counted DiskPlace
+seen_pair first second = pair_of (seen_on first) (seen_on second)
 
 -- a disk that is left before the first of two syncs, in an image, and behind it as it reads
 abbrev pub left_first : ℕ → Image → DiskState → List ℕ
@@ -34,8 +34,8 @@ IfFed new P = (first_disk new).starved ≡ false → (second_disk new).starved �
 
 module _ {M O C R T : Type 0} (machine : Machine.Ghosts M O C R T) where
   -- the state that a call finds
-  abbrev pub state_found : Kept M DiskState T → machine.State
-  state_found keep = caught machine.after (machine.state keep.machine) keep.unsure (has_record keep.journal.pending (stored seen_on keep.journal))
+  abbrev pub found_in_memory : Kept M DiskState T → machine.State
+  found_in_memory keep = caught machine.after (machine.state keep.machine) keep.unsure (has_record keep.journal.pending (stored seen_on keep.journal))
 
   -- what a step that stops leaves of this state
   abbrev pub state_left : machine.State → T → ℕ → Image → machine.State
@@ -55,7 +55,7 @@ module _ {M O C R T : Type 0} (machine : Machine.Ghosts M O C R T) where
   abbrev pub LeavesBehind : Kept M DiskState T → C → ℕ → Image → Result Counted DiskPlace → Type 0
   LeavesBehind keep call stop image pair =
       LeftBehind seen_on machine.stands_for machine.record_of machine.answers machine.follows machine.after
-      (state_found keep) keep.journal call stop image pair
+      (found_in_memory keep) keep.journal call stop image pair
 
   -- what a step leaves that is known
   abbrev pub StopsInStep : Kept M DiskState T → T → ℕ → Image → Result Counted DiskPlace → Type 0

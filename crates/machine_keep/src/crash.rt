@@ -7,7 +7,7 @@ ghost use Rattle.host_journal.specs.Crash.{IsCrashed, is_new};
 ghost use Rattle.host_journal.specs.State.{first_disk, is_ready, second_disk, stored};
 ghost use Rattle.machine_keep.specs.Kept.{StandsFor};
 ghost use Rattle.machine_keep.specs.Faulted.{seen_on};
-ghost use Rattle.machine_keep.specs.InMemory.{LeavesBehind, LeavesExactly, LeavesStep, StopsBehindStep, StopsInStep, left_first, pair_read, state_found, state_left};
+ghost use Rattle.machine_keep.specs.InMemory.{LeavesBehind, LeavesExactly, LeavesStep, StopsBehindStep, StopsInStep, found_in_memory, left_first, seen_pair, state_left};
 
 use crate::keep::Keep;
 use crate::machine::{Decided, Machine};
@@ -35,9 +35,9 @@ impl<M: Machine + Drop> Keep<M, MemoryDisk> {
         requires may { M.may_ask (M.fixed (M.state self.machine)) call }
         requires ready { IsTrue (is_ready self.journal.pending) }
         // The step that the call would have made is kept exactly so.
-        ensures kept { IfOk result (λ disks. LeavesStep M.Machine (M.state self.machine) call stop image (pair_read disks.0 disks.1)) }
+        ensures kept { IfOk result (λ disks. LeavesStep M.Machine (M.state self.machine) call stop image (seen_pair disks.0 disks.1)) }
         // And of that step, which list it is that the disks stand for, and on which of them.
-        ensures left { IfOk result (λ disks. LeavesExactly M.Machine self call stop image (pair_read disks.0 disks.1)) }
+        ensures left { IfOk result (λ disks. LeavesExactly M.Machine self call stop image (seen_pair disks.0 disks.1)) }
         ensures no_fault { IfOk result (λ disks. IsArmed disks.0 0 × IsArmed disks.1 0) }
         // A later crash leaves what they read.
         ensures first { IfOk result (λ disks. Only (⟦<MemoryDisk as Disk>⟧.seen disks.0) (⟦<MemoryDisk as Disk>⟧.may_leave disks.0)) }
@@ -68,10 +68,11 @@ impl<M: Machine + Drop> Keep<M, MemoryDisk> {
         ensures one { stop ≤ 2 → IfOk result (λ disks. bytes_now disks.0.history ≡ left_first stop image (first_disk self.journal)) }
         ensures two { stop ≤ 2 → IfOk result (λ disks. bytes_now disks.1.history ≡ image_bytes image (second_disk self.journal).history) }
         // The image that keeps what no sync made sure of is what they read.
-        ensures reads { stop ≤ 2 → is_new image ≡ true → IfOk result (λ disks. pair_read disks.0 disks.1 ≡ stored seen_on self.journal) }
+        ensures reads { stop ≤ 2 → is_new image ≡ true → IfOk result (λ disks. seen_pair disks.0 disks.1 ≡ stored seen_on self.journal) }
         // Behind both the step is kept exactly so.
-        ensures kept { 2 < stop → IfOk result (λ disks. LeavesStep M.Machine (state_found M.Machine self) call (stop - 2) image (pair_read disks.0 disks.1)) }
-        ensures left { 2 < stop → IfOk result (λ disks. LeavesBehind M.Machine self call (stop - 2) image (pair_read disks.0 disks.1)) }
+        ensures kept { 2 < stop → IfOk result (λ disks.
+            LeavesStep M.Machine (found_in_memory M.Machine self) call (stop - 2) image (seen_pair disks.0 disks.1)) }
+        ensures left { 2 < stop → IfOk result (λ disks. LeavesBehind M.Machine self call (stop - 2) image (seen_pair disks.0 disks.1)) }
         ensures no_fault { IfOk result (λ disks. IsArmed disks.0 0 × IsArmed disks.1 0) }
         ensures first { IfOk result (λ disks. Only (⟦<MemoryDisk as Disk>⟧.seen disks.0) (⟦<MemoryDisk as Disk>⟧.may_leave disks.0)) }
         ensures second { IfOk result (λ disks. Only (⟦<MemoryDisk as Disk>⟧.seen disks.1) (⟦<MemoryDisk as Disk>⟧.may_leave disks.1)) }
@@ -92,7 +93,7 @@ impl<M: Machine + Drop> Keep<M, MemoryDisk> {
     fn crash_in_syncs(self, stop: u64, image: Image) -> Result<(MemoryDisk, MemoryDisk), Memory>
         ensures one { IfOk result (λ disks. bytes_now disks.0.history ≡ left_first stop image (first_disk self.journal)) }
         ensures two { IfOk result (λ disks. bytes_now disks.1.history ≡ image_bytes image (second_disk self.journal).history) }
-        ensures reads { is_new image ≡ true → IfOk result (λ disks. pair_read disks.0 disks.1 ≡ stored seen_on self.journal) }
+        ensures reads { is_new image ≡ true → IfOk result (λ disks. seen_pair disks.0 disks.1 ≡ stored seen_on self.journal) }
         ensures first { IfOk result (λ disks. IsCrashed disks.0) }
         ensures second { IfOk result (λ disks. IsCrashed disks.1) }
     {
@@ -105,8 +106,8 @@ impl<M: Machine + Drop> Keep<M, MemoryDisk> {
     // A step without changes makes no call.
     fn crash_at_rest(self, image: Image) -> Result<(MemoryDisk, MemoryDisk), Memory>
         requires ready { IsTrue (is_ready self.journal.pending) }
-        ensures stands { IfOk result (λ disks. StandsFor M.stands_for (M.state self.machine) (pair_read disks.0 disks.1)) }
-        ensures left { IfOk result (λ disks. pair_read disks.0 disks.1 ≡ stored seen_on self.journal) }
+        ensures stands { IfOk result (λ disks. StandsFor M.stands_for (M.state self.machine) (seen_pair disks.0 disks.1)) }
+        ensures left { IfOk result (λ disks. seen_pair disks.0 disks.1 ≡ stored seen_on self.journal) }
         ensures first { IfOk result (λ disks. IsCrashed disks.0) }
         ensures second { IfOk result (λ disks. IsCrashed disks.1) }
     {
@@ -129,8 +130,8 @@ impl<M: Machine + Drop> Keep<M, MemoryDisk> {
         requires follows { M.follows (M.state self.machine) step }
         requires has_room { M.has_room self.machine step }
         requires short { length (M.record_of step) ≤ 8388608 }
-        ensures kept { IfOk result (λ disks. StandsFor M.stands_for (state_left M.Machine (M.state self.machine) step stop image) (pair_read disks.0 disks.1)) }
-        ensures left { IfOk result (λ disks. StopsInStep M.Machine self step stop image (pair_read disks.0 disks.1)) }
+        ensures kept { IfOk result (λ disks. StandsFor M.stands_for (state_left M.Machine (M.state self.machine) step stop image) (seen_pair disks.0 disks.1)) }
+        ensures left { IfOk result (λ disks. StopsInStep M.Machine self step stop image (seen_pair disks.0 disks.1)) }
         ensures first { IfOk result (λ disks. IsCrashed disks.0) }
         ensures second { IfOk result (λ disks. IsCrashed disks.1) }
     {
@@ -156,8 +157,8 @@ impl<M: Machine + Drop> Keep<M, MemoryDisk> {
         image: Image,
     ) -> Result<(MemoryDisk, MemoryDisk), Memory>
         requires ready { IsTrue (is_ready self.journal.pending) }
-        ensures stands { IfOk result (λ disks. StandsFor M.stands_for (M.state self.machine) (pair_read disks.0 disks.1)) }
-        ensures left { IfOk result (λ disks. StopsBehindStep M.Machine self stop image (pair_read disks.0 disks.1)) }
+        ensures stands { IfOk result (λ disks. StandsFor M.stands_for (M.state self.machine) (seen_pair disks.0 disks.1)) }
+        ensures left { IfOk result (λ disks. StopsBehindStep M.Machine self stop image (seen_pair disks.0 disks.1)) }
         ensures first { IfOk result (λ disks. IsCrashed disks.0) }
         ensures second { IfOk result (λ disks. IsCrashed disks.1) }
     {

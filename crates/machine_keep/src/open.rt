@@ -48,7 +48,7 @@ impl<M: Machine + Drop, D: Disk> Keep<M, D> {
         ensures refused_second { D.premise → IfErr result (λ f. (f.reason ≡ OpenReason.DiskFault → ⊥) → OnlyRead D.Disk second f.second) }
         // Only where the disks stand for no state of that origin.
         ensures nothing { D.premise → IfErr result (λ f. IfNotAJournal f.reason
-            (λ place. StandsForNone M.Machine (M.fixed_of origin) (read_pair D.Disk first second))) }
+            (λ _. StandsForNone M.Machine (M.fixed_of origin) (read_pair D.Disk first second))) }
         // At the place where they are no journal, or else of the first item that is refused.
         ensures place { D.premise → IfErr result (λ f. IfNotAJournal f.reason (IsRefusedOf M.Machine (M.fixed_of origin) (read_pair D.Disk first second))) }
         ensures fault { IfErr result (λ f. f.reason ≡ OpenReason.DiskFault → FaultRoseOn D.Disk first second f.first f.second) }
@@ -90,7 +90,7 @@ impl<M: Machine + Drop, D: Disk> Keep<M, D> {
         ensures refused { IfErr result (λ f. (f.reason ≡ OpenReason.DiskFault → ⊥) → AreDisksOf journal f.first f.second) }
         ensures left { D.premise → IfErr result (λ f. AreDisksOf journal f.first f.second ⊎ Migrates M.Machine D.Disk journal f.first f.second) }
         ensures nothing { D.premise → IfErr result (λ f. IfNotAJournal f.reason
-            (λ place. StandsForNone M.Machine (M.fixed_of origin) (stored D.seen journal))) }
+            (λ _. StandsForNone M.Machine (M.fixed_of origin) (stored D.seen journal))) }
         ensures place { D.premise → IfErr result (λ f. IfNotAJournal f.reason (IsRefusedOf M.Machine (M.fixed_of origin) (stored D.seen journal))) }
         ensures fault { IfErr result (λ f. f.reason ≡ OpenReason.DiskFault → FaultRoseOn D.Disk (first_disk journal) (second_disk journal) f.first f.second) }
         ensures no_fault { IfOk result (λ keep. NoFault D.Disk journal keep.journal) }

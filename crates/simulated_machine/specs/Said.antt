@@ -4,7 +4,7 @@ use Rattle.ps_disks.specs.MemoryDisk.{DiskState}
 use Rattle.ps_disks.specs.declared.image.Image.{Image}
 use Rattle.host_journal.specs.declared.reading.Counted.{Counted}
 use Rattle.host_journal.specs.declared.reading.DiskPlace.{DiskPlace}
-use Rattle.machine_keep.specs.InMemory.{pair_read}
+use Rattle.machine_keep.specs.InMemory.{seen_pair}
 use Rattle.machine_keep.specs.Kept.{Kept, StandsFor}
 use Rattle.machine_keep.specs.declared.machine.Machine as Machine
 use Rattle.simulated_machine.specs.AfterStep.{Broken, Done, SyncFailed}
@@ -55,7 +55,7 @@ module _ {M O C R T : Type 0} (machine : Machine.Ghosts M O C R T) where
   -- ---- of an opening
   -- where the disks lie: as they did, or, where their list was in the earlier form, with a snapshot alone on the other disk
   abbrev pub LiesByForm : SimulatedState M T → DiskState → DiskState → Type 0
-  LiesByForm s first second = (read : Counted) × (pair_read first second ≡ Ok read)
-      × ((StandsFor machine.stands_for (held_by s).state (pair_read first second) × ((held_by s).place ≡ place_at read))
-      ⊎ (StandsFor machine.stood_for (held_by s).state (pair_read first second)
+  LiesByForm s first second = (read : Counted) × (seen_pair first second ≡ Ok read)
+      × ((StandsFor machine.stands_for (held_by s).state (seen_pair first second) × ((held_by s).place ≡ place_at read))
+      ⊎ (StandsFor machine.stood_for (held_by s).state (seen_pair first second)
       × ((image : List ℕ) × machine.stands_for (image ∷ []) (held_by s).state × ((held_by s).place ≡ with_snapshot (place_at read) (length image)))))

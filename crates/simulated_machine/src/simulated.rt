@@ -11,7 +11,7 @@ ghost use Rattle.simulated_machine.specs.AfterStep.{SyncFailed, unsynced_disk_br
 ghost use Rattle.simulated_machine.specs.declared.simulated.Stepped.TheVariants.{Answered, Faulted};
 ghost use Rattle.machine_keep.specs.Began.{IfNotAJournal, IsRefusedOf, StandsForNone, StandsInEither};
 ghost use Rattle.machine_keep.specs.BothDisks.{FaultRoseOn};
-ghost use Rattle.machine_keep.specs.InMemory.{pair_read};
+ghost use Rattle.machine_keep.specs.InMemory.{seen_pair};
 ghost use Rattle.simulated_machine.specs.Said.{HoldsDone, HoldsFaulted, LiesByForm, StandsUnsynced, StepBroken, StepDone, StopsBehindSyncs, held_by};
 
 use crate::law::{law_broken, law_done, law_sync_failed};
@@ -131,11 +131,11 @@ impl<M: Machine + Drop> SimulatedMachine<M> {
     ) -> Result<SimulatedMachine<M>, OpenFault<MemoryDisk>>
         requires armed { IsArmed first 0 × IsArmed second 0 }
         requires faults { (first.faults ≡ 0) × (second.faults ≡ 0) }
-        ensures stands { IfOk result (λ simulated. StandsInEither M.Machine (held_by M.Machine simulated).state (pair_read first second)) }
+        ensures stands { IfOk result (λ simulated. StandsInEither M.Machine (held_by M.Machine simulated).state (seen_pair first second)) }
         ensures fixed { IfOk result (λ simulated. M.fixed (held_by M.Machine simulated).state ≡ M.fixed_of origin) }
         // No journal of that origin, in the words of `Keep::open`, and a fault only where a count of the disks rose.
-        ensures nothing { IfErr result (λ f. IfNotAJournal f.reason (λ at. StandsForNone M.Machine (M.fixed_of origin) (pair_read first second))) }
-        ensures refused { IfErr result (λ f. IfNotAJournal f.reason (IsRefusedOf M.Machine (M.fixed_of origin) (pair_read first second))) }
+        ensures nothing { IfErr result (λ f. IfNotAJournal f.reason (λ _. StandsForNone M.Machine (M.fixed_of origin) (seen_pair first second))) }
+        ensures refused { IfErr result (λ f. IfNotAJournal f.reason (IsRefusedOf M.Machine (M.fixed_of origin) (seen_pair first second))) }
         ensures fault { IfErr result (λ f. f.reason ≡ OpenReason.DiskFault → FaultRoseOn ⟦<MemoryDisk as Disk>⟧ first second f.first f.second) }
         // Where they lie: as they did, or, where their list was in the earlier form, with a snapshot alone on the other disk.
         ensures place { IfOk result (λ simulated. LiesByForm M.Machine simulated first second) }
@@ -195,9 +195,9 @@ impl<M: Machine + Drop> SimulatedMachine<M> {
         requires { M.may_ask (M.fixed (held_by M.Machine self).state) call }
         // At a sync of a step that follows a fault.
         ensures sync_failed { (held_by M.Machine self).ready ≡ false → stop ≤ 2 → IfOk result (λ disks.
-            StandsUnsynced M.Machine self stop image (pair_read disks.0 disks.1)) }
+            StandsUnsynced M.Machine self stop image (seen_pair disks.0 disks.1)) }
         ensures stops { ((held_by M.Machine self).ready ≡ false → 2 < stop) → IfOk result (λ disks.
-            StopsBehindSyncs M.Machine self call stop image (pair_read disks.0 disks.1)) }
+            StopsBehindSyncs M.Machine self call stop image (seen_pair disks.0 disks.1)) }
         // No call of them is to fail, and a later crash leaves what they read.
         ensures no_fault { IfOk result (λ disks. IsArmed disks.0 0 × IsArmed disks.1 0) }
         ensures first { IfOk result (λ disks. Only (⟦<MemoryDisk as Disk>⟧.seen disks.0) (⟦<MemoryDisk as Disk>⟧.may_leave disks.0)) }
@@ -218,7 +218,7 @@ impl<M: Machine + Drop> SimulatedMachine<M> {
 
     /// Hands the disks back as a crash between two steps leaves them. `Memory` also stands for a disk for whose bytes there was none.
     pub fn crash_now(self, image: Image) -> Result<(MemoryDisk, MemoryDisk), Memory>
-        ensures left { IfOk result (λ disks. StandsUnsynced M.Machine self 0 image (pair_read disks.0 disks.1)) }
+        ensures left { IfOk result (λ disks. StandsUnsynced M.Machine self 0 image (seen_pair disks.0 disks.1)) }
         // No call of them is to fail, and a later crash leaves what they read.
         ensures no_fault { IfOk result (λ disks. IsArmed disks.0 0 × IsArmed disks.1 0) }
         ensures first { IfOk result (λ disks. Only (⟦<MemoryDisk as Disk>⟧.seen disks.0) (⟦<MemoryDisk as Disk>⟧.may_leave disks.0)) }
@@ -237,7 +237,7 @@ impl<M: Machine + Drop> SimulatedMachine<M> {
     /// Hands the disks back, which stand as they read for the state that is held. `Memory`, where memory ever ran out.
     pub fn into_disks(self) -> Result<(MemoryDisk, MemoryDisk), Memory>
         ensures stands { IfOk result (λ disks. StandsAt M.stands_for (held_by M.Machine self).state (held_by M.Machine self).place
-            (pair_read disks.0 disks.1)) }
+            (seen_pair disks.0 disks.1)) }
         ensures first { IfOk result (λ disks. disks.0 ≡ first_disk self.keep.journal) }
         ensures second { IfOk result (λ disks. disks.1 ≡ second_disk self.keep.journal) }
     {
