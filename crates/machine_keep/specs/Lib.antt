@@ -1,9 +1,13 @@
 pub mod Armed
+pub mod Began
+pub mod BothDisks
 pub mod Calls
 pub mod Course
 pub mod Crash
+pub mod Ends
 pub mod FaultLeft
 pub mod Faulted
+pub mod InMemory
 pub mod Kept
 pub mod Opening
 pub mod Refusal

@@ -1,13 +1,13 @@
 //! A step that a crash stops, over disks in memory.
-ghost use Rattle.std.specs.Prelude.{◌≡◌, ◌+◌, ◌-◌, ◌≤◌, ◌<◌, ℕ, IfOk, IsTrue, List, Option, Some, false, true, if◌then◌else◌, length, nat_lt};
+ghost use Rattle.std.specs.Prelude.{◌≡◌, ◌+◌, ◌-◌, ◌≤◌, ◌<◌, IfOk, IsTrue, Some, false, true, if◌then◌else◌, length};
 ghost use Rattle.ps_disks.specs.Disk.{AreBounded, Only};
 ghost use Rattle.ps_disks.specs.History.{bytes_now, image_bytes};
 ghost use Rattle.ps_disks.specs.Run.{IsArmed};
 ghost use Rattle.host_journal.specs.Crash.{IsCrashed, is_new};
-ghost use Rattle.host_journal.specs.Pair.{pair_of};
-ghost use Rattle.host_journal.specs.State.{first_disk, has_record, is_ready, second_disk, stored};
-ghost use Rattle.machine_keep.specs.Crash.{IsSnapshotBehind, IsSnapshotFor, LeftBehind, LeftExactly, LeftOfStep, keeps_step, left_of_snapshot, left_of_step};
-ghost use Rattle.machine_keep.specs.Kept.{StandsFor, after_step, caught, is_many};
+ghost use Rattle.host_journal.specs.State.{first_disk, is_ready, second_disk, stored};
+ghost use Rattle.machine_keep.specs.Kept.{StandsFor};
+ghost use Rattle.machine_keep.specs.Faulted.{seen_on};
+ghost use Rattle.machine_keep.specs.InMemory.{LeavesBehind, LeavesExactly, LeavesStep, StopsBehindStep, StopsInStep, found_in_memory, left_first, seen_pair, state_left};
 
 use crate::keep::Keep;
 use crate::machine::{Decided, Machine};
@@ -35,11 +35,9 @@ impl<M: Machine + Drop> Keep<M, MemoryDisk> {
         requires may { M.may_ask (M.fixed (M.state self.machine)) call }
         requires ready { IsTrue (is_ready self.journal.pending) }
         // The step that the call would have made is kept exactly so.
-        ensures kept { IfOk result (λ disks. (reply : M.Reply) × (step : Option M.Step) × M.answers (M.state self.machine) call reply step
-            × StandsFor M.stands_for (if keeps_step stop image then after_step M.after (M.state self.machine) step else M.state self.machine) (pair_of (⟦<MemoryDisk as Disk>⟧.seen disks.0) (⟦<MemoryDisk as Disk>⟧.seen disks.1))) }
+        ensures kept { IfOk result (λ disks. LeavesStep M.Machine (M.state self.machine) call stop image (seen_pair disks.0 disks.1)) }
         // And of that step, which list it is that the disks stand for, and on which of them.
-        ensures left { IfOk result (λ disks. LeftExactly ⟦<MemoryDisk as Disk>⟧.seen M.stands_for M.record_of M.answers M.follows M.after (M.state self.machine) self.journal call stop image
-            (pair_of (⟦<MemoryDisk as Disk>⟧.seen disks.0) (⟦<MemoryDisk as Disk>⟧.seen disks.1))) }
+        ensures left { IfOk result (λ disks. LeavesExactly M.Machine self call stop image (seen_pair disks.0 disks.1)) }
         ensures no_fault { IfOk result (λ disks. IsArmed disks.0 0 × IsArmed disks.1 0) }
         // A later crash leaves what they read.
         ensures first { IfOk result (λ disks. Only (⟦<MemoryDisk as Disk>⟧.seen disks.0) (⟦<MemoryDisk as Disk>⟧.may_leave disks.0)) }
@@ -67,15 +65,14 @@ impl<M: Machine + Drop> Keep<M, MemoryDisk> {
         requires may { M.may_ask (M.fixed (M.state self.machine)) call }
         requires failed { is_ready self.journal.pending ≡ false }
         // Before its sync a disk is left in the image, and behind it as it reads.
-        ensures one { stop ≤ 2 → IfOk result (λ disks. bytes_now disks.0.history ≡ (if nat_lt 1 stop then bytes_now (first_disk self.journal).history else image_bytes image (first_disk self.journal).history)) }
+        ensures one { stop ≤ 2 → IfOk result (λ disks. bytes_now disks.0.history ≡ left_first stop image (first_disk self.journal)) }
         ensures two { stop ≤ 2 → IfOk result (λ disks. bytes_now disks.1.history ≡ image_bytes image (second_disk self.journal).history) }
         // The image that keeps what no sync made sure of is what they read.
-        ensures reads { stop ≤ 2 → is_new image ≡ true → IfOk result (λ disks. pair_of (⟦<MemoryDisk as Disk>⟧.seen disks.0) (⟦<MemoryDisk as Disk>⟧.seen disks.1) ≡ stored ⟦<MemoryDisk as Disk>⟧.seen self.journal) }
+        ensures reads { stop ≤ 2 → is_new image ≡ true → IfOk result (λ disks. seen_pair disks.0 disks.1 ≡ stored seen_on self.journal) }
         // Behind both the step is kept exactly so.
-        ensures kept { 2 < stop → IfOk result (λ disks. LeftOfStep M.stands_for M.answers M.after (caught M.after (M.state self.machine) self.unsure (has_record self.journal.pending (stored ⟦<MemoryDisk as Disk>⟧.seen self.journal))) call (stop - 2) image
-            (pair_of (⟦<MemoryDisk as Disk>⟧.seen disks.0) (⟦<MemoryDisk as Disk>⟧.seen disks.1))) }
-        ensures left { 2 < stop → IfOk result (λ disks. LeftBehind ⟦<MemoryDisk as Disk>⟧.seen M.stands_for M.record_of M.answers M.follows M.after (caught M.after (M.state self.machine) self.unsure (has_record self.journal.pending (stored ⟦<MemoryDisk as Disk>⟧.seen self.journal))) self.journal call (stop - 2) image
-            (pair_of (⟦<MemoryDisk as Disk>⟧.seen disks.0) (⟦<MemoryDisk as Disk>⟧.seen disks.1))) }
+        ensures kept { 2 < stop → IfOk result (λ disks.
+            LeavesStep M.Machine (found_in_memory M.Machine self) call (stop - 2) image (seen_pair disks.0 disks.1)) }
+        ensures left { 2 < stop → IfOk result (λ disks. LeavesBehind M.Machine self call (stop - 2) image (seen_pair disks.0 disks.1)) }
         ensures no_fault { IfOk result (λ disks. IsArmed disks.0 0 × IsArmed disks.1 0) }
         ensures first { IfOk result (λ disks. Only (⟦<MemoryDisk as Disk>⟧.seen disks.0) (⟦<MemoryDisk as Disk>⟧.may_leave disks.0)) }
         ensures second { IfOk result (λ disks. Only (⟦<MemoryDisk as Disk>⟧.seen disks.1) (⟦<MemoryDisk as Disk>⟧.may_leave disks.1)) }
@@ -94,9 +91,9 @@ impl<M: Machine + Drop> Keep<M, MemoryDisk> {
 
     // Before the syncs, or behind the first one.
     fn crash_in_syncs(self, stop: u64, image: Image) -> Result<(MemoryDisk, MemoryDisk), Memory>
-        ensures one { IfOk result (λ disks. bytes_now disks.0.history ≡ (if nat_lt 1 stop then bytes_now (first_disk self.journal).history else image_bytes image (first_disk self.journal).history)) }
+        ensures one { IfOk result (λ disks. bytes_now disks.0.history ≡ left_first stop image (first_disk self.journal)) }
         ensures two { IfOk result (λ disks. bytes_now disks.1.history ≡ image_bytes image (second_disk self.journal).history) }
-        ensures reads { is_new image ≡ true → IfOk result (λ disks. pair_of (bytes_now disks.0.history) (bytes_now disks.1.history) ≡ stored ⟦<MemoryDisk as Disk>⟧.seen self.journal) }
+        ensures reads { is_new image ≡ true → IfOk result (λ disks. seen_pair disks.0 disks.1 ≡ stored seen_on self.journal) }
         ensures first { IfOk result (λ disks. IsCrashed disks.0) }
         ensures second { IfOk result (λ disks. IsCrashed disks.1) }
     {
@@ -109,8 +106,8 @@ impl<M: Machine + Drop> Keep<M, MemoryDisk> {
     // A step without changes makes no call.
     fn crash_at_rest(self, image: Image) -> Result<(MemoryDisk, MemoryDisk), Memory>
         requires ready { IsTrue (is_ready self.journal.pending) }
-        ensures stands { IfOk result (λ disks. StandsFor M.stands_for (M.state self.machine) (pair_of (bytes_now disks.0.history) (bytes_now disks.1.history))) }
-        ensures left { IfOk result (λ disks. pair_of (bytes_now disks.0.history) (bytes_now disks.1.history) ≡ stored ⟦<MemoryDisk as Disk>⟧.seen self.journal) }
+        ensures stands { IfOk result (λ disks. StandsFor M.stands_for (M.state self.machine) (seen_pair disks.0 disks.1)) }
+        ensures left { IfOk result (λ disks. seen_pair disks.0 disks.1 ≡ stored seen_on self.journal) }
         ensures first { IfOk result (λ disks. IsCrashed disks.0) }
         ensures second { IfOk result (λ disks. IsCrashed disks.1) }
     {
@@ -133,9 +130,8 @@ impl<M: Machine + Drop> Keep<M, MemoryDisk> {
         requires follows { M.follows (M.state self.machine) step }
         requires has_room { M.has_room self.machine step }
         requires short { length (M.record_of step) ≤ 8388608 }
-        ensures kept { IfOk result (λ disks. StandsFor M.stands_for (if keeps_step stop image then M.after (M.state self.machine) step else M.state self.machine) (pair_of (bytes_now disks.0.history) (bytes_now disks.1.history))) }
-        ensures left { IfOk result (λ disks. (snapshot : Option (List ℕ)) × (4 < stop → IsSnapshotBehind M.stands_for (M.after (M.state self.machine) step) self.journal (Some (M.record_of step)) snapshot)
-            × (pair_of (bytes_now disks.0.history) (bytes_now disks.1.history) ≡ left_of_step ⟦<MemoryDisk as Disk>⟧.seen self.journal (Some (M.record_of step)) snapshot stop image)) }
+        ensures kept { IfOk result (λ disks. StandsFor M.stands_for (state_left M.Machine (M.state self.machine) step stop image) (seen_pair disks.0 disks.1)) }
+        ensures left { IfOk result (λ disks. StopsInStep M.Machine self step stop image (seen_pair disks.0 disks.1)) }
         ensures first { IfOk result (λ disks. IsCrashed disks.0) }
         ensures second { IfOk result (λ disks. IsCrashed disks.1) }
     {
@@ -161,9 +157,8 @@ impl<M: Machine + Drop> Keep<M, MemoryDisk> {
         image: Image,
     ) -> Result<(MemoryDisk, MemoryDisk), Memory>
         requires ready { IsTrue (is_ready self.journal.pending) }
-        ensures stands { IfOk result (λ disks. StandsFor M.stands_for (M.state self.machine) (pair_of (bytes_now disks.0.history) (bytes_now disks.1.history))) }
-        ensures left { IfOk result (λ disks. (snapshot : Option (List ℕ)) × IsSnapshotFor M.stands_for (M.state self.machine) self.journal.generation (is_many (self.journal.end - self.journal.start) (self.journal.start - 21)) snapshot
-            × (pair_of (bytes_now disks.0.history) (bytes_now disks.1.history) ≡ left_of_snapshot ⟦<MemoryDisk as Disk>⟧.seen self.journal snapshot stop image)) }
+        ensures stands { IfOk result (λ disks. StandsFor M.stands_for (M.state self.machine) (seen_pair disks.0 disks.1)) }
+        ensures left { IfOk result (λ disks. StopsBehindStep M.Machine self stop image (seen_pair disks.0 disks.1)) }
         ensures first { IfOk result (λ disks. IsCrashed disks.0) }
         ensures second { IfOk result (λ disks. IsCrashed disks.1) }
     {

@@ -1,16 +1,12 @@
 //! A machine that is kept.
-ghost use Rattle.std.specs.Prelude.{◌||◌, ◌≡◌, ◌⊎◌, ◌+◌, ◌-◌, ◌≤◌, ℕ, Bool, List, Option, Some, None, Err, IsSome, IsTrue, IfOk, IfSome, OnOk, OnErr, false, length, true};
+ghost use Rattle.std.specs.Prelude.{◌||◌, ◌≡◌, ◌⊎◌, ◌+◌, ◌-◌, ◌≤◌, Option, Some, None, Err, IsSome, IsTrue, IfOk, IfSome, OnOk, OnErr, false, length};
 ghost use Rattle.ps_disks.specs.MemoryDisk.{armed, armed_number};
-ghost use Rattle.ps_ports.specs.Causes.{Rose};
-ghost use Rattle.host_journal.specs.Calls.{IsRead};
-ghost use Rattle.host_journal.specs.Moments.{Adds, LeftIn, Shows};
-ghost use Rattle.host_journal.specs.Pair.{pair_of};
-ghost use Rattle.host_journal.specs.State.{append_calls, is_ready, stored, has_record, which, with_record, EachImage, EachSince, IsAt, IsSound, KeepsPlace, SameButRoom, WentOn, first_disk, second_disk};
-ghost use Rattle.machine_keep.specs.Calls.{TellsIn, TellsSomeIn, all_on, image_calls, record_calls, sync_calls};
-ghost use Rattle.machine_keep.specs.Course.{Answered, Breaks, IsFound, IsShortened, IsSnapshotOf, Keeps, Unfound, Unkept, OutOfMemory};
-ghost use Rattle.machine_keep.specs.Faulted.{Broken, Unsettled};
-ghost use Rattle.machine_keep.specs.Kept.{IsLogBounded, IsMade, IsStepMade, Snapped, StandsAround, StandsExcept, StandsFor, after_step, caught, is_many};
+ghost use Rattle.host_journal.specs.State.{append_calls, is_ready, stored, which, with_record, IsAt, IsSound, KeepsPlace, WentOn, first_disk, second_disk};
+ghost use Rattle.machine_keep.specs.Calls.{TellsIn, all_on, record_calls, sync_calls};
+ghost use Rattle.machine_keep.specs.Kept.{StandsExcept, StandsFor, after_step, caught};
 ghost use Rattle.machine_keep.specs.declared.fault.StepFault.TheVariants.{Disk as disk_fault, Memory as no_memory};
+ghost use Rattle.machine_keep.specs.BothDisks.{AddsRecord, FaultRose, FaultsAdvance, LeavesOnlyStored, NoFault, OnlyRead, ReadAsBefore, StandsWhere, StopsIn};
+ghost use Rattle.machine_keep.specs.Ends.{AddsAsked, AddsDecided, AddsSnapshot, AddsStep, AnswersFrom, BreaksStep, EndsAnswered, EndsBroken, EndsOutOfMemory, EndsUnfound, EndsUnkept, EndsUnsettled, FindsOut, IsBoundedOrPutOff, IsDurable, IsInFound, KeepsAll, KeepsFound, KeepsStep, Recovers, ShortensLog, DisksStand, StandsButUnsure, StandsThroughCall, StandsThroughDecided, StandsThroughStep, StopsShortening, Unmoved, UnsureStandsWhere, found_state, has_many};
 
 use crate::fault::StepFault;
 use crate::machine::{Decided, Machine};
@@ -143,13 +139,13 @@ impl<M: Machine, D: Disk> Keep<M, D> {
     /// What is known of a kept machine, and what more of one whose last call met no fault. Does nothing.
     pub fn known(&self)
         // The disks stand for its state; after a fault, but for a step that is unsure.
-        ensures except_unsure { D.premise → StandsExcept M.stands_for M.record_of (M.state self.now.machine) self.now.journal.pending (stored D.seen self.now.journal) self.now.unsure }
+        ensures except_unsure { D.premise → StandsButUnsure M.Machine D.Disk self.now }
         ensures order { self.now.journal.start ≤ self.now.journal.end }
         ensures sure { IsTrue (is_ready self.now.journal.pending) → self.now.unsure ≡ None }
-        ensures stands { D.premise → IsTrue (is_ready self.now.journal.pending) → StandsFor M.stands_for (M.state self.now.machine) (stored D.seen self.now.journal) }
-        ensures durable { D.premise → IsTrue (is_ready self.now.journal.pending) → EachImage D.may_leave self.now.journal (StandsFor M.stands_for (M.state self.now.machine)) }
+        ensures stands { D.premise → IsTrue (is_ready self.now.journal.pending) → DisksStand M.Machine D.Disk self.now }
+        ensures durable { D.premise → IsTrue (is_ready self.now.journal.pending) → IsDurable M.Machine D.Disk self.now }
         ensures place { D.premise → IsTrue (is_ready self.now.journal.pending) → IsAt self.now.journal (stored D.seen self.now.journal) }
-        ensures each { D.premise → IsTrue (is_ready self.now.journal.pending) → EachImage D.may_leave self.now.journal (λ pair. pair ≡ stored D.seen self.now.journal) }
+        ensures each { D.premise → IsTrue (is_ready self.now.journal.pending) → LeavesOnlyStored D.Disk self.now.journal }
         ensures sound { D.premise → IsSound D.seen D.may_leave self.now.journal }
     {
         self.journal.known();
@@ -159,44 +155,33 @@ impl<M: Machine, D: Disk> Keep<M, D> {
     pub fn apply(&mut self, alloc: Global, call: M::Call) -> Result<M::Reply, StepFault>
         requires { M.may_ask (M.fixed (M.state self.old.machine)) call }
         // The answer and the step are those of the state that stands as the call begins.
-        ensures done { D.premise → IfOk result (λ reply.
-            (step : Option M.Step) × M.answers (caught M.after (M.state self.old.machine) self.old.unsure (has_record self.old.journal.pending (stored D.seen self.old.journal))) call reply step
-            × (M.state self.new.machine ≡ after_step M.after (caught M.after (M.state self.old.machine) self.old.unsure (has_record self.old.journal.pending (stored D.seen self.old.journal))) step)) }
+        ensures done { D.premise → IfOk result (λ reply. AnswersFrom M.Machine (found_state M.Machine D.Disk self.old) call reply (M.state self.new.machine)) }
         // Whatever a crash leaves then stands for the state that was answered from.
-        ensures durable { D.premise → OnOk result (EachImage D.may_leave self.new.journal (StandsFor M.stands_for (M.state self.new.machine))) }
-        ensures memory { D.premise → result ≡ Err no_memory → (stored D.seen self.new.journal ≡ stored D.seen self.old.journal)
-            × (M.state self.new.machine ≡ caught M.after (M.state self.old.machine) self.old.unsure (has_record self.old.journal.pending (stored D.seen self.old.journal))) }
+        ensures durable { D.premise → OnOk result (IsDurable M.Machine D.Disk self.new) }
+        ensures memory { D.premise → result ≡ Err no_memory → KeepsFound M.Machine D.Disk self.old self.new }
         // At every moment of a call that began with no fault.
-        ensures any_moment { D.premise → IsTrue (is_ready self.old.journal.pending) → EachSince D.moment D.left_since self.old.journal self.new.journal
-            (StandsAround M.stands_for M.answers M.after (M.state self.old.machine) call) }
+        ensures any_moment { D.premise → IsTrue (is_ready self.old.journal.pending) → StandsThroughCall M.Machine D.Disk self.old self.new call }
         // What such a call adds to the images of each disk, so that it can be joined with the calls before it.
-        ensures adds { D.premise → IsTrue (is_ready self.old.journal.pending) → Adds D.moment D.left_since self.old.journal self.new.journal
-            (LeftIn (stored D.seen self.old.journal) (IsStepMade M.stands_for M.answers M.after (stored D.seen self.old.journal) (M.state self.old.machine) call)) }
+        ensures adds { D.premise → IsTrue (is_ready self.old.journal.pending) → AddsAsked M.Machine D.Disk self.old self.new call }
         // Of a call that began after a fault: until it has synced both disks, an image is one that a crash could have left
         // of its disk as the call began.
-        ensures recovers { D.premise → is_ready self.old.journal.pending ≡ false
-            → (c d : List ℕ) → D.left_since (first_disk self.new.journal) (D.moment (first_disk self.old.journal)) c → D.left_since (second_disk self.new.journal) (D.moment (second_disk self.old.journal)) d
-            → (D.may_leave (first_disk self.old.journal) c ⊎ D.may_leave (second_disk self.old.journal) d)
-            ⊎ StandsAround M.stands_for M.answers M.after (caught M.after (M.state self.old.machine) self.old.unsure (has_record self.old.journal.pending (stored D.seen self.old.journal))) call (pair_of c d) }
+        ensures recovers { D.premise → is_ready self.old.journal.pending ≡ false → Recovers M.Machine D.Disk self.old self.new call }
         // A step leaves few records, or a snapshot that was put off is counted.
-        ensures log_bounded { D.premise → OnOk result ((M.state self.new.machine ≡ caught M.after (M.state self.old.machine) self.old.unsure (has_record self.old.journal.pending (stored D.seen self.old.journal)))
-            ⊎ (IsLogBounded self.new.journal ⊎ Rose self.old.put_off self.new.put_off)) }
+        ensures log_bounded { D.premise → OnOk result (IsInFound M.Machine D.Disk self.old self.new ⊎ IsBoundedOrPutOff self.old self.new) }
         // What it does, and the calls that the disks tell of it: all at an answer, those before a step where memory ran out, and
         // at a fault those up to the one that failed. On no premise.
-        ensures answered { IfOk result (λ reply. Answered D.premise D.seen D.told M.state M.stands_for M.record_of M.answers M.follows M.after self.old self.new call reply) }
-        ensures out_of_memory { result ≡ Err no_memory → OutOfMemory D.premise D.seen D.told M.state M.stands_for M.record_of M.answers M.follows M.after self.old self.new }
-        ensures failed { result ≡ Err disk_fault → Unfound D.told D.disk_faults D.calls_advance M.state self.old self.new
-            ⊎ Unkept D.premise D.seen D.told D.disk_faults D.calls_advance M.state M.stands_for M.record_of M.answers M.follows M.after self.old self.new call }
+        ensures answered { IfOk result (λ reply. EndsAnswered M.Machine D.Disk self.old self.new call reply) }
+        ensures out_of_memory { result ≡ Err no_memory → EndsOutOfMemory M.Machine D.Disk self.old self.new }
+        ensures failed { result ≡ Err disk_fault → EndsUnfound M.Machine D.Disk self.old self.new ⊎ EndsUnkept M.Machine D.Disk self.old self.new call }
         // More of a fault: what was known before it, and where the record of an unsure step stands.
-        ensures broken { result ≡ Err disk_fault → Unsettled D.premise D.seen D.told D.disk_faults D.calls_advance M.state self.old self.new
-            ⊎ Broken D.premise D.seen D.may_leave D.told D.disk_faults D.calls_advance M.state M.stands_for M.record_of M.answers M.follows M.after self.old self.new call }
+        ensures broken { result ≡ Err disk_fault → EndsUnsettled M.Machine D.Disk self.old self.new ⊎ EndsBroken M.Machine D.Disk self.old self.new call }
         ensures ready { (result ≡ Err disk_fault → ⊥) → IsTrue (is_ready self.new.journal.pending) }
         ensures unready { result ≡ Err disk_fault → is_ready self.new.journal.pending ≡ false }
         // Whatever it comes to.
         ensures fixed { M.fixed (M.state self.new.machine) ≡ M.fixed (M.state self.old.machine) }
-        ensures later { (D.disk_faults (first_disk self.old.journal) ≤ D.disk_faults (first_disk self.new.journal)) × (D.disk_faults (second_disk self.old.journal) ≤ D.disk_faults (second_disk self.new.journal)) }
-        ensures no_fault { (result ≡ Err disk_fault → ⊥) → (D.disk_faults (first_disk self.new.journal) ≡ D.disk_faults (first_disk self.old.journal)) × (D.disk_faults (second_disk self.new.journal) ≡ D.disk_faults (second_disk self.old.journal)) }
-        ensures cause { result ≡ Err disk_fault → Rose (D.disk_faults (first_disk self.old.journal)) (D.disk_faults (first_disk self.new.journal)) ⊎ Rose (D.disk_faults (second_disk self.old.journal)) (D.disk_faults (second_disk self.new.journal)) }
+        ensures later { FaultsAdvance D.Disk self.old.journal self.new.journal }
+        ensures no_fault { (result ≡ Err disk_fault → ⊥) → NoFault D.Disk self.old.journal self.new.journal }
+        ensures cause { result ≡ Err disk_fault → FaultRose D.Disk self.old.journal self.new.journal }
         ensures calls_advance { WentOn D.calls_advance self.old.journal self.new.journal }
     {
         self.known();
@@ -211,22 +196,22 @@ impl<M: Machine, D: Disk> Keep<M, D> {
     // Finds out what stands, where the last call failed.
     pub(crate) fn catch_up(&mut self) -> Result<(), DiskFault>
         ensures ready { OnOk result (IsTrue (is_ready self.new.journal.pending)) }
-        ensures state { D.premise → OnOk result (M.state self.new.machine ≡ caught M.after (M.state self.old.machine) self.old.unsure (has_record self.old.journal.pending (stored D.seen self.old.journal))) }
+        ensures state { D.premise → OnOk result (IsInFound M.Machine D.Disk self.old self.new) }
         ensures stored { D.premise → stored D.seen self.new.journal ≡ stored D.seen self.old.journal }
         ensures still { IsTrue (is_ready self.old.journal.pending) → self.new ≡ self.old }
         ensures fixed { M.fixed (M.state self.new.machine) ≡ M.fixed (M.state self.old.machine) }
         ensures put_off { self.new.put_off ≡ self.old.put_off }
-        ensures found { OnOk result ((stood : Bool) × IsFound D.premise D.seen self.old.journal stood self.new.journal × (M.state self.new.machine ≡ caught M.after (M.state self.old.machine) self.old.unsure stood)) }
+        ensures found { OnOk result (FindsOut M.Machine D.Disk self.old self.new) }
         ensures told { OnOk result (TellsIn D.told self.old.journal self.new.journal (sync_calls (is_ready self.old.journal.pending))) }
-        ensures unfound { OnErr result (Unfound D.told D.disk_faults D.calls_advance M.state self.old self.new) }
+        ensures unfound { OnErr result (EndsUnfound M.Machine D.Disk self.old self.new) }
         ensures pending { OnErr result (self.new.journal.pending ≡ self.old.journal.pending) }
         ensures unready { OnErr result (is_ready self.new.journal.pending ≡ false) }
-        ensures read { D.premise → (D.seen (first_disk self.new.journal) ≡ D.seen (first_disk self.old.journal)) × (D.seen (second_disk self.new.journal) ≡ D.seen (second_disk self.old.journal)) }
-        ensures first { D.premise → is_ready self.old.journal.pending ≡ false → IsRead D.seen D.may_leave D.moment D.left_since (first_disk self.old.journal) (first_disk self.new.journal) }
-        ensures second { D.premise → is_ready self.old.journal.pending ≡ false → IsRead D.seen D.may_leave D.moment D.left_since (second_disk self.old.journal) (second_disk self.new.journal) }
-        ensures later { (D.disk_faults (first_disk self.old.journal) ≤ D.disk_faults (first_disk self.new.journal)) × (D.disk_faults (second_disk self.old.journal) ≤ D.disk_faults (second_disk self.new.journal)) }
-        ensures no_fault { OnOk result ((D.disk_faults (first_disk self.new.journal) ≡ D.disk_faults (first_disk self.old.journal)) × (D.disk_faults (second_disk self.new.journal) ≡ D.disk_faults (second_disk self.old.journal))) }
-        ensures cause { OnErr result (Rose (D.disk_faults (first_disk self.old.journal)) (D.disk_faults (first_disk self.new.journal)) ⊎ Rose (D.disk_faults (second_disk self.old.journal)) (D.disk_faults (second_disk self.new.journal))) }
+        ensures read { D.premise → ReadAsBefore D.Disk self.old.journal self.new.journal }
+        ensures first { D.premise → is_ready self.old.journal.pending ≡ false → OnlyRead D.Disk (first_disk self.old.journal) (first_disk self.new.journal) }
+        ensures second { D.premise → is_ready self.old.journal.pending ≡ false → OnlyRead D.Disk (second_disk self.old.journal) (second_disk self.new.journal) }
+        ensures later { FaultsAdvance D.Disk self.old.journal self.new.journal }
+        ensures no_fault { OnOk result (NoFault D.Disk self.old.journal self.new.journal) }
+        ensures cause { OnErr result (FaultRose D.Disk self.old.journal self.new.journal) }
         ensures calls_advance { WentOn D.calls_advance self.old.journal self.new.journal }
     {
         self.known();
@@ -254,21 +239,19 @@ impl<M: Machine, D: Disk> Keep<M, D> {
         ensures state { OnOk result (M.state self.new.machine ≡ after_step M.after (M.state self.old.machine) decided.step) }
         ensures ready { OnOk result (IsTrue (is_ready self.new.journal.pending)) }
         ensures unready { result ≡ Err disk_fault → is_ready self.new.journal.pending ≡ false }
-        ensures memory { result ≡ Err no_memory → (stored D.seen self.new.journal ≡ stored D.seen self.old.journal) × (M.state self.new.machine ≡ M.state self.old.machine) }
-        ensures any_moment { D.premise → EachSince D.moment D.left_since self.old.journal self.new.journal
-            (λ pair. StandsFor M.stands_for (M.state self.old.machine) pair ⊎ ((step : M.Step) × ((decided.step ≡ Some step) × StandsFor M.stands_for (M.after (M.state self.old.machine) step) pair))) }
-        ensures adds { D.premise → Adds D.moment D.left_since self.old.journal self.new.journal
-            (LeftIn (stored D.seen self.old.journal) (λ pair. (step : M.Step) × ((decided.step ≡ Some step) × IsMade M.stands_for (stored D.seen self.old.journal) (M.after (M.state self.old.machine) step) pair))) }
-        ensures log_bounded { OnOk result (IsSome decided.step → IsLogBounded self.new.journal ⊎ Rose self.old.put_off self.new.put_off) }
-        ensures keeps { OnOk result (Keeps D.told M.state M.stands_for M.record_of M.after self.old self.new decided.step) }
-        ensures breaks { result ≡ Err disk_fault → Breaks D.told D.disk_faults D.calls_advance M.state M.stands_for M.record_of M.after self.old self.new decided.step }
+        ensures memory { result ≡ Err no_memory → KeepsAll M.Machine D.Disk self.old self.new }
+        ensures any_moment { D.premise → StandsThroughDecided M.Machine D.Disk self.old self.new decided.step }
+        ensures adds { D.premise → AddsDecided M.Machine D.Disk self.old self.new decided.step }
+        ensures log_bounded { OnOk result (IsSome decided.step → IsBoundedOrPutOff self.old self.new) }
+        ensures keeps { OnOk result (KeepsStep M.Machine D.Disk self.old self.new decided.step) }
+        ensures breaks { result ≡ Err disk_fault → BreaksStep M.Machine D.Disk self.old self.new decided.step }
         // Where the step is unsure, its record stands where a reload is to answer so.
-        ensures which { D.premise → result ≡ Err disk_fault → IfSome self.new.unsure (λ step. stored D.seen self.new.journal ≡ which (M.record_of step) (has_record self.new.journal.pending (stored D.seen self.new.journal)) (stored D.seen self.old.journal)) }
-        ensures unmoved { result ≡ Err no_memory → SameButRoom self.old.journal self.new.journal × (M.state self.new.machine ≡ M.state self.old.machine) × (self.new.put_off ≡ self.old.put_off) }
+        ensures which { D.premise → result ≡ Err disk_fault → UnsureStandsWhere M.Machine D.Disk self.old self.new }
+        ensures unmoved { result ≡ Err no_memory → Unmoved M.Machine self.old self.new }
         ensures fixed { M.fixed (M.state self.new.machine) ≡ M.fixed (M.state self.old.machine) }
-        ensures later { (D.disk_faults (first_disk self.old.journal) ≤ D.disk_faults (first_disk self.new.journal)) × (D.disk_faults (second_disk self.old.journal) ≤ D.disk_faults (second_disk self.new.journal)) }
-        ensures no_fault { (result ≡ Err disk_fault → ⊥) → (D.disk_faults (first_disk self.new.journal) ≡ D.disk_faults (first_disk self.old.journal)) × (D.disk_faults (second_disk self.new.journal) ≡ D.disk_faults (second_disk self.old.journal)) }
-        ensures cause { result ≡ Err disk_fault → Rose (D.disk_faults (first_disk self.old.journal)) (D.disk_faults (first_disk self.new.journal)) ⊎ Rose (D.disk_faults (second_disk self.old.journal)) (D.disk_faults (second_disk self.new.journal)) }
+        ensures later { FaultsAdvance D.Disk self.old.journal self.new.journal }
+        ensures no_fault { (result ≡ Err disk_fault → ⊥) → NoFault D.Disk self.old.journal self.new.journal }
+        ensures cause { result ≡ Err disk_fault → FaultRose D.Disk self.old.journal self.new.journal }
         ensures calls_advance { WentOn D.calls_advance self.old.journal self.new.journal }
     {
         let Decided { reply, step } = decided;
@@ -293,21 +276,19 @@ impl<M: Machine, D: Disk> Keep<M, D> {
         ensures state { OnOk result (M.state self.new.machine ≡ M.after (M.state self.old.machine) step) }
         ensures ready { OnOk result (IsTrue (is_ready self.new.journal.pending)) }
         ensures unready { result ≡ Err disk_fault → is_ready self.new.journal.pending ≡ false }
-        ensures memory { result ≡ Err no_memory → (stored D.seen self.new.journal ≡ stored D.seen self.old.journal) × (M.state self.new.machine ≡ M.state self.old.machine) }
-        ensures any_moment { D.premise → EachSince D.moment D.left_since self.old.journal self.new.journal
-            (λ pair. StandsFor M.stands_for (M.state self.old.machine) pair ⊎ StandsFor M.stands_for (M.after (M.state self.old.machine) step) pair) }
-        ensures adds { D.premise → Adds D.moment D.left_since self.old.journal self.new.journal
-            (LeftIn (stored D.seen self.old.journal) (IsMade M.stands_for (stored D.seen self.old.journal) (M.after (M.state self.old.machine) step))) }
-        ensures log_bounded { OnOk result (IsLogBounded self.new.journal ⊎ Rose self.old.put_off self.new.put_off) }
-        ensures keeps { OnOk result (Keeps D.told M.state M.stands_for M.record_of M.after self.old self.new (Some step)) }
-        ensures breaks { result ≡ Err disk_fault → Breaks D.told D.disk_faults D.calls_advance M.state M.stands_for M.record_of M.after self.old self.new (Some step) }
+        ensures memory { result ≡ Err no_memory → KeepsAll M.Machine D.Disk self.old self.new }
+        ensures any_moment { D.premise → StandsThroughStep M.Machine D.Disk self.old self.new step }
+        ensures adds { D.premise → AddsStep M.Machine D.Disk self.old self.new step }
+        ensures log_bounded { OnOk result (IsBoundedOrPutOff self.old self.new) }
+        ensures keeps { OnOk result (KeepsStep M.Machine D.Disk self.old self.new (Some step)) }
+        ensures breaks { result ≡ Err disk_fault → BreaksStep M.Machine D.Disk self.old self.new (Some step) }
         // Where the step is unsure, its record stands where a reload is to answer so.
-        ensures which { D.premise → result ≡ Err disk_fault → IfSome self.new.unsure (λ step. stored D.seen self.new.journal ≡ which (M.record_of step) (has_record self.new.journal.pending (stored D.seen self.new.journal)) (stored D.seen self.old.journal)) }
-        ensures unmoved { result ≡ Err no_memory → SameButRoom self.old.journal self.new.journal × (M.state self.new.machine ≡ M.state self.old.machine) × (self.new.put_off ≡ self.old.put_off) }
+        ensures which { D.premise → result ≡ Err disk_fault → UnsureStandsWhere M.Machine D.Disk self.old self.new }
+        ensures unmoved { result ≡ Err no_memory → Unmoved M.Machine self.old self.new }
         ensures fixed { M.fixed (M.state self.new.machine) ≡ M.fixed (M.state self.old.machine) }
-        ensures later { (D.disk_faults (first_disk self.old.journal) ≤ D.disk_faults (first_disk self.new.journal)) × (D.disk_faults (second_disk self.old.journal) ≤ D.disk_faults (second_disk self.new.journal)) }
-        ensures no_fault { (result ≡ Err disk_fault → ⊥) → (D.disk_faults (first_disk self.new.journal) ≡ D.disk_faults (first_disk self.old.journal)) × (D.disk_faults (second_disk self.new.journal) ≡ D.disk_faults (second_disk self.old.journal)) }
-        ensures cause { result ≡ Err disk_fault → Rose (D.disk_faults (first_disk self.old.journal)) (D.disk_faults (first_disk self.new.journal)) ⊎ Rose (D.disk_faults (second_disk self.old.journal)) (D.disk_faults (second_disk self.new.journal)) }
+        ensures later { FaultsAdvance D.Disk self.old.journal self.new.journal }
+        ensures no_fault { (result ≡ Err disk_fault → ⊥) → NoFault D.Disk self.old.journal self.new.journal }
+        ensures cause { result ≡ Err disk_fault → FaultRose D.Disk self.old.journal self.new.journal }
         ensures calls_advance { WentOn D.calls_advance self.old.journal self.new.journal }
     {
         self.known();
@@ -328,22 +309,21 @@ impl<M: Machine, D: Disk> Keep<M, D> {
         requires room { length bytes.now + 13 ≤ self.old.journal.room }
         ensures state { OnOk result (M.state self.new.machine ≡ M.after (M.state self.old.machine) step) }
         ensures appended { D.premise → OnOk result (stored D.seen self.new.journal ≡ with_record (M.record_of step) (stored D.seen self.old.journal)) }
-        ensures adds { D.premise → Adds D.moment D.left_since self.old.journal self.new.journal
-            (λ second c. Shows (stored D.seen self.old.journal) second c ⊎ Shows (with_record (M.record_of step) (stored D.seen self.old.journal)) second c) }
+        ensures adds { D.premise → AddsRecord D.Disk (M.record_of step) self.old.journal self.new.journal }
         ensures kept { KeepsPlace self.old.journal self.new.journal }
         ensures end { OnOk result (self.new.journal.end ≡ self.old.journal.end + 5 + length (M.record_of step)) }
         ensures told { OnOk result (TellsIn D.told self.old.journal self.new.journal (record_calls self.old.journal (Some (M.record_of step)))) }
-        ensures told_first { OnErr result (TellsSomeIn D.told D.disk_faults D.calls_advance self.old.journal self.new.journal (record_calls self.old.journal (Some (M.record_of step)))) }
+        ensures told_first { OnErr result (StopsIn D.Disk self.old.journal self.new.journal (record_calls self.old.journal (Some (M.record_of step)))) }
         ensures unsure { OnErr result ((M.state self.new.machine ≡ M.state self.old.machine) × (self.new.unsure ≡ Some step)) }
-        ensures which { D.premise → OnErr result (stored D.seen self.new.journal ≡ which (M.record_of step) (has_record self.new.journal.pending (stored D.seen self.new.journal)) (stored D.seen self.old.journal)) }
+        ensures which { D.premise → OnErr result (StandsWhere D.Disk (M.record_of step) self.old.journal self.new.journal) }
         ensures sure { OnOk result (self.new.unsure ≡ None) }
         ensures fixed { M.fixed (M.state self.new.machine) ≡ M.fixed (M.state self.old.machine) }
         ensures put_off { self.new.put_off ≡ self.old.put_off }
-        ensures later { (D.disk_faults (first_disk self.old.journal) ≤ D.disk_faults (first_disk self.new.journal)) × (D.disk_faults (second_disk self.old.journal) ≤ D.disk_faults (second_disk self.new.journal)) }
-        ensures no_fault { OnOk result ((D.disk_faults (first_disk self.new.journal) ≡ D.disk_faults (first_disk self.old.journal)) × (D.disk_faults (second_disk self.new.journal) ≡ D.disk_faults (second_disk self.old.journal))) }
+        ensures later { FaultsAdvance D.Disk self.old.journal self.new.journal }
+        ensures no_fault { OnOk result (NoFault D.Disk self.old.journal self.new.journal) }
         ensures ready { OnOk result (IsTrue (is_ready self.new.journal.pending)) }
         ensures unready { OnErr result (is_ready self.new.journal.pending ≡ false) }
-        ensures cause { OnErr result (Rose (D.disk_faults (first_disk self.old.journal)) (D.disk_faults (first_disk self.new.journal)) ⊎ Rose (D.disk_faults (second_disk self.old.journal)) (D.disk_faults (second_disk self.new.journal))) }
+        ensures cause { OnErr result (FaultRose D.Disk self.old.journal self.new.journal) }
         ensures calls_advance { WentOn D.calls_advance self.old.journal self.new.journal }
     {
         self.known();
@@ -357,18 +337,15 @@ impl<M: Machine, D: Disk> Keep<M, D> {
         requires ready { IsTrue (is_ready self.old.journal.pending) }
         ensures machine { self.new.machine ≡ self.old.machine }
         ensures unsure { self.new.unsure ≡ self.old.unsure }
-        ensures shortened { OnOk result ((image : Option (List ℕ)) × IsShortened M.stands_for (M.state self.old.machine) self.old.put_off self.new.put_off self.old.journal image self.new.journal
-            × TellsIn D.told self.old.journal self.new.journal (image_calls self.old.journal image)) }
-        ensures told_first { OnErr result ((image : List ℕ) × (is_many (self.old.journal.end - self.old.journal.start) (self.old.journal.start - 21) ≡ true) × IsSnapshotOf M.stands_for (M.state self.old.machine) self.old.journal.generation image
-            × TellsSomeIn D.told D.disk_faults D.calls_advance self.old.journal self.new.journal (image_calls self.old.journal (Some image))) }
-        ensures log_bounded { OnOk result (IsLogBounded self.new.journal ⊎ Rose self.old.put_off self.new.put_off) }
+        ensures shortened { OnOk result (ShortensLog M.Machine D.Disk self.old self.new) }
+        ensures told_first { OnErr result (StopsShortening M.Machine D.Disk self.old self.new) }
+        ensures log_bounded { OnOk result (IsBoundedOrPutOff self.old self.new) }
         ensures ready { OnOk result (IsTrue (is_ready self.new.journal.pending)) }
         ensures unready { OnErr result (is_ready self.new.journal.pending ≡ false) }
-        ensures adds { D.premise → Adds D.moment D.left_since self.old.journal self.new.journal
-            (Snapped D.seen M.stands_for (M.state self.old.machine) self.old.journal) }
-        ensures later { (D.disk_faults (first_disk self.old.journal) ≤ D.disk_faults (first_disk self.new.journal)) × (D.disk_faults (second_disk self.old.journal) ≤ D.disk_faults (second_disk self.new.journal)) }
-        ensures no_fault { OnOk result ((D.disk_faults (first_disk self.new.journal) ≡ D.disk_faults (first_disk self.old.journal)) × (D.disk_faults (second_disk self.new.journal) ≡ D.disk_faults (second_disk self.old.journal))) }
-        ensures cause { OnErr result (Rose (D.disk_faults (first_disk self.old.journal)) (D.disk_faults (first_disk self.new.journal)) ⊎ Rose (D.disk_faults (second_disk self.old.journal)) (D.disk_faults (second_disk self.new.journal))) }
+        ensures adds { D.premise → AddsSnapshot M.Machine D.Disk (M.state self.old.machine) self.old.journal self.new.journal }
+        ensures later { FaultsAdvance D.Disk self.old.journal self.new.journal }
+        ensures no_fault { OnOk result (NoFault D.Disk self.old.journal self.new.journal) }
+        ensures cause { OnErr result (FaultRose D.Disk self.old.journal self.new.journal) }
         ensures calls_advance { WentOn D.calls_advance self.old.journal self.new.journal }
     {
         self.known();
@@ -387,7 +364,7 @@ impl<M: Machine, D: Disk> Keep<M, D> {
 
     // Whether the records take more than 1 MiB and than twice the snapshot.
     pub(crate) fn has_many_records(&self) -> bool
-        ensures { result ≡ is_many (self.now.journal.end - self.now.journal.start) (self.now.journal.start - 21) }
+        ensures { result ≡ has_many self.now.journal }
     {
         let records = u128::from(self.journal.record_bytes());
         let most = 2 * u128::from(self.journal.snapshot_bytes());
@@ -478,17 +455,17 @@ fn append<S: Drop, D: Disk>(
     ensures sure { OnOk result (unsure.new ≡ None) }
     ensures unsure { OnErr result (unsure.new ≡ Some step) }
     ensures appended { D.premise → OnOk result (stored D.seen journal.new ≡ with_record bytes.now (stored D.seen journal.old)) }
-    ensures which { D.premise → OnErr result (stored D.seen journal.new ≡ which bytes.now (has_record journal.new.pending (stored D.seen journal.new)) (stored D.seen journal.old)) }
-    ensures adds { D.premise → Adds D.moment D.left_since journal.old journal.new (λ second c. Shows (stored D.seen journal.old) second c ⊎ Shows (with_record bytes.now (stored D.seen journal.old)) second c) }
+    ensures which { D.premise → OnErr result (StandsWhere D.Disk bytes.now journal.old journal.new) }
+    ensures adds { D.premise → AddsRecord D.Disk bytes.now journal.old journal.new }
     ensures kept { KeepsPlace journal.old journal.new }
     ensures end { OnOk result (journal.new.end ≡ journal.old.end + 5 + length bytes.now) }
     ensures told { OnOk result (TellsIn D.told journal.old journal.new (all_on journal.old.second (append_calls journal.old.end bytes.now))) }
-    ensures told_first { OnErr result (TellsSomeIn D.told D.disk_faults D.calls_advance journal.old journal.new (all_on journal.old.second (append_calls journal.old.end bytes.now))) }
+    ensures told_first { OnErr result (StopsIn D.Disk journal.old journal.new (all_on journal.old.second (append_calls journal.old.end bytes.now))) }
     ensures ready { OnOk result (IsTrue (is_ready journal.new.pending)) }
     ensures failed { OnErr result (is_ready journal.new.pending ≡ false) }
-    ensures later { (D.disk_faults (first_disk journal.old) ≤ D.disk_faults (first_disk journal.new)) × (D.disk_faults (second_disk journal.old) ≤ D.disk_faults (second_disk journal.new)) }
-    ensures no_fault { OnOk result ((D.disk_faults (first_disk journal.new) ≡ D.disk_faults (first_disk journal.old)) × (D.disk_faults (second_disk journal.new) ≡ D.disk_faults (second_disk journal.old))) }
-    ensures cause { OnErr result (Rose (D.disk_faults (first_disk journal.old)) (D.disk_faults (first_disk journal.new)) ⊎ Rose (D.disk_faults (second_disk journal.old)) (D.disk_faults (second_disk journal.new))) }
+    ensures later { FaultsAdvance D.Disk journal.old journal.new }
+    ensures no_fault { OnOk result (NoFault D.Disk journal.old journal.new) }
+    ensures cause { OnErr result (FaultRose D.Disk journal.old journal.new) }
     ensures calls_advance { WentOn D.calls_advance journal.old journal.new }
 {
     match journal.append(bytes) {

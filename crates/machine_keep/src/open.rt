@@ -1,18 +1,13 @@
 //! Opening a machine that is kept.
-ghost use Rattle.std.specs.Prelude.{◌≡◌, ◌⊎◌, ◌∷◌, ◌+◌, ◌<◌, ◌^◌, ℕ, List, Option, IsFalse, IsTrue, IfOk, IfErr, Ok, Some, [], false, length, take};
-ghost use Rattle.ps_ports.specs.Causes.{Rose};
-ghost use Rattle.host_journal.specs.Calls.{IsRead};
+ghost use Rattle.std.specs.Prelude.{◌≡◌, ◌⊎◌, ◌+◌, ◌<◌, ◌^◌, ℕ, IsFalse, IsTrue, IfOk, IfErr, Ok, false, length, take};
 ghost use Rattle.host_journal.specs.Format.{record_bytes};
-ghost use Rattle.host_journal.specs.Moments.{Adds, LeftIn};
-ghost use Rattle.host_journal.specs.Pair.{pair_of};
-ghost use Rattle.host_journal.specs.declared.reading.Counted.{Counted};
-ghost use Rattle.host_journal.specs.State.{is_ready, stored, opened_as, EachImage, WentOn, first_disk, second_disk};
+ghost use Rattle.host_journal.specs.State.{is_ready, stored, opened_as, WentOn, first_disk, second_disk};
 ghost use Rattle.machine_keep.specs.declared.fault.StepFault.TheVariants.{Disk as disk_fault, Memory as no_memory};
-ghost use Rattle.machine_keep.specs.Calls.{TellsIn, TellsPair, TellsSome, image_calls, sync_calls};
-ghost use Rattle.machine_keep.specs.Course.{IsInForm, IsRewritten, Opened, Unwritten};
-ghost use Rattle.machine_keep.specs.Kept.{EachFrom, IsMade, IsMigrating, StandsEither, StandsFor};
-ghost use Rattle.machine_keep.specs.Opening.{EachUnlessUndone, IsBegun, StandsAsBefore};
-ghost use Rattle.machine_keep.specs.Refusal.{IsRefusedAt, StandsOf};
+ghost use Rattle.machine_keep.specs.Calls.{TellsPair, sync_calls};
+ghost use Rattle.machine_keep.specs.Kept.{StandsFor};
+ghost use Rattle.machine_keep.specs.Began.{AddsMachine, AreDisksOf, BeginsAs, CountsByForm, IfNotAJournal, IsOpened, IsRefusedOf, KeepsForm, LeavesAsBefore, Migrates, Rewrites, StandsForNone, StandsInEither, StandsThroughOpening, StandsUnlessUndone, StoodUnlessUndone, StopsOpening, StopsRewriting};
+ghost use Rattle.machine_keep.specs.BothDisks.{FaultRoseOn, NoFault, NoFaultOn, OnlyRead, read_pair};
+ghost use Rattle.machine_keep.specs.Ends.{IsDurable};
 
 use crate::fault::StepFault;
 use crate::keep::Keep;
@@ -35,40 +30,35 @@ impl<M: Machine + Drop, D: Disk> Keep<M, D> {
         first: D,
         second: D,
     ) -> Result<Keep<M, D>, OpenFault<D>>
-        ensures stands { D.premise → IfOk result (λ keep. StandsEither M.stands_for M.stood_for (M.state keep.machine) (pair_of (D.seen first) (D.seen second))) }
+        ensures stands { D.premise → IfOk result (λ keep. StandsInEither M.Machine (M.state keep.machine) (read_pair D.Disk first second)) }
         ensures fixed { IfOk result (λ keep. M.fixed (M.state keep.machine) ≡ M.fixed_of origin) }
         ensures ready { IfOk result (λ keep. IsTrue (is_ready keep.journal.pending)) }
-        ensures durable { D.premise → IfOk result (λ keep. EachImage D.may_leave keep.journal (StandsFor M.stands_for (M.state keep.machine))) }
+        ensures durable { D.premise → IfOk result (λ keep. IsDurable M.Machine D.Disk keep) }
         // At every moment since the disks were handed in.
-        ensures any_moment_err { D.premise → IfErr result (λ f. EachFrom D.may_leave D.moment D.left_since first second f.first f.second
-            (λ pair. (s : M.State) × (StandsEither M.stands_for M.stood_for s (pair_of (D.seen first) (D.seen second)) × StandsEither M.stands_for M.stood_for s pair))) }
+        ensures any_moment_err { D.premise → IfErr result (λ f. StandsThroughOpening M.Machine D.Disk first second f.first f.second) }
         // Images that the first syncs undo are left aside, and no others.
-        ensures unless_undone { D.premise → IfOk result (λ keep. EachUnlessUndone D.seen D.may_leave D.moment D.left_since first second (first_disk keep.journal) (second_disk keep.journal)
-            (λ c d. StandsEither M.stands_for M.stood_for (M.state keep.machine) (pair_of c d))) }
-        ensures unless_undone_err { D.premise → IfErr result (λ f. EachUnlessUndone D.seen D.may_leave D.moment D.left_since first second f.first f.second
-            (λ c d. StandsAsBefore M.stands_for M.stood_for (pair_of (D.seen first) (D.seen second)) (pair_of c d))) }
+        ensures unless_undone { D.premise → IfOk result (λ keep. StandsUnlessUndone M.Machine D.Disk first second keep) }
+        ensures unless_undone_err { D.premise → IfErr result (λ f. StoodUnlessUndone M.Machine D.Disk first second f.first f.second) }
         // What a caller joins with the call behind it.
-        ensures begun { D.premise → IfOk result (λ keep. IsBegun D.seen D.moment D.left_since M.stands_for first second (M.state keep.machine) keep.journal) }
+        ensures begun { D.premise → IfOk result (λ keep. BeginsAs M.Machine D.Disk first second keep) }
         // And what a crash leaves then: of both what it could have left before, or what stands for a state for which they stood.
-        ensures left { D.premise → IfErr result (λ f. (c d : List ℕ) → D.may_leave f.first c → D.may_leave f.second d → (D.may_leave first c × D.may_leave second d)
-            ⊎ ((s : M.State) × (StandsEither M.stands_for M.stood_for s (pair_of (D.seen first) (D.seen second)) × StandsEither M.stands_for M.stood_for s (pair_of c d)))) }
+        ensures left { D.premise → IfErr result (λ f. LeavesAsBefore M.Machine D.Disk first second f.first f.second) }
         // Where no fault is told, a refusal wrote nothing.
-        ensures refused_first { D.premise → IfErr result (λ f. (f.reason ≡ OpenReason.DiskFault → ⊥) → IsRead D.seen D.may_leave D.moment D.left_since first f.first) }
-        ensures refused_second { D.premise → IfErr result (λ f. (f.reason ≡ OpenReason.DiskFault → ⊥) → IsRead D.seen D.may_leave D.moment D.left_since second f.second) }
+        ensures refused_first { D.premise → IfErr result (λ f. (f.reason ≡ OpenReason.DiskFault → ⊥) → OnlyRead D.Disk first f.first) }
+        ensures refused_second { D.premise → IfErr result (λ f. (f.reason ≡ OpenReason.DiskFault → ⊥) → OnlyRead D.Disk second f.second) }
         // Only where the disks stand for no state of that origin.
-        ensures nothing { D.premise → IfErr result (λ f. (place : _) → f.reason ≡ OpenReason.NotAJournal place → (s : M.State) → M.fixed s ≡ M.fixed_of origin → StandsEither M.stands_for M.stood_for s (pair_of (D.seen first) (D.seen second)) → ⊥) }
+        ensures nothing { D.premise → IfErr result (λ f. IfNotAJournal f.reason
+            (λ _. StandsForNone M.Machine (M.fixed_of origin) (read_pair D.Disk first second))) }
         // At the place where they are no journal, or else of the first item that is refused.
-        ensures place { D.premise → IfErr result (λ f. (place : _) → f.reason ≡ OpenReason.NotAJournal place → IsRefusedAt (StandsOf M.fixed (M.fixed_of origin) M.stands_for M.stood_for) (pair_of (D.seen first) (D.seen second)) place) }
-        ensures fault { IfErr result (λ f. f.reason ≡ OpenReason.DiskFault → Rose (D.disk_faults first) (D.disk_faults f.first) ⊎ Rose (D.disk_faults second) (D.disk_faults f.second)) }
-        ensures no_fault { IfOk result (λ keep. (D.disk_faults (first_disk keep.journal) ≡ D.disk_faults first) × (D.disk_faults (second_disk keep.journal) ≡ D.disk_faults second)) }
-        ensures no_fault_err { IfErr result (λ f. (f.reason ≡ OpenReason.DiskFault → ⊥) → (D.disk_faults f.first ≡ D.disk_faults first) × (D.disk_faults f.second ≡ D.disk_faults second)) }
+        ensures place { D.premise → IfErr result (λ f. IfNotAJournal f.reason (IsRefusedOf M.Machine (M.fixed_of origin) (read_pair D.Disk first second))) }
+        ensures fault { IfErr result (λ f. f.reason ≡ OpenReason.DiskFault → FaultRoseOn D.Disk first second f.first f.second) }
+        ensures no_fault { IfOk result (λ keep. NoFaultOn D.Disk first second (first_disk keep.journal) (second_disk keep.journal)) }
+        ensures no_fault_err { IfErr result (λ f. (f.reason ≡ OpenReason.DiskFault → ⊥) → NoFaultOn D.Disk first second f.first f.second) }
         // The form of the list decides which disk counts then.
-        ensures form { D.premise → IfOk result (λ keep. (read : Counted) → pair_of (D.seen first) (D.seen second) ≡ Ok read
-            → IsInForm M.stands_for M.stood_for (M.state keep.machine) read.second keep.journal.second (pair_of (D.seen first) (D.seen second))) }
+        ensures form { D.premise → IfOk result (λ keep. CountsByForm M.Machine D.Disk first second keep) }
         // The calls that the disks tell: the syncs, and a snapshot where the list was in the earlier form. On no premise.
-        ensures opened { IfOk result (λ keep. Opened D.premise D.seen D.told M.stands_for first second (M.state keep.machine) keep.journal) }
-        ensures told_err { IfErr result (λ f. f.reason ≡ OpenReason.DiskFault → TellsSome D.told D.disk_faults D.calls_advance first second f.first f.second (sync_calls false)
-            ⊎ Unwritten D.premise D.seen D.told D.disk_faults D.calls_advance M.stands_for first second f.first f.second) }
+        ensures opened { IfOk result (λ keep. IsOpened M.Machine D.Disk first second keep) }
+        ensures told_err { IfErr result (λ f. f.reason ≡ OpenReason.DiskFault → StopsOpening M.Machine D.Disk first second f.first f.second) }
         ensures told_refused { IfErr result (λ f. (f.reason ≡ OpenReason.DiskFault → ⊥) → TellsPair D.told first second f.first f.second (sync_calls false)) }
         ensures calls_advance { IfOk result (λ keep. D.calls_advance first (first_disk keep.journal) × D.calls_advance second (second_disk keep.journal)) }
         ensures calls_advance_err { IfErr result (λ f. D.calls_advance first f.first × D.calls_advance second f.second) }
@@ -93,21 +83,20 @@ impl<M: Machine + Drop, D: Disk> Keep<M, D> {
         requires list { D.premise → stored D.seen journal ≡ opened_as journal list }
         requires places { (n : ℕ) → n < length list → 21 + record_bytes (take n list) < 2 ^ 64 }
         ensures fixed { IfOk result (λ keep. M.fixed (M.state keep.machine) ≡ M.fixed_of origin) }
-        ensures stands { D.premise → IfOk result (λ keep. StandsEither M.stands_for M.stood_for (M.state keep.machine) (stored D.seen journal)) }
+        ensures stands { D.premise → IfOk result (λ keep. StandsInEither M.Machine (M.state keep.machine) (stored D.seen journal)) }
         ensures ready { IfOk result (λ keep. IsTrue (is_ready keep.journal.pending)) }
-        ensures durable { D.premise → IfOk result (λ keep. EachImage D.may_leave keep.journal (StandsFor M.stands_for (M.state keep.machine))) }
-        ensures adds { D.premise → IfOk result (λ keep. Adds D.moment D.left_since journal keep.journal
-            (LeftIn (stored D.seen journal) (IsMade M.stands_for (stored D.seen journal) (M.state keep.machine)))) }
-        ensures refused { IfErr result (λ f. (f.reason ≡ OpenReason.DiskFault → ⊥) → (f.first ≡ first_disk journal) × (f.second ≡ second_disk journal)) }
-        ensures left { D.premise → IfErr result (λ f. ((f.first ≡ first_disk journal) × (f.second ≡ second_disk journal)) ⊎ IsMigrating D.seen D.moment D.left_since M.stands_for M.stood_for journal f.first f.second) }
-        ensures nothing { D.premise → IfErr result (λ f. (place : _) → f.reason ≡ OpenReason.NotAJournal place → (s : M.State) → M.fixed s ≡ M.fixed_of origin → StandsEither M.stands_for M.stood_for s (stored D.seen journal) → ⊥) }
-        ensures place { D.premise → IfErr result (λ f. (place : _) → f.reason ≡ OpenReason.NotAJournal place → IsRefusedAt (StandsOf M.fixed (M.fixed_of origin) M.stands_for M.stood_for) (stored D.seen journal) place) }
-        ensures fault { IfErr result (λ f. f.reason ≡ OpenReason.DiskFault → Rose (D.disk_faults (first_disk journal)) (D.disk_faults f.first) ⊎ Rose (D.disk_faults (second_disk journal)) (D.disk_faults f.second)) }
-        ensures no_fault { IfOk result (λ keep. (D.disk_faults (first_disk keep.journal) ≡ D.disk_faults (first_disk journal)) × (D.disk_faults (second_disk keep.journal) ≡ D.disk_faults (second_disk journal))) }
-        ensures form { D.premise → IfOk result (λ keep. IsInForm M.stands_for M.stood_for (M.state keep.machine) journal.second keep.journal.second (stored D.seen journal)) }
-        ensures told { IfOk result (λ keep. (image : Option (List ℕ)) × IsRewritten M.stands_for (M.state keep.machine) journal image keep.journal × TellsIn D.told journal keep.journal (image_calls journal image)) }
-        ensures told_first { IfErr result (λ f. f.reason ≡ OpenReason.DiskFault → (s : M.State) × (image : List ℕ) × M.stands_for (image ∷ []) s
-            × TellsSome D.told D.disk_faults D.calls_advance (first_disk journal) (second_disk journal) f.first f.second (image_calls journal (Some image))) }
+        ensures durable { D.premise → IfOk result (λ keep. IsDurable M.Machine D.Disk keep) }
+        ensures adds { D.premise → IfOk result (λ keep. AddsMachine M.Machine D.Disk journal keep) }
+        ensures refused { IfErr result (λ f. (f.reason ≡ OpenReason.DiskFault → ⊥) → AreDisksOf journal f.first f.second) }
+        ensures left { D.premise → IfErr result (λ f. AreDisksOf journal f.first f.second ⊎ Migrates M.Machine D.Disk journal f.first f.second) }
+        ensures nothing { D.premise → IfErr result (λ f. IfNotAJournal f.reason
+            (λ _. StandsForNone M.Machine (M.fixed_of origin) (stored D.seen journal))) }
+        ensures place { D.premise → IfErr result (λ f. IfNotAJournal f.reason (IsRefusedOf M.Machine (M.fixed_of origin) (stored D.seen journal))) }
+        ensures fault { IfErr result (λ f. f.reason ≡ OpenReason.DiskFault → FaultRoseOn D.Disk (first_disk journal) (second_disk journal) f.first f.second) }
+        ensures no_fault { IfOk result (λ keep. NoFault D.Disk journal keep.journal) }
+        ensures form { D.premise → IfOk result (λ keep. KeepsForm M.Machine D.Disk journal keep) }
+        ensures told { IfOk result (λ keep. Rewrites M.Machine D.Disk journal keep) }
+        ensures told_first { IfErr result (λ f. f.reason ≡ OpenReason.DiskFault → StopsRewriting M.Machine D.Disk journal f.first f.second) }
         ensures calls_advance { IfOk result (λ keep. WentOn D.calls_advance journal keep.journal) }
         ensures calls_advance_err { IfErr result (λ f. D.calls_advance (first_disk journal) f.first × D.calls_advance (second_disk journal) f.second) }
     {
@@ -135,18 +124,16 @@ impl<M: Machine + Drop, D: Disk> Keep<M, D> {
         requires earlier { D.premise → IsTrue restored.is_earlier → StandsFor M.stood_for (M.state restored.machine) (stored D.seen journal) }
         ensures machine { IfOk result (λ keep. keep.machine ≡ restored.machine) }
         ensures ready { IfOk result (λ keep. IsTrue (is_ready keep.journal.pending)) }
-        ensures durable { D.premise → IfOk result (λ keep. EachImage D.may_leave keep.journal (StandsFor M.stands_for (M.state keep.machine))) }
-        ensures adds { D.premise → IfOk result (λ keep. Adds D.moment D.left_since journal keep.journal
-            (LeftIn (stored D.seen journal) (IsMade M.stands_for (stored D.seen journal) (M.state keep.machine)))) }
-        ensures refused { IfErr result (λ f. (f.reason ≡ OpenReason.DiskFault → ⊥) → (f.first ≡ first_disk journal) × (f.second ≡ second_disk journal)) }
-        ensures left { D.premise → IfErr result (λ f. IsMigrating D.seen D.moment D.left_since M.stands_for M.stood_for journal f.first f.second) }
+        ensures durable { D.premise → IfOk result (λ keep. IsDurable M.Machine D.Disk keep) }
+        ensures adds { D.premise → IfOk result (λ keep. AddsMachine M.Machine D.Disk journal keep) }
+        ensures refused { IfErr result (λ f. (f.reason ≡ OpenReason.DiskFault → ⊥) → AreDisksOf journal f.first f.second) }
+        ensures left { D.premise → IfErr result (λ f. Migrates M.Machine D.Disk journal f.first f.second) }
         ensures no_place { IfErr result (λ f. (place : _) → f.reason ≡ OpenReason.NotAJournal place → ⊥) }
-        ensures fault { IfErr result (λ f. f.reason ≡ OpenReason.DiskFault → Rose (D.disk_faults (first_disk journal)) (D.disk_faults f.first) ⊎ Rose (D.disk_faults (second_disk journal)) (D.disk_faults f.second)) }
-        ensures no_fault { IfOk result (λ keep. (D.disk_faults (first_disk keep.journal) ≡ D.disk_faults (first_disk journal)) × (D.disk_faults (second_disk keep.journal) ≡ D.disk_faults (second_disk journal))) }
-        ensures form { D.premise → IfOk result (λ keep. IsInForm M.stands_for M.stood_for (M.state keep.machine) journal.second keep.journal.second (stored D.seen journal)) }
-        ensures told { IfOk result (λ keep. (image : Option (List ℕ)) × IsRewritten M.stands_for (M.state keep.machine) journal image keep.journal × TellsIn D.told journal keep.journal (image_calls journal image)) }
-        ensures told_first { IfErr result (λ f. f.reason ≡ OpenReason.DiskFault → (s : M.State) × (image : List ℕ) × M.stands_for (image ∷ []) s
-            × TellsSome D.told D.disk_faults D.calls_advance (first_disk journal) (second_disk journal) f.first f.second (image_calls journal (Some image))) }
+        ensures fault { IfErr result (λ f. f.reason ≡ OpenReason.DiskFault → FaultRoseOn D.Disk (first_disk journal) (second_disk journal) f.first f.second) }
+        ensures no_fault { IfOk result (λ keep. NoFault D.Disk journal keep.journal) }
+        ensures form { D.premise → IfOk result (λ keep. KeepsForm M.Machine D.Disk journal keep) }
+        ensures told { IfOk result (λ keep. Rewrites M.Machine D.Disk journal keep) }
+        ensures told_first { IfErr result (λ f. f.reason ≡ OpenReason.DiskFault → StopsRewriting M.Machine D.Disk journal f.first f.second) }
         ensures calls_advance { IfOk result (λ keep. WentOn D.calls_advance journal keep.journal) }
         ensures calls_advance_err { IfErr result (λ f. D.calls_advance (first_disk journal) f.first × D.calls_advance (second_disk journal) f.second) }
     {

@@ -1,12 +1,10 @@
 //! A snapshot of a machine, put in place of a journal's records.
-ghost use Rattle.std.specs.Prelude.{◌≡◌, ◌⊎◌, ◌+◌, ◌≤◌, ℕ, List, Err, IfOk, IsTrue, OnOk, Some, [], ◌∷◌, false, length};
-ghost use Rattle.ps_ports.specs.Causes.{Rose};
-ghost use Rattle.host_journal.specs.Moments.{Adds};
-ghost use Rattle.host_journal.specs.State.{is_ready, stored, SameButRoom, WentOn, first_disk, second_disk};
-ghost use Rattle.machine_keep.specs.Calls.{TellsIn, TellsSomeIn, image_calls};
-ghost use Rattle.machine_keep.specs.Course.{IsSnapshotOf, IsTurned};
-ghost use Rattle.machine_keep.specs.Kept.{Snapped, StandsFor};
+ghost use Rattle.std.specs.Prelude.{◌≡◌, ◌+◌, ◌≤◌, Err, IfOk, IsTrue, OnOk, [], ◌∷◌, false, length};
+ghost use Rattle.host_journal.specs.State.{is_ready, stored, SameButRoom, WentOn};
+ghost use Rattle.machine_keep.specs.Kept.{StandsFor};
 ghost use Rattle.machine_keep.specs.declared.fault.StepFault.TheVariants.{Disk as disk_fault, Memory as no_memory};
+ghost use Rattle.machine_keep.specs.BothDisks.{FaultRose, FaultsAdvance, NoFault};
+ghost use Rattle.machine_keep.specs.Ends.{AddsSnapshot, PutsSnapshot, StillStands, StopsInSnapshot};
 
 use crate::fault::StepFault;
 use crate::machine::Machine;
@@ -28,19 +26,17 @@ pub fn put_snapshot<M: Machine, D: Disk>(
 ) -> Result<(), StepFault>
     requires ready { IsTrue (is_ready journal.old.pending) }
     ensures written { D.premise → OnOk result (StandsFor M.stands_for (M.state machine.now) (stored D.seen journal.new)) }
-    ensures stands { D.premise → StandsFor M.stands_for (M.state machine.now) (stored D.seen journal.old) → StandsFor M.stands_for (M.state machine.now) (stored D.seen journal.new) }
-    ensures adds { D.premise → Adds D.moment D.left_since journal.old journal.new
-        (Snapped D.seen M.stands_for (M.state machine.now) journal.old) }
+    ensures stands { D.premise → StillStands M.Machine D.Disk (M.state machine.now) journal.old journal.new }
+    ensures adds { D.premise → AddsSnapshot M.Machine D.Disk (M.state machine.now) journal.old journal.new }
     ensures empty { OnOk result (journal.new.end ≡ journal.new.start) }
     ensures ready { OnOk result (IsTrue (is_ready journal.new.pending)) }
     ensures unready { result ≡ Err disk_fault → is_ready journal.new.pending ≡ false }
     ensures put_off { result ≡ Err no_memory → SameButRoom journal.old journal.new }
-    ensures turned { OnOk result ((image : List ℕ) × IsSnapshotOf M.stands_for (M.state machine.now) journal.old.generation image × IsTurned image journal.old journal.new
-        × TellsIn D.told journal.old journal.new (image_calls journal.old (Some image))) }
-    ensures told_first { result ≡ Err disk_fault → (image : List ℕ) × IsSnapshotOf M.stands_for (M.state machine.now) journal.old.generation image × TellsSomeIn D.told D.disk_faults D.calls_advance journal.old journal.new (image_calls journal.old (Some image)) }
-    ensures later { (D.disk_faults (first_disk journal.old) ≤ D.disk_faults (first_disk journal.new)) × (D.disk_faults (second_disk journal.old) ≤ D.disk_faults (second_disk journal.new)) }
-    ensures no_fault { (result ≡ Err disk_fault → ⊥) → (D.disk_faults (first_disk journal.new) ≡ D.disk_faults (first_disk journal.old)) × (D.disk_faults (second_disk journal.new) ≡ D.disk_faults (second_disk journal.old)) }
-    ensures cause { result ≡ Err disk_fault → Rose (D.disk_faults (first_disk journal.old)) (D.disk_faults (first_disk journal.new)) ⊎ Rose (D.disk_faults (second_disk journal.old)) (D.disk_faults (second_disk journal.new)) }
+    ensures turned { OnOk result (PutsSnapshot M.Machine D.Disk (M.state machine.now) journal.old journal.new) }
+    ensures told_first { result ≡ Err disk_fault → StopsInSnapshot M.Machine D.Disk (M.state machine.now) journal.old journal.new }
+    ensures later { FaultsAdvance D.Disk journal.old journal.new }
+    ensures no_fault { (result ≡ Err disk_fault → ⊥) → NoFault D.Disk journal.old journal.new }
+    ensures cause { result ≡ Err disk_fault → FaultRose D.Disk journal.old journal.new }
     ensures calls_advance { WentOn D.calls_advance journal.old journal.new }
 {
     if journal.generation() == u64::MAX {

@@ -65,7 +65,8 @@ pub fn law_broken<M: Machine>()
         → StandsExcept M.stands_for M.record_of (M.state new.machine) new.journal.pending (stored seen_on new.journal) new.unsure
         → (first_disk new.journal).starved ≡ false → (second_disk new.journal).starved ≡ false
         → (held : Held M.State) × IsHeld M.state M.stands_for M.after new held × HasFaults new.journal (n + 1)
-        × (broken : Broken M.stands_for M.record_of M.answers M.follows M.after h (armed_at held 0) call) × HasMade old.journal new.journal (take (length (syncs h.ready) + broken.number) (schedule h)) }
+        × (broken : Broken M.stands_for M.record_of M.answers M.follows M.after h (armed_at held 0) call)
+        × HasMade old.journal new.journal (take (length (syncs h.ready) + broken.number) (schedule h)) }
 {
     law_stopped();
     law_faulted::<M>();

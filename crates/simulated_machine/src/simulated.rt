@@ -1,19 +1,18 @@
 //! A machine that is kept on two disks in memory, of each of which one call may be made to fail.
-ghost use Rattle.std.specs.Prelude.{◌≡◌, ◌⊎◌, ◌+◌, ◌-◌, ◌^◌, ◌<◌, ◌≤◌, ℕ, IfErr, IfOk, IfSome, IsTrue, None, Ok, List, OnErr, OnOk, Option, [], ◌∷◌, ◌++◌, false, length, not, take, true};
+ghost use Rattle.std.specs.Prelude.{◌≡◌, ◌⊎◌, ◌+◌, ◌-◌, ◌^◌, ◌<◌, ◌≤◌, ℕ, IfErr, IfOk, IfSome, IsTrue, None, Ok, OnErr, OnOk, Option, [], ◌++◌, false, not, true};
 ghost use Rattle.ps_disks.specs.Disk.{Only};
 ghost use Rattle.ps_disks.specs.Run.{IsArmed};
-ghost use Rattle.host_journal.specs.Pair.{pair_of};
 ghost use Rattle.host_journal.specs.State.{first_disk, is_ready, second_disk, stored};
 ghost use Rattle.machine_keep.specs.Faulted.{seen_on};
-ghost use Rattle.host_journal.specs.declared.reading.Counted.{Counted};
-ghost use Rattle.machine_keep.specs.Kept.{StandsEither, StandsFor};
-ghost use Rattle.machine_keep.specs.Refusal.{IsRefusedAt, StandsOf};
-ghost use Rattle.ps_ports.specs.Causes.{Rose, counted};
-ghost use Rattle.simulated_machine.specs.Crashed.{StandsAt, Stops, place_unsynced, state_unsynced};
-ghost use Rattle.simulated_machine.specs.Held.{Held, armed_at, configured, failing, fault_at, four, place_at, place_of, schedule, seven, syncs, with_snapshot};
-ghost use Rattle.simulated_machine.specs.IsHeld.{HasFaults, HasMade, Holds, IsHeld, held};
-ghost use Rattle.simulated_machine.specs.AfterStep.{Broken, Done, SyncFailed, unsynced_disk_broken, unsynced_disk_still};
+ghost use Rattle.simulated_machine.specs.Crashed.{StandsAt};
+ghost use Rattle.simulated_machine.specs.Held.{armed_at, configured, failing, fault_at, four, place_of, seven, syncs};
+ghost use Rattle.simulated_machine.specs.IsHeld.{HasFaults, Holds};
+ghost use Rattle.simulated_machine.specs.AfterStep.{SyncFailed, unsynced_disk_broken, unsynced_disk_still};
 ghost use Rattle.simulated_machine.specs.declared.simulated.Stepped.TheVariants.{Answered, Faulted};
+ghost use Rattle.machine_keep.specs.Began.{IfNotAJournal, IsRefusedOf, StandsForNone, StandsInEither};
+ghost use Rattle.machine_keep.specs.BothDisks.{FaultRoseOn};
+ghost use Rattle.machine_keep.specs.InMemory.{seen_pair};
+ghost use Rattle.simulated_machine.specs.Said.{HoldsDone, HoldsFaulted, LiesByForm, StandsUnsynced, StepBroken, StepDone, StopsBehindSyncs, held_by};
 
 use crate::law::{law_broken, law_done, law_sync_failed};
 use host_journal::crash::crash_now;
@@ -44,15 +43,12 @@ fn step_of<M: Machine>(
     call: M::Call,
 ) -> Result<Stepped<M::Reply>, Memory>
     requires may { M.may_ask (M.fixed (M.state keep.old.machine)) call }
-    ensures done { (reply : M.Reply) → result ≡ Ok (Answered reply) → keep.old.put_off ≡ 0 → (h : Held M.State) → IsHeld M.state M.stands_for M.after keep.old h
-        → (held : Held M.State) × IsHeld M.state M.stands_for M.after keep.new held × Done M.stands_for M.record_of M.answers M.follows M.after h held call reply }
-    ensures no_fault { (reply : M.Reply) → result ≡ Ok (Answered reply) → (n : ℕ) → n + 2 < 2 ^ 64 → HasFaults keep.old.journal n → HasFaults keep.new.journal n }
+    ensures done { (reply : M.Reply) → result ≡ Ok (Answered reply) → keep.old.put_off ≡ 0 → HoldsDone M.Machine keep.old keep.new call reply }
+    ensures no_fault { (reply : M.Reply) → result ≡ Ok (Answered reply) → (n : ℕ) → n + 2 < 2 ^ 64 → HasFaults keep.old.journal n
+        → HasFaults keep.new.journal n }
     ensures fixed { M.fixed (M.state keep.new.machine) ≡ M.fixed (M.state keep.old.machine) }
     ensures made { IfOk result (λ stepped. keep.old.put_off ≡ 0 → keep.new.put_off ≡ 0) }
-    ensures faulted { result ≡ Ok Faulted → (h : Held M.State) (n : ℕ) → IsHeld M.state M.stands_for M.after keep.old h → HasFaults keep.old.journal n → n + 2 < 2 ^ 64 → h.place.snapshot + h.place.records ≤ 2 ^ 62
-        → (held : Held M.State) × IsHeld M.state M.stands_for M.after keep.new held × HasFaults keep.new.journal (n + 1)
-        × (((sync_failed : SyncFailed h held) × HasMade keep.old.journal keep.new.journal (take sync_failed.number (schedule h)))
-        ⊎ ((broken : Broken M.stands_for M.record_of M.answers M.follows M.after h held call) × HasMade keep.old.journal keep.new.journal (take (length (syncs h.ready) + broken.number) (schedule h)))) }
+    ensures faulted { result ≡ Ok Faulted → HoldsFaulted M.Machine keep.old keep.new call }
 {
     law_done::<M>();
     law_sync_failed::<M>();
@@ -135,21 +131,16 @@ impl<M: Machine + Drop> SimulatedMachine<M> {
     ) -> Result<SimulatedMachine<M>, OpenFault<MemoryDisk>>
         requires armed { IsArmed first 0 × IsArmed second 0 }
         requires faults { (first.faults ≡ 0) × (second.faults ≡ 0) }
-        ensures stands { IfOk result (λ simulated. StandsEither M.stands_for M.stood_for (held M.state M.after simulated).state (pair_of (⟦<MemoryDisk as Disk>⟧.seen first) (⟦<MemoryDisk as Disk>⟧.seen second))) }
-        ensures fixed { IfOk result (λ simulated. M.fixed (held M.state M.after simulated).state ≡ M.fixed_of origin) }
+        ensures stands { IfOk result (λ simulated. StandsInEither M.Machine (held_by M.Machine simulated).state (seen_pair first second)) }
+        ensures fixed { IfOk result (λ simulated. M.fixed (held_by M.Machine simulated).state ≡ M.fixed_of origin) }
         // No journal of that origin, in the words of `Keep::open`, and a fault only where a count of the disks rose.
-        ensures nothing { IfErr result (λ f. (at : _) → f.reason ≡ OpenReason.NotAJournal at → (s : M.State) → M.fixed s ≡ M.fixed_of origin
-            → StandsEither M.stands_for M.stood_for s (pair_of (⟦<MemoryDisk as Disk>⟧.seen first) (⟦<MemoryDisk as Disk>⟧.seen second)) → ⊥) }
-        ensures refused { IfErr result (λ f. (at : _) → f.reason ≡ OpenReason.NotAJournal at
-            → IsRefusedAt (StandsOf M.fixed (M.fixed_of origin) M.stands_for M.stood_for) (pair_of (⟦<MemoryDisk as Disk>⟧.seen first) (⟦<MemoryDisk as Disk>⟧.seen second)) at) }
-        ensures fault { IfErr result (λ f. f.reason ≡ OpenReason.DiskFault → Rose (counted first.faults) (counted f.first.faults) ⊎ Rose (counted second.faults) (counted f.second.faults)) }
+        ensures nothing { IfErr result (λ f. IfNotAJournal f.reason (λ _. StandsForNone M.Machine (M.fixed_of origin) (seen_pair first second))) }
+        ensures refused { IfErr result (λ f. IfNotAJournal f.reason (IsRefusedOf M.Machine (M.fixed_of origin) (seen_pair first second))) }
+        ensures fault { IfErr result (λ f. f.reason ≡ OpenReason.DiskFault → FaultRoseOn ⟦<MemoryDisk as Disk>⟧ first second f.first f.second) }
         // Where they lie: as they did, or, where their list was in the earlier form, with a snapshot alone on the other disk.
-        ensures place { IfOk result (λ simulated. (read : Counted) × (pair_of (⟦<MemoryDisk as Disk>⟧.seen first) (⟦<MemoryDisk as Disk>⟧.seen second) ≡ Ok read)
-            × ((StandsFor M.stands_for (held M.state M.after simulated).state (pair_of (⟦<MemoryDisk as Disk>⟧.seen first) (⟦<MemoryDisk as Disk>⟧.seen second)) × ((held M.state M.after simulated).place ≡ place_at read))
-            ⊎ (StandsFor M.stood_for (held M.state M.after simulated).state (pair_of (⟦<MemoryDisk as Disk>⟧.seen first) (⟦<MemoryDisk as Disk>⟧.seen second))
-            × ((image : List ℕ) × M.stands_for (image ∷ []) (held M.state M.after simulated).state × ((held M.state M.after simulated).place ≡ with_snapshot (place_at read) (length image)))))) }
-        ensures ready { IfOk result (λ simulated. ((held M.state M.after simulated).ready ≡ true) × ((held M.state M.after simulated).unsynced ≡ None)
-            × ((held M.state M.after simulated).first ≡ 0) × ((held M.state M.after simulated).second ≡ 0)) }
+        ensures place { IfOk result (λ simulated. LiesByForm M.Machine simulated first second) }
+        ensures ready { IfOk result (λ simulated. ((held_by M.Machine simulated).ready ≡ true) × ((held_by M.Machine simulated).unsynced ≡ None)
+            × ((held_by M.Machine simulated).first ≡ 0) × ((held_by M.Machine simulated).second ≡ 0)) }
     {
         let keep = match Keep::open(alloc, origin, first, second) {
             Ok(keep) => keep,
@@ -174,7 +165,7 @@ impl<M: Machine + Drop> SimulatedMachine<M> {
         requires faults { HasFaults keep.journal 0 }
         requires fed { ((first_disk keep.journal).starved ≡ false) × ((second_disk keep.journal).starved ≡ false) }
         requires reads { ((first_disk keep.journal).calls.failing ≡ []) × ((second_disk keep.journal).calls.failing ≡ []) }
-        ensures { held M.state M.after result
+        ensures { held_by M.Machine result
             ≡ record { state = M.state keep.machine; place = place_of (stored seen_on keep.journal); ready = true; unsynced = None; first = 0; second = 0 } }
     {
         keep.known();
@@ -201,13 +192,12 @@ impl<M: Machine + Drop> SimulatedMachine<M> {
         stop: u64,
         image: Image,
     ) -> Result<(MemoryDisk, MemoryDisk), Memory>
-        requires { M.may_ask (M.fixed (held M.state M.after self).state) call }
+        requires { M.may_ask (M.fixed (held_by M.Machine self).state) call }
         // At a sync of a step that follows a fault.
-        ensures sync_failed { (held M.state M.after self).ready ≡ false → stop ≤ 2 → IfOk result (λ disks. StandsAt M.stands_for
-            (state_unsynced (held M.state M.after self).state (held M.state M.after self).unsynced stop image) (place_unsynced (held M.state M.after self).place (held M.state M.after self).unsynced stop image)
-            (pair_of (⟦<MemoryDisk as Disk>⟧.seen disks.0) (⟦<MemoryDisk as Disk>⟧.seen disks.1))) }
-        ensures stops { ((held M.state M.after self).ready ≡ false → 2 < stop) → IfOk result (λ disks. Stops M.stands_for M.record_of M.answers M.follows M.after
-            (held M.state M.after self) call (stop - length (syncs (held M.state M.after self).ready)) image (pair_of (⟦<MemoryDisk as Disk>⟧.seen disks.0) (⟦<MemoryDisk as Disk>⟧.seen disks.1))) }
+        ensures sync_failed { (held_by M.Machine self).ready ≡ false → stop ≤ 2 → IfOk result (λ disks.
+            StandsUnsynced M.Machine self stop image (seen_pair disks.0 disks.1)) }
+        ensures stops { ((held_by M.Machine self).ready ≡ false → 2 < stop) → IfOk result (λ disks.
+            StopsBehindSyncs M.Machine self call stop image (seen_pair disks.0 disks.1)) }
         // No call of them is to fail, and a later crash leaves what they read.
         ensures no_fault { IfOk result (λ disks. IsArmed disks.0 0 × IsArmed disks.1 0) }
         ensures first { IfOk result (λ disks. Only (⟦<MemoryDisk as Disk>⟧.seen disks.0) (⟦<MemoryDisk as Disk>⟧.may_leave disks.0)) }
@@ -228,9 +218,7 @@ impl<M: Machine + Drop> SimulatedMachine<M> {
 
     /// Hands the disks back as a crash between two steps leaves them. `Memory` also stands for a disk for whose bytes there was none.
     pub fn crash_now(self, image: Image) -> Result<(MemoryDisk, MemoryDisk), Memory>
-        ensures left { IfOk result (λ disks. StandsAt M.stands_for
-            (state_unsynced (held M.state M.after self).state (held M.state M.after self).unsynced 0 image) (place_unsynced (held M.state M.after self).place (held M.state M.after self).unsynced 0 image)
-            (pair_of (⟦<MemoryDisk as Disk>⟧.seen disks.0) (⟦<MemoryDisk as Disk>⟧.seen disks.1))) }
+        ensures left { IfOk result (λ disks. StandsUnsynced M.Machine self 0 image (seen_pair disks.0 disks.1)) }
         // No call of them is to fail, and a later crash leaves what they read.
         ensures no_fault { IfOk result (λ disks. IsArmed disks.0 0 × IsArmed disks.1 0) }
         ensures first { IfOk result (λ disks. Only (⟦<MemoryDisk as Disk>⟧.seen disks.0) (⟦<MemoryDisk as Disk>⟧.may_leave disks.0)) }
@@ -248,8 +236,8 @@ impl<M: Machine + Drop> SimulatedMachine<M> {
 
     /// Hands the disks back, which stand as they read for the state that is held. `Memory`, where memory ever ran out.
     pub fn into_disks(self) -> Result<(MemoryDisk, MemoryDisk), Memory>
-        ensures stands { IfOk result (λ disks. StandsAt M.stands_for (held M.state M.after self).state (held M.state M.after self).place
-            (pair_of (⟦<MemoryDisk as Disk>⟧.seen disks.0) (⟦<MemoryDisk as Disk>⟧.seen disks.1))) }
+        ensures stands { IfOk result (λ disks. StandsAt M.stands_for (held_by M.Machine self).state (held_by M.Machine self).place
+            (seen_pair disks.0 disks.1)) }
         ensures first { IfOk result (λ disks. disks.0 ≡ first_disk self.keep.journal) }
         ensures second { IfOk result (λ disks. disks.1 ≡ second_disk self.keep.journal) }
     {
@@ -280,7 +268,7 @@ impl<M: Machine> SimulatedMachine<M> {
     /// The machine. After a fault it may lack a step that is kept; the next step finds that out.
     pub fn machine(&self) -> &M
         ensures machine { result.now ≡ self.now.keep.machine }
-        ensures state { (held M.state M.after self.now).ready ≡ true → M.state result.now ≡ (held M.state M.after self.now).state }
+        ensures state { (held_by M.Machine self.now).ready ≡ true → M.state result.now ≡ (held_by M.Machine self.now).state }
     {
         self.keep.known();
         self.keep.machine()
@@ -288,7 +276,7 @@ impl<M: Machine> SimulatedMachine<M> {
 
     /// Whether the last step met no fault.
     pub fn is_ready(&self) -> bool
-        ensures { result ≡ (held M.state M.after self.now).ready }
+        ensures { result ≡ (held_by M.Machine self.now).ready }
     {
         self.keep.is_ready()
     }
@@ -296,7 +284,7 @@ impl<M: Machine> SimulatedMachine<M> {
     /// Which of the calls that the next step makes is to fail, counted from 1 over both disks, where it makes as many; none, where
     /// none of the most that it makes. `Memory`, where memory ever ran out.
     pub fn fault_at(&self) -> Result<Option<u64>, Memory>
-        ensures { IfOk result (λ number. number ≡ fault_at (held M.state M.after self.now)) }
+        ensures { IfOk result (λ number. number ≡ fault_at (held_by M.Machine self.now)) }
     {
         if !self.is_fed {
             return Err(Memory);
@@ -308,7 +296,7 @@ impl<M: Machine> SimulatedMachine<M> {
     /// Lets one of the writes, cuts and syncs of each disk fail, numbered from 1 from now on, or none for 0. The first fault
     /// disarms both.
     pub fn fail_at(&mut self, call: u64)
-        ensures { held M.state M.after self.new ≡ armed_at (held M.state M.after self.old) call }
+        ensures { held_by M.Machine self.new ≡ armed_at (held_by M.Machine self.old) call }
     {
         self.keep.fail_at(Some(call));
     }
@@ -316,8 +304,8 @@ impl<M: Machine> SimulatedMachine<M> {
     /// Sets an origin again, as a configuration (`Keep::configure`). What is kept stays, and what is unsynced. `Memory`, where memory
     /// was ever missing.
     pub fn configure(&mut self, origin: M::Origin) -> Result<(), Memory>
-        requires { M.may_set (M.fixed (held M.state M.after self.old).state) (M.fixed_of origin) }
-        ensures set { OnOk result (held M.state M.after self.new ≡ configured M.with_fixed (M.fixed_of origin) (held M.state M.after self.old)) }
+        requires { M.may_set (M.fixed (held_by M.Machine self.old).state) (M.fixed_of origin) }
+        ensures set { OnOk result (held_by M.Machine self.new ≡ configured M.with_fixed (M.fixed_of origin) (held_by M.Machine self.old)) }
         ensures still { OnErr result (self.new ≡ self.old) }
     {
         if !self.is_fed {
@@ -331,10 +319,11 @@ impl<M: Machine> SimulatedMachine<M> {
     /// Makes a step, and keeps what it changes before it is answered. After a fault it first finds out what stands. `Memory` also
     /// stands for a snapshot that was put off, for a call of a disk that found no memory, and for more than 2^61 faults or bytes.
     pub fn step(&mut self, alloc: Global, call: M::Call) -> Result<Stepped<M::Reply>, Memory>
-        requires { M.may_ask (M.fixed (held M.state M.after self.old).state) call }
-        ensures done { (reply : M.Reply) → result ≡ Ok (Answered reply) → Done M.stands_for M.record_of M.answers M.follows M.after (held M.state M.after self.old) (held M.state M.after self.new) call reply }
-        ensures faulted { result ≡ Ok Faulted → SyncFailed (held M.state M.after self.old) (held M.state M.after self.new)
-            ⊎ Broken M.stands_for M.record_of M.answers M.follows M.after (held M.state M.after self.old) (held M.state M.after self.new) call }
+        requires { M.may_ask (M.fixed (held_by M.Machine self.old).state) call }
+        ensures done { (reply : M.Reply) → result ≡ Ok (Answered reply)
+            → StepDone M.Machine (held_by M.Machine self.old) (held_by M.Machine self.new) call reply }
+        ensures faulted { result ≡ Ok Faulted → SyncFailed (held_by M.Machine self.old) (held_by M.Machine self.new)
+            ⊎ StepBroken M.Machine (held_by M.Machine self.old) (held_by M.Machine self.new) call }
     {
         if !self.is_fed || self.faults > MOST || self.most_bytes > MOST {
             drop(call);
