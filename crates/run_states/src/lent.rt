@@ -1,5 +1,5 @@
 //! Rows that are lent, one after another.
-ghost use Rattle.std.specs.Prelude.{◌≡◌, ◌<◌, ◌≤◌, ◌-◌, ◌+◌, ◌∷◌, Some, drop, false, length, not, slice_get, slice_index_or, true};
+ghost use Rattle.std.specs.Prelude.{◌≡◌, ◌<◌, ◌≤◌, ◌+◌, ◌∷◌, Some, drop, false, length, not, slice_get, slice_index_or, true};
 ghost use Rattle.std.specs.List.Sorted.{IsPartitionPoint};
 ghost use Rattle.std.specs.Option.{option_copied};
 ghost use Rattle.run_states.specs.Rows.{IsAscendingRows, is_above, rows_above};
@@ -53,13 +53,6 @@ impl<'a> LentRows<'a> {
         ensures { option_copied result ≡ slice_get self.now 0 }
     {
         self.rows.front()
-    }
-
-    /// The row with the greatest key.
-    pub fn greatest(&self) -> Option<&'a RunRow>
-        ensures { option_copied result ≡ slice_get self.now (length self.now - 1) }
-    {
-        self.rows.back()
     }
 
     /// Those above a key; all of them where there is none.

@@ -7,7 +7,7 @@ ghost use Rattle.run_states.specs.LawfulRow.{BringsResult, BringsResults, CanNot
 ghost use Rattle.std.specs.List.Sorted.{IsPartitionPoint};
 ghost use Rattle.run_states.specs.TaskRows.{greatest_number, is_before_task, is_of_task, newest_row, number_of, rows_of_task};
 ghost use Rattle.run_states.specs.Purging.{is_later, is_purgeable_key};
-ghost use Rattle.run_states.specs.Life.{confirm_row, close_row, marked_row, settled_rows, HasMoments};
+ghost use Rattle.run_states.specs.Life.{close_row, marked_row, settled_rows, HasMoments};
 ghost use Rattle.run_states.specs.Rows.{find_row, put_row, lift_row, change_row, is_below, IsAscendingRows, IsPlaceOf, IsGapFor};
 
 use crate::fact::Fact;
@@ -247,16 +247,6 @@ impl Rows {
         }
     }
 
-    /// Whether the row of the key is long past at the moment, so that the host of this number may purge it.
-    pub fn is_purgeable(&self, key: RunKey, host: u16, moment: Moment) -> bool
-        ensures { result ≡ is_purgeable_key host moment self.now.list key }
-    {
-        match self.search(key) {
-            Ok(at) => self.is_purgeable_at(at, host, moment),
-            Err(_) => false,
-        }
-    }
-
     /// Whether the row at a place, counted from 0, is long past at the moment, so that the host of this number may purge it.
     pub fn is_purgeable_at(&self, place: usize, host: u16, moment: Moment) -> bool
         requires { place < length self.now.list }
@@ -277,14 +267,6 @@ impl Rows {
         } else {
             false
         }
-    }
-
-    /// Sets the moment of the confirmation in the row of the key, if there is one, unless it has one.
-    pub fn confirm(&mut self, key: RunKey, moment: Moment)
-        ensures rows { self.new.list ≡ change_row (confirm_row moment) self.old.list key }
-        ensures room { self.new.room ≡ self.old.room }
-    {
-        self.mark(key, LifeStep::Confirm, moment);
     }
 
     /// Closes the row of the key, if there is one, unless it is closed.
