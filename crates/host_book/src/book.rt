@@ -5,7 +5,7 @@ ghost use Rattle.run_states.specs.Life.{settled_rows, HasMoments};
 ghost use Rattle.run_states.specs.ResultBytes.{result_bytes as bytes_of_rows};
 ghost use Rattle.part_core.specs.Reservations.{bookings_of};
 ghost use Rattle.host_model.specs.Apply.{apply, apply_all, book_after, settled};
-ghost use Rattle.host_model.specs.Book.{empty_book, epoch_of, find_task, last_limits};
+ghost use Rattle.host_model.specs.Book.{epoch_of, find_task, last_limits};
 ghost use Rattle.host_model.specs.Lawful.{Lawful};
 ghost use Rattle.host_model.specs.MayFollow.{CanApply, CanApplyAll};
 ghost use Rattle.host_model.specs.declared.task_row.TaskRow.{TaskRow as TaskSeen};
@@ -62,17 +62,6 @@ impl Drop for HostBook {
 }
 
 impl HostBook {
-    /// The empty book of the host with this number.
-    pub fn new(alloc: Global, number: u16) -> HostBook
-        ensures number { result.number ≡ number }
-        ensures book { result.book ≡ empty_book }
-    {
-        HostBook {
-            indexed: IndexedBook::new(alloc, number),
-            wakes: Vec::new(alloc),
-        }
-    }
-
     /// The book of these parts, with what is looked up in it, and places for no more. Rows that stand in the order of their
     /// keys are only appended.
     pub fn restore(alloc: Global, number: u16, parts: Parts) -> Result<HostBook, Memory>

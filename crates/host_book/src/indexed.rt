@@ -6,7 +6,7 @@ ghost use Rattle.run_states.specs.ResultBytes.{bytes_in, result_bytes as bytes_o
 ghost use Rattle.run_states.specs.Rows.{find_row};
 ghost use Rattle.part_core.specs.Reservations.{bookings_of};
 ghost use Rattle.host_model.specs.Apply.{apply, close_task, settled};
-ghost use Rattle.host_model.specs.Book.{empty_book, epoch_of, last_limits};
+ghost use Rattle.host_model.specs.Book.{epoch_of, last_limits};
 ghost use Rattle.host_model.specs.Effect.{states_due};
 ghost use Rattle.host_model.specs.Lawful.{Lawful};
 ghost use Rattle.host_model.specs.MayFollow.{CanApply};
@@ -93,22 +93,6 @@ impl Drop for IndexedBook {
 }
 
 impl IndexedBook {
-    /// The empty book of the host with this number.
-    pub(crate) fn new(alloc: Global, number: u16) -> IndexedBook
-        ensures number { result.number ≡ number }
-        ensures book { result.book ≡ empty_book }
-    {
-        IndexedBook {
-            number,
-            moment: 0,
-            epochs: Vec::new(alloc),
-            pairs: Pairs::new(alloc),
-            tasks: Vec::new(alloc),
-            ledger: Ledger::new(alloc, number),
-            timeline: Timeline::new(alloc),
-        }
-    }
-
     /// The book of these parts, with what is looked up in it, and places for no more. Rows that stand in the order of their
     /// keys are only appended.
     pub(crate) fn restore(alloc: Global, number: u16, parts: Parts) -> Result<IndexedBook, Memory>

@@ -11,4 +11,3 @@ pub mod input;
 pub mod limits;
 mod outcome;
 pub mod participant;
-pub mod settled_book;

@@ -1,31 +1,17 @@
 //! Canceling a task at its lead.
-ghost use Rattle.std.specs.Prelude.{◌≡◌, ◌&&◌, is_some, not, option_and_then, ℕ};
-ghost use Rattle.std.specs.Option.{option_copied, option_to_list};
+ghost use Rattle.std.specs.Prelude.{◌≡◌, ◌&&◌, is_some, not, option_and_then};
+ghost use Rattle.std.specs.Option.{option_to_list};
 ghost use Rattle.run_states.specs.Rows.{find_row};
 ghost use Rattle.run_states.specs.TaskRows.{is_of_task};
-ghost use Rattle.host_model.specs.Post.{cancel_run, cancel_task, close_unless};
-ghost use Rattle.host_model.specs.Book.{Book};
-ghost use Rattle.host_model.specs.declared.config.Config.{Config as Configured};
+ghost use Rattle.host_model.specs.Post.{cancel_run, close_unless};
 ghost use Rattle.lead_core.specs.Books.{book_of_rows};
 
 use host_model::change::Change;
-use host_model::reply::Reply;
 use host_model::task_row::TaskRow;
 use part_core::reading::Reading;
 use ps_time::key::RunKey;
 use run_states::row::RunRow;
 use run_states::why::Why;
-
-/// What canceling a task is answered: only who posted it may cancel it. Takes no memory.
-pub fn cancel_reply(task: Option<&TaskRow>, requester: &str) -> Reply
-    ensures { (c : Configured) (b : Book) (m : ℕ) → result ≡ (cancel_task c b m requester.now (option_copied task.entry)).reply }
-{
-    match task {
-        Some(task) if task.asker.requester.is(requester) => Reply::Canceled,
-        Some(_) => Reply::NotPoster,
-        None => Reply::NotFound,
-    }
-}
 
 /// What canceling changes in the task: it is closed, unless it is already. Takes no memory.
 pub fn close_task(task: &TaskRow) -> Option<Change>

@@ -8,4 +8,3 @@ pub mod decision;
 pub mod fit;
 pub mod reading;
 pub mod reservations;
-pub mod settled;
