@@ -29,14 +29,6 @@ impl Model for Pairs {
 }
 
 impl Pairs {
-    pub(crate) fn new(alloc: Global) -> Pairs
-        ensures { result.list ≡ [] }
-    {
-        Pairs {
-            pairs: TieredList::new(alloc),
-        }
-    }
-
     /// These pairs, which ascend by key.
     pub(crate) fn restore(alloc: Global, pairs: Items<(RunKey, u32)>) -> Result<Pairs, Memory>
         requires { IsAscendingPairs pairs }

@@ -1,4 +1,3 @@
 mod BookingLemmas
 mod CancelLemmas
-mod KeptLemmas
 pub mod WalkLemmas

@@ -1,6 +1,5 @@
--- What a host keeps in its book beside the rows, and the whole book.
-use Rattle.std.specs.Prelude.{◌≡◌, ◌≤◌, All, List, length, ℕ}
-use Rattle.ps_time.specs.Numbers.{most_tasks}
+-- What a host keeps in its book beside the rows.
+use Rattle.std.specs.Prelude.{All, List, ℕ}
 use Rattle.ps_time.specs.declared.key.RunKey.{RunKey}
 use Rattle.archive_retry.specs.Bounds.{IsPolicy}
 use Rattle.limit_apply.specs.Limits.{Config as Limits}
@@ -8,7 +7,6 @@ use Rattle.run_states.specs.declared.row.RunRow.{RunRow}
 use Rattle.task_spec.specs.declared.task.Archive.{Archive}
 use Rattle.host_model.specs.Book.{Book}
 use Rattle.host_model.specs.declared.task_row.TaskRow.{TaskRow}
-use Rattle.part_core.specs.Seen.{Seen}
 
 -- a book without its rows and its moment
 pub record Kept : Type 0 where
@@ -30,15 +28,3 @@ HasPolicy a = IsPolicy a.policy
 -- so are all archives of the task
 abbrev pub HasPolicies : TaskRow → Type 0
 HasPolicies t = All HasPolicy t.task.archives
-
--- what a settled book shows
-pub record WholeBook : Type 0 where
-  -- its rows at the moment, and the limits in force
-  pub seen : Seen
-  pub kept : Kept
-
--- these are the rows that are seen, and the tasks are within bounds
-pub record IsWhole (seen : Seen) (list : List RunRow) (tasks : List TaskRow) : Type 0 where
-  pub rows : list ≡ seen.rows
-  pub policies : All HasPolicies tasks
-  pub few : length tasks ≤ most_tasks

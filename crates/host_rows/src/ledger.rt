@@ -1,6 +1,6 @@
 //! Rows, with the bytes of their results, the moments from which they lapse, the keys of those that are live, and a moment before
 //! which none of the others may go.
-ghost use Rattle.std.specs.Prelude.{◌≡◌, ◌≤◌, ◌<◌, ◌+◌, ◌-◌, [], ◌∷◌, All, IfOk, IfSome, IsFalse, OnOk, None, drop, length, option_and_then, option_map, true};
+ghost use Rattle.std.specs.Prelude.{◌≡◌, ◌≤◌, ◌<◌, ◌+◌, ◌-◌, ◌∷◌, All, IfOk, IfSome, IsFalse, OnOk, None, drop, length, option_and_then, option_map, true};
 ghost use Rattle.run_states.specs.Effect.{noted_row};
 ghost use Rattle.run_states.specs.LawfulRow.{BringsResult, BringsResults};
 ghost use Rattle.run_states.specs.Life.{close_row, lapse_of, settled_rows, marked_row, HasMoments};
@@ -69,22 +69,6 @@ impl Model for Ledger {
 }
 
 impl Ledger {
-    /// No rows, for the host with this number.
-    pub fn new(alloc: Global, number: u16) -> Ledger
-        ensures number { result.number ≡ number }
-        ensures list { result.list ≡ [] }
-    {
-        Ledger {
-            rows: Rows::new(alloc),
-            bytes: 0,
-            deadlines: Deadlines::new(alloc),
-            number,
-            live: LiveKeys::new(alloc),
-            next_purge: Moment::MAX,
-            has_gone: false,
-        }
-    }
-
     /// These rows, which ascend by key, for the host with this number, and places for no more. Fails also where there are more than
     /// 2^32 of them.
     pub fn restore(alloc: Global, number: u16, rows: Items<RunRow>) -> Result<Ledger, Memory>

@@ -1,37 +1,26 @@
 -- What a decision reads of a book, and which keys it may ask about.
-use Rattle.std.specs.Prelude.{◌≡◌, ◌≤◌, All, IfSome, List, Option, false, find, if◌then◌else◌, nat_le, option_map, ℕ, ℤ}
+use Rattle.std.specs.Prelude.{◌≡◌, IfSome, List, Option, false, find, if◌then◌else◌, nat_le, option_map, ℕ, ℤ}
 use Rattle.ps_time.specs.Span.{Span}
 use Rattle.ps_time.specs.declared.class.Class.{Class}
 use Rattle.ps_time.specs.declared.key.RunKey.{RunKey}
-use Rattle.ps_time.specs.declared.moment.TheConstants.{MAX_MOMENT}
 use Rattle.plugin_core.specs.TestSpec.{test_class}
 use Rattle.limit_apply.specs.Limits.{Config as Limits}
 use Rattle.run_states.specs.Content.{kept_proposal, same_content}
-use Rattle.run_states.specs.Life.{HasMoments, first, is_booked}
+use Rattle.run_states.specs.Life.{first, is_booked}
 use Rattle.run_states.specs.Preemption.{conflicts, firm_conflict}
 use Rattle.run_states.specs.ResultBytes.{result_bytes}
-use Rattle.run_states.specs.Rows.{IsAscendingRows, find_row}
+use Rattle.run_states.specs.Rows.{find_row}
 use Rattle.run_states.specs.declared.proposal.Proposal.{Proposal}
 use Rattle.run_states.specs.declared.row.RunRow.{RunRow}
 use Rattle.run_states.specs.declared.why.Denial.{Denial}
 use Rattle.run_states.specs.declared.why.Denial.TheVariants.{Differs, Past}
 use Rattle.host_timeline.specs.Booking.{is_after}
-use Rattle.host_timeline.specs.declared.booking.Booking.{Booking}
 use Rattle.host_model.specs.Book.{keys_of_rows}
 use Rattle.host_model.specs.Fits.{Place, conflict_denial, limits_denial, unless, verdict_of, wanted_span}
 use Rattle.host_model.specs.Propose.{decided_known}
 use Rattle.host_model.specs.declared.config.Config.{Config}
 use Rattle.host_model.specs.declared.part.Decision.{Decision}
 use Rattle.host_model.specs.declared.part.Decision.TheVariants.{Denied}
-use Rattle.part_core.specs.Reservations.{bookings_of}
-
--- rows that are settled at a moment, and the limits in force with the number of their epoch, 0 where there is none
-pub record Seen : Type 0 where
-  -- in seconds since 1970 UTC
-  pub moment : ℕ
-  pub rows : List RunRow
-  pub limits : Limits
-  pub epoch : ℕ
 
 -- what a proposal of this lead is decided by at a host, besides its rows
 abbrev pub place_in : Config → List ℕ → Limits → List RunRow → Place
@@ -59,11 +48,3 @@ later_objection l rows m p =
 -- what a proposal with these participants comes to where the row has its key
 abbrev pub decided_with : RunRow → List (List ℕ) → Proposal → Decision
 decided_with r names p = if same_content r p names then decided_known r r.closed else Denied (Differs (kept_proposal r) p)
-
--- rows at a moment, with exactly what the booked ones reserve, and the bytes of their results
-pub record IsSeen (m : ℕ) (rows : List RunRow) (bookings : List Booking) (bytes : ℕ) : Type 0 where
-  pub moment : m ≤ MAX_MOMENT
-  pub ascending : IsAscendingRows rows
-  pub moments : All HasMoments rows
-  pub index : bookings ≡ bookings_of rows
-  pub kept : bytes ≡ result_bytes rows
