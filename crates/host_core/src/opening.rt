@@ -25,16 +25,16 @@ use std::alloc::Global;
 
 /// What a host does first after it was opened: the limits of its configuration become the first epoch of a book that has
 /// none, unless they are too long to be kept, and every run that was going on ends without success.
-pub fn open_host<R: Showing>(alloc: Global, rows: &R, config: &Config) -> Result<Outcome, Memory>
-    requires epoch { R.latest rows.now ≡ length (R.kept rows.now).epochs }
-    requires lawful { Lawful config.now.number (book_of (R.at rows.now) (R.seen rows.now) (R.kept rows.now)) }
-    ensures { IfOk result (λ o. o ≡ open_host config.now (book_of (R.at rows.now) (R.seen rows.now) (R.kept rows.now)) (R.at rows.now)) }
+pub fn open_host<R: Showing>(alloc: Global, book: &R, config: &Config) -> Result<Outcome, Memory>
+    requires epoch { R.latest book.now ≡ length (R.kept book.now).epochs }
+    requires lawful { Lawful config.now.number (book_of (R.at book.now) (R.seen book.now) (R.kept book.now)) }
+    ensures { IfOk result (λ o. o ≡ open_host config.now (book_of (R.at book.now) (R.seen book.now) (R.kept book.now)) (R.at book.now)) }
 {
-    let is_new = rows.epoch() == 0;
+    let is_new = book.epoch() == 0;
     if is_new && is_too_long(&config.limits) {
         return Ok(refused(alloc, config.limits.text().len()));
     }
-    let list = open_changes(alloc, rows, config, is_new)?;
+    let list = open_changes(alloc, book, config, is_new)?;
     changed(list)
 }
 
@@ -69,16 +69,16 @@ fn changed(list: Items<Change>) -> Result<Outcome, Memory>
 
 fn open_changes<R: Showing>(
     alloc: Global,
-    rows: &R,
+    book: &R,
     config: &Config,
     is_new: bool,
 ) -> Result<Items<Change>, Memory>
-    requires new { is_new ≡ (length (R.kept rows.now).epochs == 0) }
-    requires lawful { Lawful config.now.number (book_of (R.at rows.now) (R.seen rows.now) (R.kept rows.now)) }
-    ensures { IfOk result (λ list. list ≡ open_changes config.now (book_of (R.at rows.now) (R.seen rows.now) (R.kept rows.now)) (R.at rows.now)) }
+    requires new { is_new ≡ (length (R.kept book.now).epochs == 0) }
+    requires lawful { Lawful config.now.number (book_of (R.at book.now) (R.seen book.now) (R.kept book.now)) }
+    ensures { IfOk result (λ list. list ≡ open_changes config.now (book_of (R.at book.now) (R.seen book.now) (R.kept book.now)) (R.at book.now)) }
 {
     let mut list = first_limits(alloc, &config.limits, is_new)?;
-    add_restarts(alloc, rows, config, &mut list)?;
+    add_restarts(alloc, book, config, &mut list)?;
     Ok(list)
 }
 
@@ -96,17 +96,17 @@ fn first_limits(alloc: Global, limits: &Limits, is_new: bool) -> Result<Items<Ch
 // Adds the end of each active run: a walk from one run to the next.
 fn add_restarts<R: Showing>(
     alloc: Global,
-    rows: &R,
+    book: &R,
     config: &Config,
     list: &mut Items<Change>,
 ) -> Result<(), Memory>
-    requires { Lawful config.now.number (book_of (R.at rows.now) (R.seen rows.now) (R.kept rows.now)) }
-    ensures list { OnOk result (list.new ≡ list.old ++ filter_map (restart_at config.now (book_of (R.at rows.now) (R.seen rows.now) (R.kept rows.now))) (keys_of_rows (R.seen rows.now))) }
-    ensures ascending { IsAscendingRows (R.seen rows.now) }
+    requires { Lawful config.now.number (book_of (R.at book.now) (R.seen book.now) (R.kept book.now)) }
+    ensures list { OnOk result (list.new ≡ list.old ++ filter_map (restart_at config.now (book_of (R.at book.now) (R.seen book.now) (R.kept book.now))) (keys_of_rows (R.seen book.now))) }
+    ensures ascending { IsAscendingRows (R.seen book.now) }
 {
     let mut last = None;
-    while let Some(key) = rows.next_row(last) {
-        if let Some(change) = restart_at(alloc, rows, config, key)? {
+    while let Some(key) = book.next_row(last) {
+        if let Some(change) = restart_at(alloc, book, config, key)? {
             list.push(change)?;
         }
         last = Some(key);
@@ -116,14 +116,14 @@ fn add_restarts<R: Showing>(
 
 fn restart_at<R: Showing>(
     alloc: Global,
-    rows: &R,
+    book: &R,
     config: &Config,
     key: RunKey,
 ) -> Result<Option<Change>, Memory>
-    requires { Lawful config.now.number (book_of (R.at rows.now) (R.seen rows.now) (R.kept rows.now)) }
-    ensures { IfOk result (λ change. change ≡ restart_at config.now (book_of (R.at rows.now) (R.seen rows.now) (R.kept rows.now)) key) }
+    requires { Lawful config.now.number (book_of (R.at book.now) (R.seen book.now) (R.kept book.now)) }
+    ensures { IfOk result (λ change. change ≡ restart_at config.now (book_of (R.at book.now) (R.seen book.now) (R.kept book.now)) key) }
 {
-    match rows.find(key) {
+    match book.find(key) {
         Some(row) => restart_run(alloc, config, row),
         None => Ok(None),
     }

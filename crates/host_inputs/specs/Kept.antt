@@ -1,4 +1,4 @@
--- What a host keeps in its book beside the rows, and the whole book.
+-- What a host keeps in its book beside the rows.
 use Rattle.std.specs.Prelude.{All, List, ℕ}
 use Rattle.ps_time.specs.declared.key.RunKey.{RunKey}
 use Rattle.archive_retry.specs.Bounds.{IsPolicy}

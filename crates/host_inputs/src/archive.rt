@@ -23,18 +23,18 @@ use task_spec::task::Archive;
 /// What an attempt at an archive comes to: how far it has come now. One that isn't due stays as it is.
 pub fn try_archive<R: Hosting>(
     alloc: Global,
-    rows: &R,
+    book: &R,
     key: RunKey,
     index: u8,
     good: bool,
     retry: Option<Length>,
 ) -> Result<Outcome, Memory>
     requires { IfSome retry (λ r. r ≤ MAX_LENGTH) }
-    ensures { IfOk result (λ o. o ≡ try_archive (book_of (R.at rows.now) (R.seen rows.now) (R.kept rows.now)) (R.at rows.now) key index good retry) }
+    ensures { IfOk result (λ o. o ≡ try_archive (book_of (R.at book.now) (R.seen book.now) (R.kept book.now)) (R.at book.now) key index good retry) }
 {
-    match (state_at(rows, key, index), archive_at(rows, key, index)) {
+    match (state_at(book, key, index), archive_at(book, key, index)) {
         (Some(state), Some(archive)) => {
-            let moment = rows.moment();
+            let moment = book.moment();
             if !due(&state, moment) {
                 return Ok(answered(alloc, Reply::Archive(state)));
             }
@@ -56,10 +56,10 @@ fn tried_to(alloc: Global, key: RunKey, index: u8, state: ArchiveState) -> Resul
 }
 
 // Its state, where the run is merged and has that archive.
-fn state_at<R: Reading>(rows: &R, key: RunKey, index: u8) -> Option<ArchiveState>
-    ensures { result ≡ option_and_then (λ r. state_at_index r index) (find_row (R.seen rows.now) key) }
+fn state_at<R: Reading>(book: &R, key: RunKey, index: u8) -> Option<ArchiveState>
+    ensures { result ≡ option_and_then (λ r. state_at_index r index) (find_row (R.seen book.now) key) }
 {
-    let row = rows.find(key)?;
+    let row = book.find(key)?;
     if row.merged.is_none() {
         return None;
     }
@@ -68,11 +68,11 @@ fn state_at<R: Reading>(rows: &R, key: RunKey, index: u8) -> Option<ArchiveState
 }
 
 // The archive of the run's task.
-fn archive_at<R: Hosting>(rows: &R, key: RunKey, index: u8) -> Option<&Archive>
-    ensures archive { option_copied result ≡ slice_get (archives_of (R.kept rows.now).tasks key) index }
+fn archive_at<R: Hosting>(book: &R, key: RunKey, index: u8) -> Option<&Archive>
+    ensures archive { option_copied result ≡ slice_get (archives_of (R.kept book.now).tasks key) index }
     ensures policy { IfSome (option_copied result) HasPolicy }
 {
-    let task = rows.task(key.task)?;
+    let task = book.task(key.task)?;
     let archives = task.task.archives.as_slice();
     archives.get(usize::from(index))
 }

@@ -45,7 +45,7 @@ pub const LAST_BOOKING: u32 = 4_294_967_295;
 /// there is none. It is decided as a proposal of this host to itself.
 pub fn book_run<R: Hosting>(
     alloc: Global,
-    rows: &R,
+    book: &R,
     config: &Config,
     class: Class,
     priority: i16,
@@ -56,17 +56,17 @@ pub fn book_run<R: Hosting>(
     requires start { start ≤ MAX_MOMENT }
     requires some { 1 ≤ duration }
     requires short { duration ≤ MAX_LENGTH }
-    requires limits { limits_in config.now (book_of (R.at rows.now) (R.seen rows.now) (R.kept rows.now)) ≡ R.in_force rows.now }
-    requires epoch { length (R.kept rows.now).epochs ≡ R.latest rows.now }
-    ensures { IfOk result (λ o. o ≡ book_run config.now (book_of (R.at rows.now) (R.seen rows.now) (R.kept rows.now)) (R.at rows.now) class priority start duration) }
+    requires limits { limits_in config.now (book_of (R.at book.now) (R.seen book.now) (R.kept book.now)) ≡ R.in_force book.now }
+    requires epoch { length (R.kept book.now).epochs ≡ R.latest book.now }
+    ensures { IfOk result (λ o. o ≡ book_run config.now (book_of (R.at book.now) (R.seen book.now) (R.kept book.now)) (R.at book.now) class priority start duration) }
 {
-    let last = rows.greatest_number(config.number, 0);
+    let last = book.greatest_number(config.number, 0);
     if last == LAST_BOOKING {
         let denial = Denial::Full(What::Numbers, u64::from(last));
         return Ok(answered(alloc, Reply::Denied(denial)));
     }
     let proposal = booking(alloc, config, last + 1, class, priority, start, duration)?;
-    decide_booking(alloc, rows, config, proposal)
+    decide_booking(alloc, book, config, proposal)
 }
 
 // A proposal of the host to itself.
@@ -147,20 +147,20 @@ fn booking_tool(class: Class) -> Tool
 // The booking is a new run, so it fits, or there is a reason why not.
 fn decide_booking<R: Hosting>(
     alloc: Global,
-    rows: &R,
+    book: &R,
     config: &Config,
     proposal: Proposal,
 ) -> Result<Outcome, Memory>
     requires test { IsTest proposal.test }
     requires start { proposal.start ≤ MAX_MOMENT }
-    requires new { find_row (R.seen rows.now) proposal.key ≡ None }
-    requires ascending { IsAscendingRows (R.seen rows.now) }
-    requires limits { limits_in config.now (book_of (R.at rows.now) (R.seen rows.now) (R.kept rows.now)) ≡ R.in_force rows.now }
-    requires epoch { length (R.kept rows.now).epochs ≡ R.latest rows.now }
-    ensures { IfOk result (λ o. o ≡ booked_as config.now (book_of (R.at rows.now) (R.seen rows.now) (R.kept rows.now)) (R.at rows.now) proposal) }
+    requires new { find_row (R.seen book.now) proposal.key ≡ None }
+    requires ascending { IsAscendingRows (R.seen book.now) }
+    requires limits { limits_in config.now (book_of (R.at book.now) (R.seen book.now) (R.kept book.now)) ≡ R.in_force book.now }
+    requires epoch { length (R.kept book.now).epochs ≡ R.latest book.now }
+    ensures { IfOk result (λ o. o ≡ booked_as config.now (book_of (R.at book.now) (R.seen book.now) (R.kept book.now)) (R.at book.now) proposal) }
 {
-    match decide(alloc, rows, config, config.name.as_str(), &proposal)? {
-        Decision::New => booked(alloc, rows, config, proposal),
+    match decide(alloc, book, config, config.name.as_str(), &proposal)? {
+        Decision::New => booked(alloc, book, config, proposal),
         Decision::Known(_) => unreachable!(),
         Decision::Denied(denial) => {
             drop(proposal);
@@ -172,20 +172,20 @@ fn decide_booking<R: Hosting>(
 // It is accepted and confirmed.
 fn booked<R: Hosting>(
     alloc: Global,
-    rows: &R,
+    book: &R,
     config: &Config,
     proposal: Proposal,
 ) -> Result<Outcome, Memory>
     requires test { IsTest proposal.test }
     requires start { proposal.start ≤ MAX_MOMENT }
-    requires unbooked { IsUnbooked proposal.key (R.seen rows.now) }
-    requires ascending { IsAscendingRows (R.seen rows.now) }
-    requires epoch { length (R.kept rows.now).epochs ≡ R.latest rows.now }
-    ensures { IfOk result (λ o. o ≡ booking_outcome config.now (book_of (R.at rows.now) (R.seen rows.now) (R.kept rows.now)) proposal None) }
+    requires unbooked { IsUnbooked proposal.key (R.seen book.now) }
+    requires ascending { IsAscendingRows (R.seen book.now) }
+    requires epoch { length (R.kept book.now).epochs ≡ R.latest book.now }
+    ensures { IfOk result (λ o. o ≡ booking_outcome config.now (book_of (R.at book.now) (R.seen book.now) (R.kept book.now)) proposal None) }
 {
     let key = proposal.key;
-    let preempted = preempted_keys(alloc, rows, &proposal)?;
-    let list = booked_changes(alloc, rows, config, proposal)?;
+    let preempted = preempted_keys(alloc, book, &proposal)?;
+    let list = booked_changes(alloc, book, config, proposal)?;
     Ok(Outcome {
         reply: Reply::Booked { key, preempted },
         list,
@@ -194,15 +194,15 @@ fn booked<R: Hosting>(
 
 fn booked_changes<R: Reading>(
     alloc: Global,
-    rows: &R,
+    book: &R,
     config: &Config,
     proposal: Proposal,
 ) -> Result<Items<Change>, Memory>
-    ensures { IfOk result (λ list. list ≡ Accepted proposal (participants proposal.test config.now.name) (R.latest rows.now) ∷ Confirmed proposal.key ∷ []) }
+    ensures { IfOk result (λ list. list ≡ Accepted proposal (participants proposal.test config.now.name) (R.latest book.now) ∷ Confirmed proposal.key ∷ []) }
 {
     let key = proposal.key;
     let mut list = Vec::with_capacity(alloc, 2)?;
-    list.push(acceptance(alloc, rows, config.name.as_str(), proposal)?)?;
+    list.push(acceptance(alloc, book, config.name.as_str(), proposal)?)?;
     list.push(Change::Confirmed(key))?;
     Ok(Items::from_vec(list))
 }
@@ -210,17 +210,17 @@ fn booked_changes<R: Reading>(
 /// The change that accepts a run of this lead, under the limits in force.
 pub fn acceptance<R: Reading>(
     alloc: Global,
-    rows: &R,
+    book: &R,
     lead: &str,
     proposal: Proposal,
 ) -> Result<Change, Memory>
-    ensures { IfOk result (λ change. change ≡ Accepted proposal (participants proposal.test lead.now) (R.latest rows.now)) }
+    ensures { IfOk result (λ change. change ≡ Accepted proposal (participants proposal.test lead.now) (R.latest book.now)) }
 {
     let participants = participants_of(alloc, &proposal.test, lead)?;
     Ok(Change::Accepted {
         proposal: Boxed::new(alloc, proposal)?,
         participants,
-        epoch: rows.epoch(),
+        epoch: book.epoch(),
     })
 }
 
@@ -228,19 +228,19 @@ pub fn acceptance<R: Reading>(
 /// other row.
 pub fn preempted_keys<R: Reading>(
     alloc: Global,
-    rows: &R,
+    book: &R,
     proposal: &Proposal,
 ) -> Result<Items<RunKey>, Memory>
     requires test { IsTest proposal.now.test }
     requires start { proposal.now.start ≤ MAX_MOMENT }
-    requires unbooked { IsUnbooked proposal.now.key (R.seen rows.now) }
-    requires ascending { IsAscendingRows (R.seen rows.now) }
-    ensures { IfOk result (λ keys. keys ≡ preempted_keys (R.seen rows.now) proposal.now) }
+    requires unbooked { IsUnbooked proposal.now.key (R.seen book.now) }
+    requires ascending { IsAscendingRows (R.seen book.now) }
+    ensures { IfOk result (λ keys. keys ≡ preempted_keys (R.seen book.now) proposal.now) }
 {
     let interval = wanted_interval(proposal);
     conflicts(
         alloc,
-        rows,
+        book,
         proposal.key,
         class_of(&proposal.test),
         &interval,
@@ -249,18 +249,18 @@ pub fn preempted_keys<R: Reading>(
 
 fn conflicts<R: Reading>(
     alloc: Global,
-    rows: &R,
+    book: &R,
     run: RunKey,
     class: Class,
     interval: &Interval,
 ) -> Result<Items<RunKey>, Memory>
-    requires unbooked { IsUnbooked run (R.seen rows.now) }
-    requires ascending { IsAscendingRows (R.seen rows.now) }
-    ensures { IfOk result (λ keys. keys ≡ keys_of_rows (conflicts run class interval.now (R.seen rows.now))) }
+    requires unbooked { IsUnbooked run (R.seen book.now) }
+    requires ascending { IsAscendingRows (R.seen book.now) }
+    ensures { IfOk result (λ keys. keys ≡ keys_of_rows (conflicts run class interval.now (R.seen book.now))) }
 {
     let mut keys = Items::new(alloc);
     let mut last = None;
-    while let Some(key) = rows.next_conflict(run, class, interval, last) {
+    while let Some(key) = book.next_conflict(run, class, interval, last) {
         keys.push(key)?;
         last = Some(key);
     }

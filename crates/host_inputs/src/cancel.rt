@@ -20,16 +20,16 @@ use std::alloc::Global;
 /// its runs that are neither started nor closed.
 pub fn cancel<R: Hosting>(
     alloc: Global,
-    rows: &R,
+    book: &R,
     config: &Config,
     serial: u32,
     requester: &str,
 ) -> Result<Outcome, Memory>
-    ensures { IfOk result (λ o. o ≡ cancel config.now (book_of (R.at rows.now) (R.seen rows.now) (R.kept rows.now)) (R.at rows.now) serial requester.now) }
+    ensures { IfOk result (λ o. o ≡ cancel config.now (book_of (R.at book.now) (R.seen book.now) (R.kept book.now)) (R.at book.now) serial requester.now) }
 {
-    match rows.task(serial) {
+    match book.task(serial) {
         Some(task) if task.asker.requester.is(requester) => {
-            let list = cancel_changes(alloc, rows, config.number, task)?;
+            let list = cancel_changes(alloc, book, config.number, task)?;
             Ok(Outcome {
                 reply: Reply::Canceled,
                 list,
@@ -42,30 +42,30 @@ pub fn cancel<R: Hosting>(
 
 fn cancel_changes<R: Hosting>(
     alloc: Global,
-    rows: &R,
+    book: &R,
     lead: u16,
     task: &TaskRow,
 ) -> Result<Items<Change>, Memory>
-    ensures { IfOk result (λ list. list ≡ cancel_changes lead (book_of (R.at rows.now) (R.seen rows.now) (R.kept rows.now)) (R.at rows.now) task.now) }
+    ensures { IfOk result (λ list. list ≡ cancel_changes lead (book_of (R.at book.now) (R.seen book.now) (R.kept book.now)) (R.at book.now) task.now) }
 {
     let mut list = listed(alloc, close_task(task))?;
-    cancel_runs(rows, lead, task.serial, &mut list)?;
+    cancel_runs(book, lead, task.serial, &mut list)?;
     Ok(list)
 }
 
 // Adds what changes in the runs of the task: a walk from one to the next, which looks at no other row.
 fn cancel_runs<R: Hosting>(
-    rows: &R,
+    book: &R,
     lead: u16,
     serial: u32,
     list: &mut Items<Change>,
 ) -> Result<(), Memory>
-    ensures list { OnOk result (list.new ≡ list.old ++ canceled_runs lead serial (R.seen rows.now) (runs_of_task lead serial (R.seen rows.now))) }
-    ensures ascending { IsAscendingRows (R.seen rows.now) }
+    ensures list { OnOk result (list.new ≡ list.old ++ canceled_runs lead serial (R.seen book.now) (runs_of_task lead serial (R.seen book.now))) }
+    ensures ascending { IsAscendingRows (R.seen book.now) }
 {
     let mut last = None;
-    while let Some(key) = rows.next_of_task(lead, serial, last) {
-        if let Some(change) = cancel_run(rows, lead, serial, key) {
+    while let Some(key) = book.next_of_task(lead, serial, last) {
+        if let Some(change) = cancel_run(book, lead, serial, key) {
             list.push(change)?;
         }
         last = Some(key);

@@ -33,15 +33,15 @@ use task_spec::task::Task;
 /// every input but a turn, an opening and a page. Nothing changes but by the changes that it gives.
 pub fn answer_input<R: Hosting>(
     alloc: Global,
-    rows: &R,
+    book: &R,
     config: &Config,
     input: Input,
 ) -> Result<Outcome, Memory>
     requires name { is_name config.now.name ≡ true }
     requires bounds { IsInput config.now input }
     requires answerable { IsAnswerable input }
-    requires book { IsBookOf config.now (R.seen rows.now) (R.in_force rows.now) (R.latest rows.now) (book_of (R.at rows.now) (R.seen rows.now) (R.kept rows.now)) }
-    ensures { IfOk result (λ o. o ≡ outcome_of config.now (R.at rows.now) (book_of (R.at rows.now) (R.seen rows.now) (R.kept rows.now)) input) }
+    requires book { IsBookOf config.now (R.seen book.now) (R.in_force book.now) (R.latest book.now) (book_of (R.at book.now) (R.seen book.now) (R.kept book.now)) }
+    ensures { IfOk result (λ o. o ≡ outcome_of config.now (R.at book.now) (book_of (R.at book.now) (R.seen book.now) (R.kept book.now)) input) }
 {
     match input {
         Input::Book {
@@ -49,44 +49,44 @@ pub fn answer_input<R: Hosting>(
             priority,
             start,
             length,
-        } => book_run(alloc, rows, config, class, priority, start, length),
-        Input::Post { task, requester } => post_task(alloc, rows, config, task, requester),
+        } => book_run(alloc, book, config, class, priority, start, length),
+        Input::Post { task, requester } => post_task(alloc, book, config, task, requester),
         Input::Cancel { task, requester } => {
-            cancel(alloc, rows, config, task, requester.as_str())
+            cancel(alloc, book, config, task, requester.as_str())
         }
-        Input::Free { sender, question } => free_of(alloc, rows, config, sender, question),
-        Input::Propose { sender, proposal } => propose(alloc, rows, config, sender, proposal),
-        Input::Confirm { sender, key } => confirm(alloc, rows, config, sender, key),
-        Input::Drop { sender, key } => drop_run(alloc, rows, config, sender, key),
-        Input::Collect { sender, key } => collect(alloc, rows, config, sender, key),
-        Input::Material { sender, key, .. } => hear_material(alloc, rows, config, sender, key),
-        Input::Heard { order, answer } => hear_answer(alloc, rows, order, answer),
+        Input::Free { sender, question } => free_of(alloc, book, config, sender, question),
+        Input::Propose { sender, proposal } => propose(alloc, book, config, sender, proposal),
+        Input::Confirm { sender, key } => confirm(alloc, book, config, sender, key),
+        Input::Drop { sender, key } => drop_run(alloc, book, config, sender, key),
+        Input::Collect { sender, key } => collect(alloc, book, config, sender, key),
+        Input::Material { sender, key, .. } => hear_material(alloc, book, config, sender, key),
+        Input::Heard { order, answer } => hear_answer(alloc, book, order, answer),
         Input::Tried {
             key,
             index,
             good,
             retry,
-        } => try_archive(alloc, rows, key, index, good, retry),
-        Input::Limits(limits) => set_limits(alloc, rows, limits),
+        } => try_archive(alloc, book, key, index, good, retry),
+        Input::Limits(limits) => set_limits(alloc, book, limits),
         Input::View(_) | Input::Turn | Input::Open => unreachable!(),
     }
 }
 
 fn post_task<R: Hosting>(
     alloc: Global,
-    rows: &R,
+    book: &R,
     config: &Config,
     task: Task,
     requester: Text,
 ) -> Result<Outcome, Memory>
-    requires { IsBookOf config.now (R.seen rows.now) (R.in_force rows.now) (R.latest rows.now) (book_of (R.at rows.now) (R.seen rows.now) (R.kept rows.now)) }
-    ensures { IfOk result (λ o. o ≡ posted config.now (book_of (R.at rows.now) (R.seen rows.now) (R.kept rows.now)) (R.at rows.now) task requester) }
+    requires { IsBookOf config.now (R.seen book.now) (R.in_force book.now) (R.latest book.now) (book_of (R.at book.now) (R.seen book.now) (R.kept book.now)) }
+    ensures { IfOk result (λ o. o ≡ posted config.now (book_of (R.at book.now) (R.seen book.now) (R.kept book.now)) (R.at book.now) task requester) }
 {
     post(
         alloc,
-        rows,
+        book,
         config,
-        rows.task_count(),
+        book.task_count(),
         task,
         requester.as_str(),
     )
@@ -94,24 +94,24 @@ fn post_task<R: Hosting>(
 
 fn free_of<R: Hosting>(
     alloc: Global,
-    rows: &R,
+    book: &R,
     config: &Config,
     sender: u16,
     question: Question,
 ) -> Result<Outcome, Memory>
     requires { IsTest question.test }
-    ensures { IfOk result (λ o. o ≡ free_outcome config.now (book_of (R.at rows.now) (R.seen rows.now) (R.kept rows.now)) (R.at rows.now) sender question) }
+    ensures { IfOk result (λ o. o ≡ free_outcome config.now (book_of (R.at book.now) (R.seen book.now) (R.kept book.now)) (R.at book.now) sender question) }
 {
-    free(alloc, rows, config, sender, &question)
+    free(alloc, book, config, sender, &question)
 }
 
 fn hear_answer<R: Hosting>(
     alloc: Global,
-    rows: &R,
+    book: &R,
     order: Order,
     answer: PeerAnswer,
 ) -> Result<Outcome, Memory>
-    ensures { IfOk result (λ o. o ≡ heard (book_of (R.at rows.now) (R.seen rows.now) (R.kept rows.now)) order answer) }
+    ensures { IfOk result (λ o. o ≡ heard (book_of (R.at book.now) (R.seen book.now) (R.kept book.now)) order answer) }
 {
-    hear(alloc, rows, &order, answer)
+    hear(alloc, book, &order, answer)
 }

@@ -21,12 +21,12 @@ pub const MOST_EPOCHS: u32 = 256;
 
 /// What new limits come to: those of the latest epoch change nothing; others are refused for their length or for want of
 /// a place, or are a new epoch.
-pub fn set_limits<R: Hosting>(alloc: Global, rows: &R, limits: Limits) -> Result<Outcome, Memory>
-    requires { length (R.kept rows.now).epochs ≡ R.latest rows.now }
-    ensures { IfOk result (λ o. o ≡ set_limits (book_of (R.at rows.now) (R.seen rows.now) (R.kept rows.now)) limits) }
+pub fn set_limits<R: Hosting>(alloc: Global, book: &R, limits: Limits) -> Result<Outcome, Memory>
+    requires { length (R.kept book.now).epochs ≡ R.latest book.now }
+    ensures { IfOk result (λ o. o ≡ set_limits (book_of (R.at book.now) (R.seen book.now) (R.kept book.now)) limits) }
 {
-    let epoch = rows.epoch();
-    if is_latest(rows, &limits) {
+    let epoch = book.epoch();
+    if is_latest(book, &limits) {
         drop(limits);
         return Ok(answered(alloc, Reply::LimitsSet(epoch)));
     }
@@ -42,10 +42,10 @@ pub fn set_limits<R: Hosting>(alloc: Global, rows: &R, limits: Limits) -> Result
 }
 
 // Whether the limits are those of the latest epoch already.
-fn is_latest<R: Hosting>(rows: &R, limits: &Limits) -> bool
-    ensures { result ≡ is_latest (book_of (R.at rows.now) (R.seen rows.now) (R.kept rows.now)) limits.now }
+fn is_latest<R: Hosting>(book: &R, limits: &Limits) -> bool
+    ensures { result ≡ is_latest (book_of (R.at book.now) (R.seen book.now) (R.kept book.now)) limits.now }
 {
-    match rows.latest_limits() {
+    match book.latest_limits() {
         Some(latest) => latest.text() == limits.text(),
         None => false,
     }

@@ -55,34 +55,34 @@ fn find_peer(peers: &[Peer], number: u16) -> Option<&Peer>
 /// When this host is free for a run: only a participant answers.
 pub fn free<R: Reading>(
     alloc: Global,
-    rows: &R,
+    book: &R,
     config: &Config,
     sender: u16,
     question: &Question,
 ) -> Result<Outcome, Memory>
     requires { IsTest question.now.test }
-    ensures { IfOk result (λ o. o ≡ free config.now (book_of_rows (R.seen rows.now)) (R.at rows.now) sender question.now) }
+    ensures { IfOk result (λ o. o ≡ free config.now (book_of_rows (R.seen book.now)) (R.at book.now) sender question.now) }
 {
     match lead_name(config, sender, question.key) {
-        Some(lead) => free_here(alloc, rows, config, lead.as_str(), question),
+        Some(lead) => free_here(alloc, book, config, lead.as_str(), question),
         None => Ok(answered(alloc, Reply::NotLead)),
     }
 }
 
 fn free_here<R: Reading>(
     alloc: Global,
-    rows: &R,
+    book: &R,
     config: &Config,
     lead: &str,
     question: &Question,
 ) -> Result<Outcome, Memory>
     requires { IsTest question.now.test }
-    ensures { IfOk result (λ o. o ≡ free_here config.now (book_of_rows (R.seen rows.now)) (R.at rows.now) question.now lead.now) }
+    ensures { IfOk result (λ o. o ≡ free_here config.now (book_of_rows (R.seen book.now)) (R.at book.now) question.now lead.now) }
 {
     if !is_participant(&question.test, lead, config.name.as_str()) {
         return Ok(answered(alloc, Reply::Denied(Denial::NotParticipant)));
     }
-    let answer = answer_free(alloc, rows, config.installed.as_slice(), question)?;
+    let answer = answer_free(alloc, book, config.installed.as_slice(), question)?;
     Ok(answered(alloc, Reply::Free(answer)))
 }
 
@@ -90,19 +90,19 @@ fn free_here<R: Reading>(
 /// its moment, any other is denied with the first reason.
 pub fn propose<R: Hosting>(
     alloc: Global,
-    rows: &R,
+    book: &R,
     config: &Config,
     sender: u16,
     proposal: Proposal,
 ) -> Result<Outcome, Memory>
     requires test { IsTest proposal.test }
     requires start { proposal.start ≤ MAX_MOMENT }
-    requires limits { limits_in config.now (book_of (R.at rows.now) (R.seen rows.now) (R.kept rows.now)) ≡ R.in_force rows.now }
-    requires epoch { length (R.kept rows.now).epochs ≡ R.latest rows.now }
-    ensures { IfOk result (λ o. o ≡ propose config.now (book_of (R.at rows.now) (R.seen rows.now) (R.kept rows.now)) (R.at rows.now) sender proposal) }
+    requires limits { limits_in config.now (book_of (R.at book.now) (R.seen book.now) (R.kept book.now)) ≡ R.in_force book.now }
+    requires epoch { length (R.kept book.now).epochs ≡ R.latest book.now }
+    ensures { IfOk result (λ o. o ≡ propose config.now (book_of (R.at book.now) (R.seen book.now) (R.kept book.now)) (R.at book.now) sender proposal) }
 {
     match lead_name(config, sender, proposal.key) {
-        Some(lead) => decide_proposal(alloc, rows, config, lead.as_str(), proposal),
+        Some(lead) => decide_proposal(alloc, book, config, lead.as_str(), proposal),
         None => {
             drop(proposal);
             Ok(answered(alloc, Reply::NotLead))
@@ -112,37 +112,37 @@ pub fn propose<R: Hosting>(
 
 fn decide_proposal<R: Hosting>(
     alloc: Global,
-    rows: &R,
+    book: &R,
     config: &Config,
     lead: &str,
     proposal: Proposal,
 ) -> Result<Outcome, Memory>
     requires test { IsTest proposal.test }
     requires start { proposal.start ≤ MAX_MOMENT }
-    requires limits { limits_in config.now (book_of (R.at rows.now) (R.seen rows.now) (R.kept rows.now)) ≡ R.in_force rows.now }
-    requires epoch { length (R.kept rows.now).epochs ≡ R.latest rows.now }
-    ensures { IfOk result (λ o. o ≡ decided_outcome (book_of (R.at rows.now) (R.seen rows.now) (R.kept rows.now)) (R.at rows.now) lead.now proposal
-        (decide (place_of config.now (book_of (R.at rows.now) (R.seen rows.now) (R.kept rows.now)) lead.now) (R.seen rows.now) (R.at rows.now) proposal)) }
+    requires limits { limits_in config.now (book_of (R.at book.now) (R.seen book.now) (R.kept book.now)) ≡ R.in_force book.now }
+    requires epoch { length (R.kept book.now).epochs ≡ R.latest book.now }
+    ensures { IfOk result (λ o. o ≡ decided_outcome (book_of (R.at book.now) (R.seen book.now) (R.kept book.now)) (R.at book.now) lead.now proposal
+        (decide (place_of config.now (book_of (R.at book.now) (R.seen book.now) (R.kept book.now)) lead.now) (R.seen book.now) (R.at book.now) proposal)) }
 {
-    let decision = decide(alloc, rows, config, lead, &proposal)?;
-    decided(alloc, rows, lead, proposal, decision)
+    let decision = decide(alloc, book, config, lead, &proposal)?;
+    decided(alloc, book, lead, proposal, decision)
 }
 
 // What a decision on a proposal of this lead is answered, and changes.
 fn decided<R: Hosting>(
     alloc: Global,
-    rows: &R,
+    book: &R,
     lead: &str,
     proposal: Proposal,
     decision: Decision,
 ) -> Result<Outcome, Memory>
-    requires epoch { length (R.kept rows.now).epochs ≡ R.latest rows.now }
-    ensures { IfOk result (λ o. o ≡ decided_outcome (book_of (R.at rows.now) (R.seen rows.now) (R.kept rows.now)) (R.at rows.now) lead.now proposal decision) }
+    requires epoch { length (R.kept book.now).epochs ≡ R.latest book.now }
+    ensures { IfOk result (λ o. o ≡ decided_outcome (book_of (R.at book.now) (R.seen book.now) (R.kept book.now)) (R.at book.now) lead.now proposal decision) }
 {
     match decision {
         Decision::New => {
-            let list = one(alloc, acceptance(alloc, rows, lead, proposal)?)?;
-            let reply = Reply::Accepted(rows.moment());
+            let list = one(alloc, acceptance(alloc, book, lead, proposal)?)?;
+            let reply = Reply::Accepted(book.moment());
             Ok(Outcome { reply, list })
         }
         Decision::Known(accepted) => {
@@ -159,18 +159,18 @@ fn decided<R: Hosting>(
 /// What a confirmation comes to.
 pub fn confirm<R: Reading>(
     alloc: Global,
-    rows: &R,
+    book: &R,
     config: &Config,
     sender: u16,
     key: RunKey,
 ) -> Result<Outcome, Memory>
-    ensures { IfOk result (λ o. o ≡ confirm config.now (book_of_rows (R.seen rows.now)) (R.at rows.now) sender key) }
+    ensures { IfOk result (λ o. o ≡ confirm config.now (book_of_rows (R.seen book.now)) (R.at book.now) sender key) }
 {
     if lead_name(config, sender, key).is_none() {
         return Ok(answered(alloc, Reply::NotLead));
     }
-    let list = listed(alloc, confirm_change(rows, key))?;
-    let reply = part_reply(confirm_reply(alloc, rows, key)?);
+    let list = listed(alloc, confirm_change(book, key))?;
+    let reply = part_reply(confirm_reply(alloc, book, key)?);
     Ok(Outcome { reply, list })
 }
 
@@ -188,49 +188,49 @@ fn part_reply(reply: PartReply) -> Reply
 /// What a cancellation by the lead comes to.
 pub fn drop_run<R: Reading>(
     alloc: Global,
-    rows: &R,
+    book: &R,
     config: &Config,
     sender: u16,
     key: RunKey,
 ) -> Result<Outcome, Memory>
-    ensures { IfOk result (λ o. o ≡ drop_run config.now (book_of_rows (R.seen rows.now)) sender key) }
+    ensures { IfOk result (λ o. o ≡ drop_run config.now (book_of_rows (R.seen book.now)) sender key) }
 {
     if lead_name(config, sender, key).is_none() {
         return Ok(answered(alloc, Reply::NotLead));
     }
-    let list = listed(alloc, cancel_change(rows, key))?;
-    let reply = part_reply(cancel(rows, key));
+    let list = listed(alloc, cancel_change(book, key))?;
+    let reply = part_reply(cancel(book, key));
     Ok(Outcome { reply, list })
 }
 
 /// What a question for this host's result is answered.
 pub fn collect<R: Reading>(
     alloc: Global,
-    rows: &R,
+    book: &R,
     config: &Config,
     sender: u16,
     key: RunKey,
 ) -> Result<Outcome, Memory>
-    ensures { IfOk result (λ o. o ≡ collect config.now (book_of_rows (R.seen rows.now)) (R.at rows.now) sender key) }
+    ensures { IfOk result (λ o. o ≡ collect config.now (book_of_rows (R.seen book.now)) (R.at book.now) sender key) }
 {
     if lead_name(config, sender, key).is_none() {
         return Ok(answered(alloc, Reply::NotLead));
     }
-    Ok(answered(alloc, result_of(alloc, rows, key)?))
+    Ok(answered(alloc, result_of(alloc, book, key)?))
 }
 
 /// What material that comes is answered, and changes.
 pub fn hear_material<R: Reading>(
     alloc: Global,
-    rows: &R,
+    book: &R,
     config: &Config,
     sender: u16,
     key: RunKey,
 ) -> Result<Outcome, Memory>
-    ensures { IfOk result (λ o. o ≡ hear_material config.now (book_of_rows (R.seen rows.now)) sender key) }
+    ensures { IfOk result (λ o. o ≡ hear_material config.now (book_of_rows (R.seen book.now)) sender key) }
 {
     if lead_name(config, sender, key).is_none() {
         return Ok(answered(alloc, Reply::NotLead));
     }
-    material_at(alloc, rows, key)
+    material_at(alloc, book, key)
 }

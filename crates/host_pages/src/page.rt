@@ -31,13 +31,13 @@ use task_spec::task::Archive;
 /// there is no such test, task or run.
 pub fn show<R: Showing>(
     alloc: Global,
-    rows: &R,
+    book: &R,
     config: &Config,
     page: Page,
 ) -> Result<Outcome, Memory>
-    ensures { IfOk result (λ o. o ≡ shown (view_of config.now (book_of (R.at rows.now) (R.seen rows.now) (R.kept rows.now)) (R.at rows.now) page)) }
+    ensures { IfOk result (λ o. o ≡ shown (view_of config.now (book_of (R.at book.now) (R.seen book.now) (R.kept book.now)) (R.at book.now) page)) }
 {
-    let view = view_of(alloc, rows, config, page)?;
+    let view = view_of(alloc, book, config, page)?;
     shown(alloc, view)
 }
 
@@ -56,25 +56,25 @@ fn shown(alloc: Global, view: Option<View>) -> Result<Outcome, Memory>
 
 fn view_of<R: Showing>(
     alloc: Global,
-    rows: &R,
+    book: &R,
     config: &Config,
     page: Page,
 ) -> Result<Option<View>, Memory>
-    ensures { IfOk result (λ view. view ≡ view_of config.now (book_of (R.at rows.now) (R.seen rows.now) (R.kept rows.now)) (R.at rows.now) page) }
+    ensures { IfOk result (λ view. view ≡ view_of config.now (book_of (R.at book.now) (R.seen book.now) (R.kept book.now)) (R.at book.now) page) }
 {
     match page {
         Page::Home => Ok(Some(View::Home)),
-        Page::Clock => Ok(Some(View::Clock(rows.moment()))),
+        Page::Clock => Ok(Some(View::Clock(book.moment()))),
         Page::Tests => Ok(Some(View::Tests)),
         Page::Tools => Ok(Some(View::Tools)),
         Page::Archivers => Ok(Some(View::Archivers)),
         Page::Test(name) => Ok(test_view(name)),
-        Page::Tasks => Ok(Some(View::Tasks(serials_of(alloc, rows.tasks())?))),
-        Page::Task(serial) => copied(alloc, rows.task(serial)),
-        Page::Runs(serial) => runs_view(alloc, rows, config.number, serial),
-        Page::Run(key) => run_view(alloc, rows, key),
+        Page::Tasks => Ok(Some(View::Tasks(serials_of(alloc, book.tasks())?))),
+        Page::Task(serial) => copied(alloc, book.task(serial)),
+        Page::Runs(serial) => runs_view(alloc, book, config.number, serial),
+        Page::Run(key) => run_view(alloc, book, key),
         Page::Schedule { start, end } => Ok(Some(View::Schedule(schedule_lines(
-            alloc, rows, start, end,
+            alloc, book, start, end,
         )?))),
     }
 }
@@ -112,44 +112,44 @@ fn copied(alloc: Global, task: Option<&TaskRow>) -> Result<Option<View>, Memory>
 
 fn runs_view<R: Showing>(
     alloc: Global,
-    rows: &R,
+    book: &R,
     lead: u16,
     serial: u32,
 ) -> Result<Option<View>, Memory>
-    ensures { IfOk result (λ view. view ≡ option_map (λ t. RunsView (runs_of lead (R.seen rows.now) serial)) (find_task (R.kept rows.now).tasks serial)) }
+    ensures { IfOk result (λ view. view ≡ option_map (λ t. RunsView (runs_of lead (R.seen book.now) serial)) (find_task (R.kept book.now).tasks serial)) }
 {
-    match rows.task(serial) {
-        Some(_) => Ok(Some(View::Runs(runs_of(alloc, rows, lead, serial)?))),
+    match book.task(serial) {
+        Some(_) => Ok(Some(View::Runs(runs_of(alloc, book, lead, serial)?))),
         None => Ok(None),
     }
 }
 
 fn runs_of<R: Showing>(
     alloc: Global,
-    rows: &R,
+    book: &R,
     lead: u16,
     serial: u32,
 ) -> Result<Items<RunKey>, Memory>
-    ensures { IfOk result (λ runs. runs ≡ runs_of lead (R.seen rows.now) serial) }
+    ensures { IfOk result (λ runs. runs ≡ runs_of lead (R.seen book.now) serial) }
 {
     let mut runs = Items::new(alloc);
-    add_runs(rows, lead, serial, &mut runs)?;
+    add_runs(book, lead, serial, &mut runs)?;
     Ok(runs)
 }
 
 // Adds those of the task's runs that have an interval: a walk from one to the next, which looks at no other row.
 fn add_runs<R: Showing>(
-    rows: &R,
+    book: &R,
     lead: u16,
     serial: u32,
     runs: &mut Items<RunKey>,
 ) -> Result<(), Memory>
-    ensures list { OnOk result (runs.new ≡ runs.old ++ filter_map (run_at (R.seen rows.now)) (runs_of_task lead serial (R.seen rows.now))) }
-    ensures ascending { IsAscendingRows (R.seen rows.now) }
+    ensures list { OnOk result (runs.new ≡ runs.old ++ filter_map (run_at (R.seen book.now)) (runs_of_task lead serial (R.seen book.now))) }
+    ensures ascending { IsAscendingRows (R.seen book.now) }
 {
     let mut last = None;
-    while let Some(key) = rows.next_of_task(lead, serial, last) {
-        if let Some(shown) = run_at(rows, key) {
+    while let Some(key) = book.next_of_task(lead, serial, last) {
+        if let Some(shown) = run_at(book, key) {
             runs.push(shown)?;
         }
         last = Some(key);
@@ -157,10 +157,10 @@ fn add_runs<R: Showing>(
     Ok(())
 }
 
-fn run_at<R: Showing>(rows: &R, key: RunKey) -> Option<RunKey>
-    ensures { result ≡ run_at (R.seen rows.now) key }
+fn run_at<R: Showing>(book: &R, key: RunKey) -> Option<RunKey>
+    ensures { result ≡ run_at (R.seen book.now) key }
 {
-    let row = rows.find(key)?;
+    let row = book.find(key)?;
     if row.interval.is_some() {
         Some(row.key)
     } else {
@@ -168,21 +168,21 @@ fn run_at<R: Showing>(rows: &R, key: RunKey) -> Option<RunKey>
     }
 }
 
-fn run_view<R: Showing>(alloc: Global, rows: &R, key: RunKey) -> Result<Option<View>, Memory>
-    ensures { IfOk result (λ view. view ≡ option_map (run_view (book_of (R.at rows.now) (R.seen rows.now) (R.kept rows.now)) (R.at rows.now)) (find_row (R.seen rows.now) key)) }
+fn run_view<R: Showing>(alloc: Global, book: &R, key: RunKey) -> Result<Option<View>, Memory>
+    ensures { IfOk result (λ view. view ≡ option_map (run_view (book_of (R.at book.now) (R.seen book.now) (R.kept book.now)) (R.at book.now)) (find_row (R.seen book.now) key)) }
 {
-    match rows.find(key) {
-        Some(row) => Ok(Some(shown_run(alloc, rows, row)?)),
+    match book.find(key) {
+        Some(row) => Ok(Some(shown_run(alloc, book, row)?)),
         None => Ok(None),
     }
 }
 
-fn shown_run<R: Showing>(alloc: Global, rows: &R, row: &RunRow) -> Result<View, Memory>
+fn shown_run<R: Showing>(alloc: Global, book: &R, row: &RunRow) -> Result<View, Memory>
     requires { HasMoments row.now }
-    ensures { IfOk result (λ view. view ≡ run_view (book_of (R.at rows.now) (R.seen rows.now) (R.kept rows.now)) (R.at rows.now) row.now) }
+    ensures { IfOk result (λ view. view ≡ run_view (book_of (R.at book.now) (R.seen book.now) (R.kept book.now)) (R.at book.now) row.now) }
 {
-    let archivers = archivers_of(alloc, rows, row)?;
-    let state = state_name(row, rows.moment());
+    let archivers = archivers_of(alloc, book, row)?;
+    let state = state_name(row, book.moment());
     Ok(View::Run {
         row: row.copy(alloc)?,
         archivers,
@@ -190,13 +190,13 @@ fn shown_run<R: Showing>(alloc: Global, rows: &R, row: &RunRow) -> Result<View, 
     })
 }
 
-fn archivers_of<R: Showing>(alloc: Global, rows: &R, row: &RunRow) -> Result<Items<Text>, Memory>
-    ensures { IfOk result (λ names. names ≡ archivers_of (book_of (R.at rows.now) (R.seen rows.now) (R.kept rows.now)) row.now) }
+fn archivers_of<R: Showing>(alloc: Global, book: &R, row: &RunRow) -> Result<Items<Text>, Memory>
+    ensures { IfOk result (λ names. names ≡ archivers_of (book_of (R.at book.now) (R.seen book.now) (R.kept book.now)) row.now) }
 {
     if row.merged.is_none() {
         return Ok(Items::new(alloc));
     }
-    match rows.task(row.key.task) {
+    match book.task(row.key.task) {
         Some(task) => names_of(alloc, task.task.archives.as_slice()),
         None => Ok(Items::new(alloc)),
     }

@@ -22,31 +22,31 @@ use std::cmp::Ordering;
 /// The runs that overlap the interval from start to end, by start, then by end, then by key.
 pub(crate) fn schedule_lines<R: Showing>(
     alloc: Global,
-    rows: &R,
+    book: &R,
     start: Moment,
     end: Moment,
 ) -> Result<Items<Line>, Memory>
-    ensures { IfOk result (λ lines. lines ≡ schedule_lines (R.seen rows.now) (R.at rows.now) (record { start = start; end = end })) }
+    ensures { IfOk result (λ lines. lines ≡ schedule_lines (R.seen book.now) (R.at book.now) (record { start = start; end = end })) }
 {
     let mut lines = Vec::new(alloc);
-    add_lines(rows, start, end, &mut lines)?;
+    add_lines(book, start, end, &mut lines)?;
     sort(&mut lines)?;
     Ok(Items::from_vec(lines))
 }
 
 // Adds the line of each run that overlaps: a walk from one run to the next.
 fn add_lines<R: Showing>(
-    rows: &R,
+    book: &R,
     start: Moment,
     end: Moment,
     lines: &mut Vec<Line>,
 ) -> Result<(), Memory>
-    ensures list { OnOk result (lines.new.items ≡ lines.old.items ++ filter_map (line_at (R.at rows.now) (record { start = start; end = end }) (R.seen rows.now)) (keys_of_rows (R.seen rows.now))) }
-    ensures ascending { IsAscendingRows (R.seen rows.now) }
+    ensures list { OnOk result (lines.new.items ≡ lines.old.items ++ filter_map (line_at (R.at book.now) (record { start = start; end = end }) (R.seen book.now)) (keys_of_rows (R.seen book.now))) }
+    ensures ascending { IsAscendingRows (R.seen book.now) }
 {
     let mut last = None;
-    while let Some(key) = rows.next_row(last) {
-        if let Some(line) = line_at(rows, start, end, key) {
+    while let Some(key) = book.next_row(last) {
+        if let Some(line) = line_at(book, start, end, key) {
             lines.push(line)?;
         }
         last = Some(key);
@@ -54,11 +54,11 @@ fn add_lines<R: Showing>(
     Ok(())
 }
 
-fn line_at<R: Showing>(rows: &R, start: Moment, end: Moment, key: RunKey) -> Option<Line>
-    ensures { result ≡ line_at (R.at rows.now) (record { start = start; end = end }) (R.seen rows.now) key }
+fn line_at<R: Showing>(book: &R, start: Moment, end: Moment, key: RunKey) -> Option<Line>
+    ensures { result ≡ line_at (R.at book.now) (record { start = start; end = end }) (R.seen book.now) key }
 {
-    let row = rows.find(key)?;
-    line_of(row, start, end, rows.moment())
+    let row = book.find(key)?;
+    line_of(row, start, end, book.moment())
 }
 
 fn line_of(row: &RunRow, start: Moment, end: Moment, moment: Moment) -> Option<Line>

@@ -1,6 +1,6 @@
 //! Rows, with the bytes of their results, the moments from which they lapse, the keys of those that are live, and a moment before
 //! which none of the others may go.
-ghost use Rattle.std.specs.Prelude.{◌≡◌, ◌≤◌, ◌<◌, ◌+◌, ◌-◌, [], ◌∷◌, All, IfOk, IfSome, IsFalse, OnOk, None, drop, length, option_and_then, option_map, true};
+ghost use Rattle.std.specs.Prelude.{◌≡◌, ◌≤◌, ◌<◌, ◌+◌, ◌-◌, ◌∷◌, All, IfOk, IfSome, IsFalse, OnOk, None, drop, length, option_and_then, option_map, true};
 ghost use Rattle.run_states.specs.Effect.{noted_row};
 ghost use Rattle.run_states.specs.LawfulRow.{BringsResult, BringsResults};
 ghost use Rattle.run_states.specs.Life.{close_row, lapse_of, settled_rows, marked_row, HasMoments};

@@ -13,38 +13,38 @@ use ps_time::key::RunKey;
 use run_states::row::RunRow;
 
 /// The going of a row that is long past: one of this host's lead only where it is archived, and isn't the newest of its task.
-pub fn purge_run<R: Leading>(rows: &R, config: &Config, row: &RunRow) -> Option<Change>
-    requires { IsAscendingRows (R.seen rows.now) }
-    ensures { result ≡ purge_run config.now (R.at rows.now) (book_of_rows (R.seen rows.now)) row.now }
+pub fn purge_run<R: Leading>(book: &R, config: &Config, row: &RunRow) -> Option<Change>
+    requires { IsAscendingRows (R.seen book.now) }
+    ensures { result ≡ purge_run config.now (R.at book.now) (book_of_rows (R.seen book.now)) row.now }
 {
-    if is_purgeable(rows, config.number, row) {
+    if is_purgeable(book, config.number, row) {
         Some(Change::Purged(row.key))
     } else {
         None
     }
 }
 
-fn is_purgeable<R: Leading>(rows: &R, number: u16, row: &RunRow) -> bool
-    requires { IsAscendingRows (R.seen rows.now) }
-    ensures { result ≡ is_purgeable number (R.at rows.now) (R.seen rows.now) row.now }
+fn is_purgeable<R: Leading>(book: &R, number: u16, row: &RunRow) -> bool
+    requires { IsAscendingRows (R.seen book.now) }
+    ensures { result ≡ is_purgeable number (R.at book.now) (R.seen book.now) row.now }
 {
-    row.is_long_past(rows.moment()) && (row.key.lead != number || is_led_out(rows, row))
+    row.is_long_past(book.moment()) && (row.key.lead != number || is_led_out(book, row))
 }
 
 // Whether its lead has nothing more to do with it.
-fn is_led_out<R: Leading>(rows: &R, row: &RunRow) -> bool
-    requires { IsAscendingRows (R.seen rows.now) }
-    ensures { result ≡ is_led_out (R.seen rows.now) row.now }
+fn is_led_out<R: Leading>(book: &R, row: &RunRow) -> bool
+    requires { IsAscendingRows (R.seen book.now) }
+    ensures { result ≡ is_led_out (R.seen book.now) row.now }
 {
-    row.is_archived() && has_later(rows, row.key)
+    row.is_archived() && has_later(book, row.key)
 }
 
 // Whether a later row is of the same task: then the newest one is later.
-fn has_later<R: Leading>(rows: &R, key: RunKey) -> bool
-    requires { IsAscendingRows (R.seen rows.now) }
-    ensures { result ≡ list_any (λ s. is_later key s.key) (R.seen rows.now) }
+fn has_later<R: Leading>(book: &R, key: RunKey) -> bool
+    requires { IsAscendingRows (R.seen book.now) }
+    ensures { result ≡ list_any (λ s. is_later key s.key) (R.seen book.now) }
 {
-    match rows.newest(key.lead, key.task) {
+    match book.newest(key.lead, key.task) {
         Some(newest) => key.order(&newest.key).is_lt(),
         None => false,
     }

@@ -20,13 +20,13 @@ use run_states::row::RunRow;
 
 /// The start of a booked, confirmed run whose time has come, unless an active run hinders it. Of other runs it looks at
 /// those of these keys alone, which are enough where every run that hinders it is among them.
-pub fn start_run<R: Reading>(rows: &R, keys: &[RunKey], row: &RunRow) -> Option<Change>
-    requires hindering { HoldHindering (test_class row.now.test) keys.now (R.seen rows.now) }
-    requires ascending { IsAscendingRows (R.seen rows.now) }
-    ensures { result ≡ start_run (R.at rows.now) (book_of_rows (R.seen rows.now)) row.now }
+pub fn start_run<R: Reading>(book: &R, keys: &[RunKey], row: &RunRow) -> Option<Change>
+    requires hindering { HoldHindering (test_class row.now.test) keys.now (R.seen book.now) }
+    requires ascending { IsAscendingRows (R.seen book.now) }
+    ensures { result ≡ start_run (R.at book.now) (book_of_rows (R.seen book.now)) row.now }
 {
-    let moment = rows.moment();
-    if is_ready(row, moment) && !is_hindered(rows, keys, class_of(&row.test)) {
+    let moment = book.moment();
+    if is_ready(row, moment) && !is_hindered(book, keys, class_of(&row.test)) {
         Some(Change::Started(row.key))
     } else {
         None
@@ -53,20 +53,20 @@ fn may_start(interval: &Option<Interval>, moment: Moment) -> bool
     }
 }
 
-fn is_hindered<R: Reading>(rows: &R, keys: &[RunKey], class: Class) -> bool
-    requires hindering { HoldHindering class keys.now (R.seen rows.now) }
-    requires ascending { IsAscendingRows (R.seen rows.now) }
-    ensures { result ≡ is_hindered (R.seen rows.now) class }
+fn is_hindered<R: Reading>(book: &R, keys: &[RunKey], class: Class) -> bool
+    requires hindering { HoldHindering class keys.now (R.seen book.now) }
+    requires ascending { IsAscendingRows (R.seen book.now) }
+    ensures { result ≡ is_hindered (R.seen book.now) class }
 {
-    any_hinders(rows, keys, class)
+    any_hinders(book, keys, class)
 }
 
 // Whether an active run among these hinders one of this class.
-fn any_hinders<R: Reading>(rows: &R, keys: &[RunKey], class: Class) -> bool
-    ensures { result ≡ list_any (λ k. is_hindering class (find_row (R.seen rows.now) k)) keys.now }
+fn any_hinders<R: Reading>(book: &R, keys: &[RunKey], class: Class) -> bool
+    ensures { result ≡ list_any (λ k. is_hindering class (find_row (R.seen book.now) k)) keys.now }
 {
     for key in keys {
-        if is_hindering(rows.find(*key), class) {
+        if is_hindering(book.find(*key), class) {
             return true;
         }
     }

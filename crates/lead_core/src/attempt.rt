@@ -31,14 +31,14 @@ pub const LAST_ATTEMPT: u16 = 7;
 /// The next attempt of a task that this host leads: none while the task's newest row is neither confirmed nor closed,
 /// after a failure the same number again, half a minute later, else the first number that may still start in 5 s.
 /// The row is found by search; no other rows are looked at, and no memory is taken.
-pub fn next_attempt<R: Leading>(rows: &R, lead: u16, task: &TaskRow) -> Option<Attempt>
-    ensures { result ≡ next_attempt lead (R.seen rows.now) (R.at rows.now) task.now }
+pub fn next_attempt<R: Leading>(book: &R, lead: u16, task: &TaskRow) -> Option<Attempt>
+    ensures { result ≡ next_attempt lead (R.seen book.now) (R.at book.now) task.now }
 {
     if task.closed.is_some() {
         return None;
     }
-    let newest = rows.newest(lead, task.serial);
-    attempt_by(&task.task.rule, newest, rows.moment())
+    let newest = book.newest(lead, task.serial);
+    attempt_by(&task.task.rule, newest, book.moment())
 }
 
 /// The next attempt of a task that is open, by its newest row, if there is one. Takes no memory.

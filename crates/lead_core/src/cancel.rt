@@ -26,10 +26,10 @@ pub fn close_task(task: &TaskRow) -> Option<Change>
 
 /// What canceling this lead's task with this serial changes in the run of a key, where it is one of the task's: unless it
 /// is started or closed, it is closed. Takes no memory.
-pub fn cancel_run<R: Reading>(rows: &R, lead: u16, serial: u32, key: RunKey) -> Option<Change>
-    ensures { result ≡ option_and_then (cancel_run lead serial (book_of_rows (R.seen rows.now))) (find_row (R.seen rows.now) key) }
+pub fn cancel_run<R: Reading>(book: &R, lead: u16, serial: u32, key: RunKey) -> Option<Change>
+    ensures { result ≡ option_and_then (cancel_run lead serial (book_of_rows (R.seen book.now))) (find_row (R.seen book.now) key) }
 {
-    match rows.find(key) {
+    match book.find(key) {
         Some(row) if is_canceled(row, lead, serial) => Some(Change::Closed {
             key: row.key,
             why: Why::Canceled,

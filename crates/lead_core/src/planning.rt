@@ -37,18 +37,18 @@ use std::alloc::Global;
 /// against it itself. `task` is the run's task, where the host has it.
 pub fn plan_run<R: Reading>(
     alloc: Global,
-    rows: &R,
+    book: &R,
     config: &Config,
     task: Option<&TaskRow>,
     key: RunKey,
 ) -> Result<Option<Change>, Memory>
-    requires { IfSome (find_row (R.seen rows.now) key) MayPlan }
-    ensures { (b : Book) → IsBookOf config.now (R.seen rows.now) (R.in_force rows.now) (R.latest rows.now) b → find_task b.tasks key.task ≡ option_copied task.entry
-        → IfOk result (λ change. change ≡ option_and_then (plan_run config.now (R.at rows.now) b) (find_row b.rows key)) }
+    requires { IfSome (find_row (R.seen book.now) key) MayPlan }
+    ensures { (b : Book) → IsBookOf config.now (R.seen book.now) (R.in_force book.now) (R.latest book.now) b → find_task b.tasks key.task ≡ option_copied task.entry
+        → IfOk result (λ change. change ≡ option_and_then (plan_run config.now (R.at book.now) b) (find_row b.rows key)) }
 {
-    match rows.find(key) {
+    match book.find(key) {
         Some(row) if is_answered(row) => {
-            let change = plan_answered(alloc, rows, config, task, row)?;
+            let change = plan_answered(alloc, book, config, task, row)?;
             Ok(Some(change))
         }
         _ => Ok(None),
@@ -57,20 +57,20 @@ pub fn plan_run<R: Reading>(
 
 fn plan_answered<R: Reading>(
     alloc: Global,
-    rows: &R,
+    book: &R,
     config: &Config,
     task: Option<&TaskRow>,
     row: &RunRow,
 ) -> Result<Change, Memory>
     requires may { MayPlan row.now }
-    requires unbooked { IsUnbooked row.now.key (R.seen rows.now) }
-    ensures { (b : Book) → IsBookOf config.now (R.seen rows.now) (R.in_force rows.now) (R.latest rows.now) b → find_task b.tasks row.now.key.task ≡ option_copied task.entry
-        → IfOk result (λ change. change ≡ plan_asked config.now b (R.at rows.now) row.now row.now.question) }
+    requires unbooked { IsUnbooked row.now.key (R.seen book.now) }
+    ensures { (b : Book) → IsBookOf config.now (R.seen book.now) (R.in_force book.now) (R.latest book.now) b → find_task b.tasks row.now.key.task ≡ option_copied task.entry
+        → IfOk result (λ change. change ≡ plan_asked config.now b (R.at book.now) row.now row.now.question) }
 {
     match row.question {
         Some(window) => {
-            let planned = planned(alloc, rows, config, task, row, window)?;
-            change_of_plan(alloc, rows, config, row, planned)
+            let planned = planned(alloc, book, config, task, row, window)?;
+            change_of_plan(alloc, book, config, row, planned)
         }
         None => Ok(unplanned(row.key, Cause::NoSlot)),
     }
@@ -79,7 +79,7 @@ fn plan_answered<R: Reading>(
 // What the run comes to, with the lead's own answer of this moment.
 fn planned<R: Reading>(
     alloc: Global,
-    rows: &R,
+    book: &R,
     config: &Config,
     task: Option<&TaskRow>,
     row: &RunRow,
@@ -87,22 +87,22 @@ fn planned<R: Reading>(
 ) -> Result<Planned, Memory>
     requires may { MayPlan row.now }
     requires asked { row.now.question ≡ Some window }
-    ensures value { IfOk result (λ planned. planned ≡ planned_from config.now.installed (option_copied task.entry) row.now window (R.seen rows.now) (R.at rows.now)) }
+    ensures value { IfOk result (λ planned. planned ≡ planned_from config.now.installed (option_copied task.entry) row.now window (R.seen book.now) (R.at book.now)) }
     ensures in_time { IfOk result IsInTime }
 {
-    let own = own_answer(alloc, rows, config, row, window)?;
-    plan(alloc, wanted_tools(task), row, &own, rows.moment())
+    let own = own_answer(alloc, book, config, row, window)?;
+    plan(alloc, wanted_tools(task), row, &own, book.moment())
 }
 
 fn own_answer<R: Reading>(
     alloc: Global,
-    rows: &R,
+    book: &R,
     config: &Config,
     row: &RunRow,
     window: Window,
 ) -> Result<FreeAnswer, Memory>
     requires { MayPlan row.now }
-    ensures { IfOk result (λ answer. answer ≡ own_answer config.now (book_of_rows (R.seen rows.now)) (R.at rows.now) row.now window) }
+    ensures { IfOk result (λ answer. answer ≡ own_answer config.now (book_of_rows (R.seen book.now)) (R.at book.now) row.now window) }
 {
     let question = Question {
         key: row.key,
@@ -110,7 +110,7 @@ fn own_answer<R: Reading>(
         priority: row.priority,
         window,
     };
-    answer_free(alloc, rows, config.installed.as_slice(), &question)
+    answer_free(alloc, book, config.installed.as_slice(), &question)
 }
 
 // The tools that the task names.
@@ -125,19 +125,19 @@ fn wanted_tools(task: Option<&TaskRow>) -> &[Text]
 
 fn change_of_plan<R: Reading>(
     alloc: Global,
-    rows: &R,
+    book: &R,
     config: &Config,
     row: &RunRow,
     planned: Planned,
 ) -> Result<Change, Memory>
     requires may { MayPlan row.now }
     requires in_time { IsInTime planned }
-    requires unbooked { IsUnbooked row.now.key (R.seen rows.now) }
-    ensures { (b : Book) → IsBookOf config.now (R.seen rows.now) (R.in_force rows.now) (R.latest rows.now) b
-        → IfOk result (λ change. change ≡ change_of_plan config.now b (R.at rows.now) row.now planned) }
+    requires unbooked { IsUnbooked row.now.key (R.seen book.now) }
+    ensures { (b : Book) → IsBookOf config.now (R.seen book.now) (R.in_force book.now) (R.latest book.now) b
+        → IfOk result (λ change. change ≡ change_of_plan config.now b (R.at book.now) row.now planned) }
 {
     match planned {
-        Planned::At(start, tool) => accept(alloc, rows, config, row, start, tool),
+        Planned::At(start, tool) => accept(alloc, book, config, row, start, tool),
         Planned::NoTool => Ok(unplanned(row.key, Cause::NoTool)),
         Planned::NoSlot => Ok(unplanned(row.key, Cause::NoSlot)),
     }
@@ -155,7 +155,7 @@ fn unplanned(key: RunKey, cause: Cause) -> Change
 // The lead accepts the run, unless it objects itself.
 fn accept<R: Reading>(
     alloc: Global,
-    rows: &R,
+    book: &R,
     config: &Config,
     row: &RunRow,
     start: Moment,
@@ -163,18 +163,18 @@ fn accept<R: Reading>(
 ) -> Result<Change, Memory>
     requires may { MayPlan row.now }
     requires start { start ≤ MAX_MOMENT }
-    requires unbooked { IsUnbooked row.now.key (R.seen rows.now) }
-    ensures { IfOk result (λ change. change ≡ unless_objected_at config.now.name (R.latest rows.now) (planned_proposal row.now start tool)
-        (objection config.now.installed (R.in_force rows.now) (R.seen rows.now) (R.at rows.now) (planned_proposal row.now start tool))) }
+    requires unbooked { IsUnbooked row.now.key (R.seen book.now) }
+    ensures { IfOk result (λ change. change ≡ unless_objected_at config.now.name (R.latest book.now) (planned_proposal row.now start tool)
+        (objection config.now.installed (R.in_force book.now) (R.seen book.now) (R.at book.now) (planned_proposal row.now start tool))) }
 {
     let proposal = planned_proposal(alloc, row, start, tool)?;
-    match objection(alloc, rows, config.installed.as_slice(), &proposal)? {
+    match objection(alloc, book, config.installed.as_slice(), &proposal)? {
         Some(denial) => {
             let key = proposal.key;
             drop(proposal);
             object(alloc, config, key, denial)
         }
-        None => Ok(accepted(proposal, rows.epoch())),
+        None => Ok(accepted(proposal, book.epoch())),
     }
 }
 

@@ -31,52 +31,52 @@ pub const MOST_TASKS: u32 = 2_000;
 #[tactic(auto, using(crate::proofs::PostLemmas::posting_in))]
 pub fn post<R: Reading>(
     alloc: Global,
-    rows: &R,
+    book: &R,
     config: &Config,
     tasks: u32,
     task: Task,
     requester: &str,
 ) -> Result<Outcome, Memory>
-    ensures { (b : Book) → IsBookOf config.now (R.seen rows.now) (R.in_force rows.now) (R.latest rows.now) b → length b.tasks ≡ tasks
-        → IfOk result (λ outcome. outcome ≡ post config.now b (R.at rows.now) task requester.now) }
+    ensures { (b : Book) → IsBookOf config.now (R.seen book.now) (R.in_force book.now) (R.latest book.now) b → length b.tasks ≡ tasks
+        → IfOk result (λ outcome. outcome ≡ post config.now b (R.at book.now) task requester.now) }
 {
-    posted_at(alloc, rows, config, tasks, task, requester)
+    posted_at(alloc, book, config, tasks, task, requester)
 }
 
 // `post`, over the limits in force.
 fn posted_at<R: Reading>(
     alloc: Global,
-    rows: &R,
+    book: &R,
     config: &Config,
     tasks: u32,
     task: Task,
     requester: &str,
 ) -> Result<Outcome, Memory>
-    ensures { IfOk result (λ outcome. outcome ≡ post_at config.now (R.in_force rows.now) tasks (R.at rows.now) task requester.now) }
+    ensures { IfOk result (λ outcome. outcome ≡ post_at config.now (R.in_force book.now) tasks (R.at book.now) task requester.now) }
 {
     match unknown_host(alloc, config, &task.test)? {
         Some(name) => {
             drop(task);
             Ok(answered(alloc, Reply::UnknownHost(name)))
         }
-        None => admit(alloc, rows, config, tasks, task, requester),
+        None => admit(alloc, book, config, tasks, task, requester),
     }
 }
 
 // Only what the limits admit is kept.
 fn admit<R: Reading>(
     alloc: Global,
-    rows: &R,
+    book: &R,
     config: &Config,
     tasks: u32,
     task: Task,
     requester: &str,
 ) -> Result<Outcome, Memory>
-    ensures { IfOk result (λ outcome. outcome ≡ admitted_at (R.in_force rows.now) tasks (R.at rows.now) task (poster config.now requester.now)) }
+    ensures { IfOk result (λ outcome. outcome ≡ admitted_at (R.in_force book.now) tasks (R.at book.now) task (poster config.now requester.now)) }
 {
     let asker = poster(alloc, config, requester)?;
-    match rows.limits().admits(&asker, &task.test) {
-        Verdict::Permitted(_) => keep(alloc, rows, tasks, task, asker),
+    match book.limits().admits(&asker, &task.test) {
+        Verdict::Permitted(_) => keep(alloc, book, tasks, task, asker),
         verdict => {
             drop(task);
             drop(asker);
@@ -88,15 +88,15 @@ fn admit<R: Reading>(
 // As far as there is a place for one more.
 fn keep<R: Reading>(
     alloc: Global,
-    rows: &R,
+    book: &R,
     tasks: u32,
     task: Task,
     asker: Asker,
 ) -> Result<Outcome, Memory>
-    ensures { IfOk result (λ outcome. outcome ≡ unless_full_at (R.in_force rows.now) tasks (R.at rows.now) task asker) }
+    ensures { IfOk result (λ outcome. outcome ≡ unless_full_at (R.in_force book.now) tasks (R.at book.now) task asker) }
 {
     if tasks < MOST_TASKS {
-        posted(alloc, row_at(rows, tasks + 1, task, asker))
+        posted(alloc, row_at(book, tasks + 1, task, asker))
     } else {
         drop(task);
         drop(asker);
@@ -104,16 +104,16 @@ fn keep<R: Reading>(
     }
 }
 
-fn row_at<R: Reading>(rows: &R, serial: u32, task: Task, asker: Asker) -> TaskRow
-    ensures { result ≡ row_at (R.in_force rows.now) serial (R.at rows.now) task asker }
+fn row_at<R: Reading>(book: &R, serial: u32, task: Task, asker: Asker) -> TaskRow
+    ensures { result ≡ row_at (R.in_force book.now) serial (R.at book.now) task asker }
 {
-    let ceiling = rows.limits().ceiling(&asker);
+    let ceiling = book.limits().ceiling(&asker);
     let priority = task.priority.min(ceiling);
     TaskRow {
         serial,
         task: Task { priority, ..task },
         asker,
-        posted: rows.moment(),
+        posted: book.moment(),
         closed: None,
     }
 }

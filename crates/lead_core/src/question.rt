@@ -22,16 +22,16 @@ use std::alloc::Global;
 /// The question with which the next attempt of a task begins, if there is one and the book isn't full.
 pub fn ask<R: Leading>(
     alloc: Global,
-    rows: &R,
+    book: &R,
     config: &Config,
     task: &TaskRow,
 ) -> Result<Option<Change>, Memory>
-    ensures { IfOk result (λ change. change ≡ ask config.now (R.at rows.now) (book_of_rows (R.seen rows.now)) task.now) }
+    ensures { IfOk result (λ change. change ≡ ask config.now (R.at book.now) (book_of_rows (R.seen book.now)) task.now) }
 {
-    if is_full(rows) {
+    if is_full(book) {
         return Ok(None);
     }
-    match next_attempt(rows, config.number, task) {
+    match next_attempt(book, config.number, task) {
         Some(attempt) => {
             let change = asked(alloc, config, task, &attempt)?;
             Ok(Some(change))
@@ -41,10 +41,10 @@ pub fn ask<R: Leading>(
 }
 
 // Whether there is no place for more rows, or for more bytes of results.
-fn is_full<R: Leading>(rows: &R) -> bool
-    ensures { result ≡ is_some (full_denial (R.seen rows.now) (result_bytes (R.seen rows.now))) }
+fn is_full<R: Leading>(book: &R) -> bool
+    ensures { result ≡ is_some (full_denial (R.seen book.now) (result_bytes (R.seen book.now))) }
 {
-    full(rows).is_some()
+    full(book).is_some()
 }
 
 fn asked(

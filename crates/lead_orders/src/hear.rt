@@ -29,14 +29,14 @@ use std::alloc::Global;
 /// last one missing confirms the run, a denial or a loss closes it, and anything else changes nothing.
 pub fn hear<R: Reading>(
     alloc: Global,
-    rows: &R,
+    book: &R,
     order: &Order,
     answer: PeerAnswer,
 ) -> Result<Outcome, Memory>
-    ensures { IfOk result (λ outcome. outcome ≡ hear (book_of_rows (R.seen rows.now)) order.now answer) }
+    ensures { IfOk result (λ outcome. outcome ≡ hear (book_of_rows (R.seen book.now)) order.now answer) }
 {
     let said = meaning_of(&order.body, answer);
-    let change = match rows.find(order.key) {
+    let change = match book.find(order.key) {
         Some(row) => heard(alloc, row, order.place, said)?,
         None => {
             drop(said);

@@ -25,28 +25,28 @@ pub const MOST_ORDERS: usize = 64;
 /// The orders of the host's runs by key, then by place, then in the order of their kinds: the first 64. The keys, which
 /// ascend, are those of all rows that may have orders, and maybe others; no other row is looked at.
 #[tactic(auto, using(crate::proofs::ListingLemmas::listing_of))]
-pub fn orders<R: Reading>(alloc: Global, rows: &R, keys: &[RunKey]) -> Result<Items<Order>, Memory>
-    requires rows { IsAscendingRows (R.seen rows.now) }
+pub fn orders<R: Reading>(alloc: Global, book: &R, keys: &[RunKey]) -> Result<Items<Order>, Memory>
+    requires rows { IsAscendingRows (R.seen book.now) }
     requires ascending { AreAscending keys.now }
-    requires named { HaveOrders (R.at rows.now) keys.now (R.seen rows.now) }
-    requires few { All HasFewOthers (R.seen rows.now) }
-    ensures { IfOk result (λ orders. orders ≡ orders_of (R.seen rows.now) (R.at rows.now)) }
+    requires named { HaveOrders (R.at book.now) keys.now (R.seen book.now) }
+    requires few { All HasFewOthers (R.seen book.now) }
+    ensures { IfOk result (λ orders. orders ≡ orders_of (R.seen book.now) (R.at book.now)) }
 {
-    orders_at(alloc, rows, keys)
+    orders_at(alloc, book, keys)
 }
 
 #[tactic(auto, using(crate::proofs::ListingLemmas::full))]
-fn orders_at<R: Reading>(alloc: Global, rows: &R, keys: &[RunKey]) -> Result<Items<Order>, Memory>
-    requires { All HasFewOthers (R.seen rows.now) }
-    ensures { IfOk result (λ orders. orders ≡ orders_at (R.at rows.now) keys.now (R.seen rows.now)) }
+fn orders_at<R: Reading>(alloc: Global, book: &R, keys: &[RunKey]) -> Result<Items<Order>, Memory>
+    requires { All HasFewOthers (R.seen book.now) }
+    ensures { IfOk result (λ orders. orders ≡ orders_at (R.at book.now) keys.now (R.seen book.now)) }
 {
-    let moment = rows.moment();
+    let moment = book.moment();
     let mut orders = Items::new(alloc);
     for key in keys {
         if orders.len() == MOST_ORDERS {
             return Ok(orders);
         }
-        add_found(alloc, &mut orders, rows.find(*key), moment)?;
+        add_found(alloc, &mut orders, book.find(*key), moment)?;
     }
     Ok(orders)
 }

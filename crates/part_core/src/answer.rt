@@ -32,26 +32,26 @@ use std::alloc::Global;
 /// by preemption: exactly the first 128 maximal windows of each. Limits have no part in it.
 pub fn answer_free<R: Reading>(
     alloc: Global,
-    rows: &R,
+    book: &R,
     installed: &[Text],
     question: &Question,
 ) -> Result<FreeAnswer, Memory>
     requires { IsTest question.now.test }
-    ensures value { IfOk result (λ a. a ≡ free_answer installed.now (R.seen rows.now) (R.at rows.now) question.now) }
-    ensures free { IfOk result (λ a. IsTier (IsFreeStart (R.seen rows.now) (test_class question.now.test) (test_length question.now.test)) question.now.window a.tiers.first) }
-    ensures freeable { IfOk result (λ a. IsTier (IsFreeableStart (R.seen rows.now) (R.at rows.now) (test_class question.now.test) (test_length question.now.test) question.now.priority) question.now.window a.tiers.second) }
+    ensures value { IfOk result (λ a. a ≡ free_answer installed.now (R.seen book.now) (R.at book.now) question.now) }
+    ensures free { IfOk result (λ a. IsTier (IsFreeStart (R.seen book.now) (test_class question.now.test) (test_length question.now.test)) question.now.window a.tiers.first) }
+    ensures freeable { IfOk result (λ a. IsTier (IsFreeableStart (R.seen book.now) (R.at book.now) (test_class question.now.test) (test_length question.now.test) question.now.priority) question.now.window a.tiers.second) }
 {
     let tools = tools_for(alloc, &question.test, installed)?;
-    let tiers = tiers_of(alloc, rows, question)?;
+    let tiers = tiers_of(alloc, book, question)?;
     Ok(FreeAnswer { tools, tiers })
 }
 
-fn tiers_of<R: Reading>(alloc: Global, rows: &R, question: &Question) -> Result<Tiers, Memory>
+fn tiers_of<R: Reading>(alloc: Global, book: &R, question: &Question) -> Result<Tiers, Memory>
     requires { IsTest question.now.test }
-    ensures tiers { IfOk result (λ tiers. tiers ≡ free_tiers (R.seen rows.now) (R.at rows.now) (test_class question.now.test) (test_length question.now.test) question.now.priority question.now.window) }
-    ensures ascending { IsAscendingRows (R.seen rows.now) }
+    ensures tiers { IfOk result (λ tiers. tiers ≡ free_tiers (R.seen book.now) (R.at book.now) (test_class question.now.test) (test_length question.now.test) question.now.priority question.now.window) }
+    ensures ascending { IsAscendingRows (R.seen book.now) }
 {
-    rows.free(
+    book.free(
         alloc,
         class_of(&question.test),
         length_of(&question.test),
@@ -62,11 +62,11 @@ fn tiers_of<R: Reading>(alloc: Global, rows: &R, question: &Question) -> Result<
 
 /// What a question for this host's result is answered: the result of an ended run, why a closed run has
 /// none, else how far the run has come.
-pub fn collect<R: Reading>(alloc: Global, rows: &R, key: RunKey) -> Result<Reply, Memory>
-    ensures { IfOk result (λ reply. reply ≡ result_reply (R.at rows.now) (find_row (R.seen rows.now) key)) }
+pub fn collect<R: Reading>(alloc: Global, book: &R, key: RunKey) -> Result<Reply, Memory>
+    ensures { IfOk result (λ reply. reply ≡ result_reply (R.at book.now) (find_row (R.seen book.now) key)) }
 {
-    let moment = rows.moment();
-    match rows.find(key) {
+    let moment = book.moment();
+    match book.find(key) {
         Some(row) => told_result(alloc, row, moment),
         None => Ok(Reply::NotFound),
     }
@@ -93,10 +93,10 @@ fn closed(alloc: Global, closing: &Closing) -> Result<Reply, Memory>
 }
 
 /// What material that comes is answered, and changes: an active run keeps that it came, once.
-pub fn hear_material<R: Reading>(alloc: Global, rows: &R, key: RunKey) -> Result<Outcome, Memory>
-    ensures { IfOk result (λ outcome. outcome ≡ material_at (find_row (R.seen rows.now) key)) }
+pub fn hear_material<R: Reading>(alloc: Global, book: &R, key: RunKey) -> Result<Outcome, Memory>
+    ensures { IfOk result (λ outcome. outcome ≡ material_at (find_row (R.seen book.now) key)) }
 {
-    match rows.find(key) {
+    match book.find(key) {
         Some(row) => heard_material(alloc, row),
         None => Ok(answered(alloc, Reply::NotFound)),
     }

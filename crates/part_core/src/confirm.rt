@@ -17,11 +17,11 @@ use std::alloc::Global;
 
 /// What a confirmation is answered: why the run is closed, or the moment of its first confirmation, which
 /// is now where it wasn't confirmed.
-pub fn confirm<R: Reading>(alloc: Global, rows: &R, key: RunKey) -> Result<PartReply, Memory>
-    ensures { IfOk result (λ reply. reply ≡ confirm_reply (R.at rows.now) (find_row (R.seen rows.now) key)) }
+pub fn confirm<R: Reading>(alloc: Global, book: &R, key: RunKey) -> Result<PartReply, Memory>
+    ensures { IfOk result (λ reply. reply ≡ confirm_reply (R.at book.now) (find_row (R.seen book.now) key)) }
 {
-    let moment = rows.moment();
-    match rows.find(key) {
+    let moment = book.moment();
+    match book.find(key) {
         Some(row) => confirm_standing(alloc, row, moment),
         None => Ok(PartReply::Unknown),
     }
@@ -37,10 +37,10 @@ fn confirm_standing(alloc: Global, row: &RunRow, moment: Moment) -> Result<PartR
 }
 
 /// What a confirmation changes: a run that is neither closed nor confirmed is confirmed. Takes no memory.
-pub fn confirm_change<R: Reading>(rows: &R, key: RunKey) -> Option<Change>
-    ensures { option_to_list result ≡ confirm_changes (find_row (R.seen rows.now) key) }
+pub fn confirm_change<R: Reading>(book: &R, key: RunKey) -> Option<Change>
+    ensures { option_to_list result ≡ confirm_changes (find_row (R.seen book.now) key) }
 {
-    match rows.find(key) {
+    match book.find(key) {
         Some(row) if row.closed.is_none() && row.confirmed.is_none() => {
             Some(Change::Confirmed(row.key))
         }
@@ -49,17 +49,17 @@ pub fn confirm_change<R: Reading>(rows: &R, key: RunKey) -> Option<Change>
 }
 
 /// What a cancellation is answered, whether there is such a run or not. Takes no memory.
-pub fn cancel<R: Reading>(_rows: &R, _key: RunKey) -> PartReply
+pub fn cancel<R: Reading>(_book: &R, _key: RunKey) -> PartReply
     ensures { result ≡ Dropped }
 {
     PartReply::Dropped
 }
 
 /// What a cancellation changes: a booked run that isn't started is closed. Takes no memory.
-pub fn cancel_change<R: Reading>(rows: &R, key: RunKey) -> Option<Change>
-    ensures { option_to_list result ≡ drop_changes (find_row (R.seen rows.now) key) }
+pub fn cancel_change<R: Reading>(book: &R, key: RunKey) -> Option<Change>
+    ensures { option_to_list result ≡ drop_changes (find_row (R.seen book.now) key) }
 {
-    match rows.find(key) {
+    match book.find(key) {
         Some(row) if row.is_booked() && row.started.is_none() => Some(Change::Closed {
             key: row.key,
             why: Why::Canceled,

@@ -29,54 +29,54 @@ use std::alloc::Global;
 #[tactic(auto, using(host_model::proofs::FitLemmas::accepts_exactly))]
 pub fn decide<R: Reading>(
     alloc: Global,
-    rows: &R,
+    book: &R,
     config: &Config,
     lead: &str,
     proposal: &Proposal,
 ) -> Result<Decision, Memory>
     requires test { IsTest proposal.now.test }
     requires start { proposal.now.start ≤ MAX_MOMENT }
-    ensures value { IfOk result (λ d. d ≡ decide (place_in config.now lead.now (R.in_force rows.now) (R.seen rows.now)) (R.seen rows.now) (R.at rows.now) proposal.now) }
+    ensures value { IfOk result (λ d. d ≡ decide (place_in config.now lead.now (R.in_force book.now) (R.seen book.now)) (R.seen book.now) (R.at book.now) proposal.now) }
 
     // It is accepted exactly where it stands already, or no row has its key and it fits.
-    ensures exact { IfOk result (λ d. IsAcceptance d ↔ MayAccept (place_in config.now lead.now (R.in_force rows.now) (R.seen rows.now)) (R.seen rows.now) (R.at rows.now) proposal.now) }
+    ensures exact { IfOk result (λ d. IsAcceptance d ↔ MayAccept (place_in config.now lead.now (R.in_force book.now) (R.seen book.now)) (R.seen book.now) (R.at book.now) proposal.now) }
 {
-    decided(alloc, rows, config, lead, proposal)
+    decided(alloc, book, config, lead, proposal)
 }
 
 // `decide`, with the order of the rows.
 fn decided<R: Reading>(
     alloc: Global,
-    rows: &R,
+    book: &R,
     config: &Config,
     lead: &str,
     proposal: &Proposal,
 ) -> Result<Decision, Memory>
     requires test { IsTest proposal.now.test }
     requires start { proposal.now.start ≤ MAX_MOMENT }
-    ensures value { IfOk result (λ d. d ≡ decide (place_in config.now lead.now (R.in_force rows.now) (R.seen rows.now)) (R.seen rows.now) (R.at rows.now) proposal.now) }
-    ensures ascending { IsAscendingRows (R.seen rows.now) }
+    ensures value { IfOk result (λ d. d ≡ decide (place_in config.now lead.now (R.in_force book.now) (R.seen book.now)) (R.seen book.now) (R.at book.now) proposal.now) }
+    ensures ascending { IsAscendingRows (R.seen book.now) }
 {
-    match rows.find(proposal.key) {
+    match book.find(proposal.key) {
         Some(row) => decide_known(alloc, row, lead, proposal),
-        None => decide_new(alloc, rows, config, lead, proposal),
+        None => decide_new(alloc, book, config, lead, proposal),
     }
 }
 
 // What it comes to where no row has its key.
 fn decide_new<R: Reading>(
     alloc: Global,
-    rows: &R,
+    book: &R,
     config: &Config,
     lead: &str,
     proposal: &Proposal,
 ) -> Result<Decision, Memory>
     requires test { IsTest proposal.now.test }
     requires start { proposal.now.start ≤ MAX_MOMENT }
-    requires unbooked { IsUnbooked proposal.now.key (R.seen rows.now) }
-    ensures { IfOk result (λ d. d ≡ decided_new (denial_of (place_in config.now lead.now (R.in_force rows.now) (R.seen rows.now)) (R.seen rows.now) (R.at rows.now) proposal.now)) }
+    requires unbooked { IsUnbooked proposal.now.key (R.seen book.now) }
+    ensures { IfOk result (λ d. d ≡ decided_new (denial_of (place_in config.now lead.now (R.in_force book.now) (R.seen book.now)) (R.seen book.now) (R.at book.now) proposal.now)) }
 {
-    match denial_of(alloc, rows, config, lead, proposal)? {
+    match denial_of(alloc, book, config, lead, proposal)? {
         Some(denial) => Ok(Decision::Denied(denial)),
         None => Ok(Decision::New),
     }

@@ -46,52 +46,52 @@ pub fn wanted_interval(proposal: &Proposal) -> Interval
 /// doesn't run the test, that its start is past, what the limits say, a run that it may not preempt.
 pub fn objection<R: Reading>(
     alloc: Global,
-    rows: &R,
+    book: &R,
     installed: &[Text],
     proposal: &Proposal,
 ) -> Result<Option<Denial>, Memory>
     requires test { IsTest proposal.now.test }
     requires start { proposal.now.start ≤ MAX_MOMENT }
-    requires unbooked { IsUnbooked proposal.now.key (R.seen rows.now) }
-    ensures { IfOk result (λ o. o ≡ objection installed.now (R.in_force rows.now) (R.seen rows.now) (R.at rows.now) proposal.now) }
+    requires unbooked { IsUnbooked proposal.now.key (R.seen book.now) }
+    ensures { IfOk result (λ o. o ≡ objection installed.now (R.in_force book.now) (R.seen book.now) (R.at book.now) proposal.now) }
 {
     if !has_tool(installed, proposal) {
         return Ok(Some(Denial::NoTool(proposal.tool.copy(alloc)?)));
     }
-    Ok(later_objection(rows, proposal))
+    Ok(later_objection(book, proposal))
 }
 
 // What is held against a run whose tool is there.
-fn later_objection<R: Reading>(rows: &R, proposal: &Proposal) -> Option<Denial>
+fn later_objection<R: Reading>(book: &R, proposal: &Proposal) -> Option<Denial>
     requires test { IsTest proposal.now.test }
     requires start { proposal.now.start ≤ MAX_MOMENT }
-    requires unbooked { IsUnbooked proposal.now.key (R.seen rows.now) }
-    ensures { result ≡ later_objection (R.in_force rows.now) (R.seen rows.now) (R.at rows.now) proposal.now }
+    requires unbooked { IsUnbooked proposal.now.key (R.seen book.now) }
+    ensures { result ≡ later_objection (R.in_force book.now) (R.seen book.now) (R.at book.now) proposal.now }
 {
-    let moment = rows.moment();
+    let moment = book.moment();
     if proposal.start < moment {
         return Some(Denial::Past(moment, proposal.start));
     }
     let interval = wanted_interval(proposal);
-    let verdict = rows.limits().permits(
+    let verdict = book.limits().permits(
         &proposal.asker,
         &proposal.test,
         &interval,
         proposal.priority,
     );
     match verdict {
-        Verdict::Permitted(_) => conflict(rows, proposal, &interval),
+        Verdict::Permitted(_) => conflict(book, proposal, &interval),
         _ => Some(Denial::Limits(verdict)),
     }
 }
 
 // The first run that it conflicts with and may not preempt.
-fn conflict<R: Reading>(rows: &R, proposal: &Proposal, interval: &Interval) -> Option<Denial>
-    requires { IsUnbooked proposal.now.key (R.seen rows.now) }
-    ensures { result ≡ conflict_denial (firm_conflict proposal.now.key (test_class proposal.now.test) interval.now proposal.now.priority (R.at rows.now) (R.seen rows.now)) }
+fn conflict<R: Reading>(book: &R, proposal: &Proposal, interval: &Interval) -> Option<Denial>
+    requires { IsUnbooked proposal.now.key (R.seen book.now) }
+    ensures { result ≡ conflict_denial (firm_conflict proposal.now.key (test_class proposal.now.test) interval.now proposal.now.priority (R.at book.now) (R.seen book.now)) }
 {
     let class = class_of(&proposal.test);
-    match rows.firm_conflict(proposal.key, class, interval, proposal.priority) {
+    match book.firm_conflict(proposal.key, class, interval, proposal.priority) {
         Some(key) => Some(Denial::Conflict(key)),
         None => None,
     }
@@ -114,14 +114,14 @@ fn is_tool_for(proposal: &Proposal) -> bool
 }
 
 /// That there is no place for more rows, or that they keep as many bytes of results as a book takes.
-pub fn full<R: Reading>(rows: &R) -> Option<Denial>
-    ensures { result ≡ full_denial (R.seen rows.now) (result_bytes (R.seen rows.now)) }
+pub fn full<R: Reading>(book: &R) -> Option<Denial>
+    ensures { result ≡ full_denial (R.seen book.now) (result_bytes (R.seen book.now)) }
 {
-    let count = rows.len();
+    let count = book.len();
     if MOST_ROWS <= count {
         return Some(Denial::Full(What::Runs, count as u64));
     }
-    let bytes = rows.result_bytes();
+    let bytes = book.result_bytes();
     if MOST_KEPT_BYTES <= bytes {
         return Some(Denial::Full(What::Results, bytes));
     }
@@ -131,21 +131,21 @@ pub fn full<R: Reading>(rows: &R) -> Option<Denial>
 /// The first reason for which this host takes no part in the run; none where it fits.
 pub fn denial_of<R: Reading>(
     alloc: Global,
-    rows: &R,
+    book: &R,
     config: &Config,
     lead: &str,
     proposal: &Proposal,
 ) -> Result<Option<Denial>, Memory>
     requires test { IsTest proposal.now.test }
     requires start { proposal.now.start ≤ MAX_MOMENT }
-    requires unbooked { IsUnbooked proposal.now.key (R.seen rows.now) }
-    ensures { IfOk result (λ o. o ≡ denial_of (place_in config.now lead.now (R.in_force rows.now) (R.seen rows.now)) (R.seen rows.now) (R.at rows.now) proposal.now) }
+    requires unbooked { IsUnbooked proposal.now.key (R.seen book.now) }
+    ensures { IfOk result (λ o. o ≡ denial_of (place_in config.now lead.now (R.in_force book.now) (R.seen book.now)) (R.seen book.now) (R.at book.now) proposal.now) }
 {
     if !is_participant(&proposal.test, lead, config.name.as_str()) {
         return Ok(Some(Denial::NotParticipant));
     }
-    match objection(alloc, rows, config.installed.as_slice(), proposal)? {
+    match objection(alloc, book, config.installed.as_slice(), proposal)? {
         Some(denial) => Ok(Some(denial)),
-        None => Ok(full(rows)),
+        None => Ok(full(book)),
     }
 }

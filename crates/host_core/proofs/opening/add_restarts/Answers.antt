@@ -13,15 +13,15 @@ use Rattle.host_core.proofs.opening.add_restarts.Goals as goal
 
 pub loop-key-init : goal.loop-key-init
 loop-key-init g c =
-    let rows = g.R.Reading.seen c.args.rows.now in
-    let ends : RunKey → Option Change = restart_at c.args.config.now (book_of (g.R.Reading.at c.args.rows.now) rows (g.R.Hosting.kept c.args.rows.now)) in
+    let rows = g.R.Reading.seen c.args.book.now in
+    let ends : RunKey → Option Change = restart_at c.args.config.now (book_of (g.R.Reading.at c.args.book.now) rows (g.R.Hosting.kept c.args.book.now)) in
     ap (λ ks. c.args.list.now ++ filter_map ends ks) (all_left (keys_of_rows rows))
 
 -- the next run ends, and those above it are left
 pub loop-key-preserved-in_ok-push : goal.loop-key-preserved-in_ok-push
 loop-key-preserved-in_ok-push g c =
-    let rows = g.R.Reading.seen c.args.rows.now in
-    let ends : RunKey → Option Change = restart_at c.args.config.now (book_of (g.R.Reading.at c.args.rows.now) rows (g.R.Hosting.kept c.args.rows.now)) in
+    let rows = g.R.Reading.seen c.args.book.now in
+    let ends : RunKey → Option Change = restart_at c.args.config.now (book_of (g.R.Reading.at c.args.book.now) rows (g.R.Hosting.kept c.args.book.now)) in
     let keys : List RunKey = keys_of_rows rows in
     let key : RunKey = c.in-Some.key in
     let found : find (is_after c.loop-key.last) keys ≡ Some key = sym c.next_row.ensures.key ∙ c.in-Some.is in
@@ -32,8 +32,8 @@ loop-key-preserved-in_ok-push g c =
 -- one that isn't active changes nothing
 pub loop-key-preserved : goal.loop-key-preserved
 loop-key-preserved g c =
-    let rows = g.R.Reading.seen c.args.rows.now in
-    let ends : RunKey → Option Change = restart_at c.args.config.now (book_of (g.R.Reading.at c.args.rows.now) rows (g.R.Hosting.kept c.args.rows.now)) in
+    let rows = g.R.Reading.seen c.args.book.now in
+    let ends : RunKey → Option Change = restart_at c.args.config.now (book_of (g.R.Reading.at c.args.book.now) rows (g.R.Hosting.kept c.args.book.now)) in
     let keys : List RunKey = keys_of_rows rows in
     let key : RunKey = c.in-Some.key in
     let found : find (is_after c.loop-key.last) keys ≡ Some key = sym c.next_row.ensures.key ∙ c.in-Some.is in
@@ -43,14 +43,14 @@ loop-key-preserved g c =
 
 pub loop-key-smaller-in_ok-push : goal.loop-key-smaller-in_ok-push
 loop-key-smaller-in_ok-push g c =
-    let rows = g.R.Reading.seen c.args.rows.now in
+    let rows = g.R.Reading.seen c.args.book.now in
     let keys : List RunKey = keys_of_rows rows in
     let found : find (is_after c.loop-key.last) keys ≡ Some c.in-Some.key = sym c.next_row.ensures.key ∙ c.in-Some.is in
     fewer c.loop-key.last keys c.in-Some.key (keys_up rows c.next_row.ensures.ascending) found
 
 pub loop-key-smaller : goal.loop-key-smaller
 loop-key-smaller g c =
-    let rows = g.R.Reading.seen c.args.rows.now in
+    let rows = g.R.Reading.seen c.args.book.now in
     let keys : List RunKey = keys_of_rows rows in
     let found : find (is_after c.loop-key.last) keys ≡ Some c.in-Some.key = sym c.next_row.ensures.key ∙ c.in-Some.is in
     fewer c.loop-key.last keys c.in-Some.key (keys_up rows c.next_row.ensures.ascending) found
@@ -58,8 +58,8 @@ loop-key-smaller g c =
 -- none is left
 pub returns-clause-list : goal.returns-clause-list
 returns-clause-list g c =
-    let rows = g.R.Reading.seen c.args.rows.now in
-    let ends : RunKey → Option Change = restart_at c.args.config.now (book_of (g.R.Reading.at c.args.rows.now) rows (g.R.Hosting.kept c.args.rows.now)) in
+    let rows = g.R.Reading.seen c.args.book.now in
+    let ends : RunKey → Option Change = restart_at c.args.config.now (book_of (g.R.Reading.at c.args.book.now) rows (g.R.Hosting.kept c.args.book.now)) in
     let keys : List RunKey = keys_of_rows rows in
     let none = none_left c.loop-key.last keys (sym c.next_row.ensures.key ∙ c.in_default.is) in
     sym (append-nil c.loop-key.list) ∙ (ap (λ ks. c.loop-key.list ++ filter_map ends ks) (sym none) ∙ c.loop-key.invariant)

@@ -10,9 +10,9 @@ use Rattle.host_core.proofs.opening.open_changes.Goals as goal
 -- the limits, and the runs that the walk finds
 pub returns : goal.returns
 returns g c =
-    let m = g.R.Reading.at c.args.rows.now in
+    let m = g.R.Reading.at c.args.book.now in
     let config = c.args.config.now in
-    let b : Book = book_of m (g.R.Reading.seen c.args.rows.now) (g.R.Hosting.kept c.args.rows.now) in
+    let b : Book = book_of m (g.R.Reading.seen c.args.book.now) (g.R.Hosting.kept c.args.book.now) in
     let ends = filter_map (restart_at config b) (keys_of_rows b.rows) in
     c.in_ok-add_restarts.ensures.list
     ∙ (ap (λ l. l ++ ends) (c.in_ok-list.ensures ∙ ap (λ new. cond new (LimitsSet config.limits ∷ []) []) c.requires.new)

@@ -15,7 +15,7 @@ decide_booking-requires-clause-test g c =
 -- its number is the next one
 pub decide_booking-requires-clause-new : goal.decide_booking-requires-clause-new
 decide_booking-requires-clause-new g c =
-    let rows = g.R.Reading.seen c.args.rows.now in
+    let rows = g.R.Reading.seen c.args.book.now in
     let host = c.args.config.now.number in
     ap (λ (p : Proposal). find_row rows p.key) c.in_ok-proposal.ensures
     ∙ (ap (λ n. find_row rows (booking_key host (n + 1))) c.greatest_number-last.ensures.number ∙ next_new host rows)

@@ -9,13 +9,13 @@ use Rattle.host_inputs.proofs.booking.conflicts.Goals as goal
 
 pub loop-key-init : goal.loop-key-init
 loop-key-init g c =
-    let all : List RunKey = keys_of_rows (conflicts c.args.run c.args.class c.args.interval.now (g.R.Reading.seen c.args.rows.now)) in
+    let all : List RunKey = keys_of_rows (conflicts c.args.run c.args.class c.args.interval.now (g.R.Reading.seen c.args.book.now)) in
     ap (λ ks. ks ++ keys_after None all) c.new-keys.ensures ∙ all_left all
 
 -- the next key is listed, and those above it are left
 pub loop-key-preserved : goal.loop-key-preserved
 loop-key-preserved g c =
-    let rows = g.R.Reading.seen c.args.rows.now in
+    let rows = g.R.Reading.seen c.args.book.now in
     let all : List RunKey = keys_of_rows (conflicts c.args.run c.args.class c.args.interval.now rows) in
     let key : RunKey = c.in-Some.key in
     let found : find (is_after c.loop-key.last) all ≡ Some key = sym c.next_conflict.ensures ∙ c.in-Some.is in
@@ -26,7 +26,7 @@ loop-key-preserved g c =
 
 pub loop-key-smaller : goal.loop-key-smaller
 loop-key-smaller g c =
-    let rows = g.R.Reading.seen c.args.rows.now in
+    let rows = g.R.Reading.seen c.args.book.now in
     let all : List RunKey = keys_of_rows (conflicts c.args.run c.args.class c.args.interval.now rows) in
     let found : find (is_after c.loop-key.last) all ≡ Some c.in-Some.key = sym c.next_conflict.ensures ∙ c.in-Some.is in
     fewer c.loop-key.last all c.in-Some.key (conflicts_up c.args.run c.args.class c.args.interval.now rows c.requires.ascending) found
@@ -34,6 +34,6 @@ loop-key-smaller g c =
 -- none is left
 pub returns : goal.returns
 returns g c =
-    let all : List RunKey = keys_of_rows (conflicts c.args.run c.args.class c.args.interval.now (g.R.Reading.seen c.args.rows.now)) in
+    let all : List RunKey = keys_of_rows (conflicts c.args.run c.args.class c.args.interval.now (g.R.Reading.seen c.args.book.now)) in
     let none = none_left c.loop-key.last all (sym c.next_conflict.ensures ∙ c.in_default.is) in
     sym (append-nil c.loop-key.keys) ∙ (ap (λ ks. c.loop-key.keys ++ ks) (sym none) ∙ c.loop-key.invariant)

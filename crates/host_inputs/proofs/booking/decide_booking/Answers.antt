@@ -11,10 +11,10 @@ use Rattle.host_inputs.proofs.booking.decide_booking.Goals as goal
 pub returns-in-Denied : goal.returns-in-Denied
 returns-in-Denied g c =
     let config = c.args.config.now in
-    let limits = g.R.Reading.in_force c.args.rows.now in
-    let rows = g.R.Reading.seen c.args.rows.now in
-    let m = g.R.Reading.at c.args.rows.now in
-    let b = book_of m rows (g.R.Hosting.kept c.args.rows.now) in
+    let limits = g.R.Reading.in_force c.args.book.now in
+    let rows = g.R.Reading.seen c.args.book.now in
+    let m = g.R.Reading.at c.args.book.now in
+    let b = book_of m rows (g.R.Hosting.kept c.args.book.now) in
     let decided : decide (place_in config config.name limits rows) rows m c.args.proposal ≡ Denied c.in-Denied.denial =
     ap (λ name. decide (place_in config name limits rows) rows m c.args.proposal) (sym c.as_str.ensures) ∙ (sym c.in_ok-decide.ensures.value ∙ c.in-Denied.is) in
     let denied = denied_for (place_in config config.name limits rows) rows m c.args.proposal c.requires.new c.in-Denied.denial decided in

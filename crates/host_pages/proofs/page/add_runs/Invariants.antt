@@ -7,9 +7,9 @@ use Rattle.host_pages.proofs.page.add_runs.Given as goal
 -- the runs so far, and those above the last one
 abbrev pub invariant-loop-key : goal.invariant-loop-key
 invariant-loop-key g l =
-    let rows = g.R.Reading.seen l.rows in
+    let rows = g.R.Reading.seen l.book in
     let keys = runs_of_task l.lead l.serial rows in
     l.runs ++ filter_map (run_at rows) (keys_after l.last keys) ≡ l.initial.runs ++ filter_map (run_at rows) keys
 
 abbrev pub decreases-loop-key : goal.decreases-loop-key
-decreases-loop-key g l = length (keys_after l.last (runs_of_task l.lead l.serial (g.R.Reading.seen l.rows)))
+decreases-loop-key g l = length (keys_after l.last (runs_of_task l.lead l.serial (g.R.Reading.seen l.book)))

@@ -12,15 +12,15 @@ use Rattle.host_pages.proofs.schedule.add_lines.Goals as goal
 
 pub loop-key-init : goal.loop-key-init
 loop-key-init g c =
-    let rows = g.R.Reading.seen c.args.rows.now in
-    let shown : RunKey → Option Line = line_at (g.R.Reading.at c.args.rows.now) (record { start = c.args.start; end = c.args.end }) rows in
+    let rows = g.R.Reading.seen c.args.book.now in
+    let shown : RunKey → Option Line = line_at (g.R.Reading.at c.args.book.now) (record { start = c.args.start; end = c.args.end }) rows in
     ap (λ ks. c.args.lines.now.items ++ filter_map shown ks) (all_left (keys_of_rows rows))
 
 -- the next run's line is added, and those above it are left
 pub loop-key-preserved-in_ok-push : goal.loop-key-preserved-in_ok-push
 loop-key-preserved-in_ok-push g c =
-    let rows = g.R.Reading.seen c.args.rows.now in
-    let shown : RunKey → Option Line = line_at (g.R.Reading.at c.args.rows.now) (record { start = c.args.start; end = c.args.end }) rows in
+    let rows = g.R.Reading.seen c.args.book.now in
+    let shown : RunKey → Option Line = line_at (g.R.Reading.at c.args.book.now) (record { start = c.args.start; end = c.args.end }) rows in
     let keys : List RunKey = keys_of_rows rows in
     let key : RunKey = c.in-Some.key in
     let found : find (is_after c.loop-key.last) keys ≡ Some key = sym c.next_row.ensures.key ∙ c.in-Some.is in
@@ -31,8 +31,8 @@ loop-key-preserved-in_ok-push g c =
 -- a run beside the interval adds nothing
 pub loop-key-preserved : goal.loop-key-preserved
 loop-key-preserved g c =
-    let rows = g.R.Reading.seen c.args.rows.now in
-    let shown : RunKey → Option Line = line_at (g.R.Reading.at c.args.rows.now) (record { start = c.args.start; end = c.args.end }) rows in
+    let rows = g.R.Reading.seen c.args.book.now in
+    let shown : RunKey → Option Line = line_at (g.R.Reading.at c.args.book.now) (record { start = c.args.start; end = c.args.end }) rows in
     let keys : List RunKey = keys_of_rows rows in
     let key : RunKey = c.in-Some.key in
     let found : find (is_after c.loop-key.last) keys ≡ Some key = sym c.next_row.ensures.key ∙ c.in-Some.is in
@@ -42,14 +42,14 @@ loop-key-preserved g c =
 
 pub loop-key-smaller-in_ok-push : goal.loop-key-smaller-in_ok-push
 loop-key-smaller-in_ok-push g c =
-    let rows = g.R.Reading.seen c.args.rows.now in
+    let rows = g.R.Reading.seen c.args.book.now in
     let keys : List RunKey = keys_of_rows rows in
     let found : find (is_after c.loop-key.last) keys ≡ Some c.in-Some.key = sym c.next_row.ensures.key ∙ c.in-Some.is in
     fewer c.loop-key.last keys c.in-Some.key (keys_up rows c.next_row.ensures.ascending) found
 
 pub loop-key-smaller : goal.loop-key-smaller
 loop-key-smaller g c =
-    let rows = g.R.Reading.seen c.args.rows.now in
+    let rows = g.R.Reading.seen c.args.book.now in
     let keys : List RunKey = keys_of_rows rows in
     let found : find (is_after c.loop-key.last) keys ≡ Some c.in-Some.key = sym c.next_row.ensures.key ∙ c.in-Some.is in
     fewer c.loop-key.last keys c.in-Some.key (keys_up rows c.next_row.ensures.ascending) found
@@ -57,8 +57,8 @@ loop-key-smaller g c =
 -- none is left
 pub returns-clause-list : goal.returns-clause-list
 returns-clause-list g c =
-    let rows = g.R.Reading.seen c.args.rows.now in
-    let shown : RunKey → Option Line = line_at (g.R.Reading.at c.args.rows.now) (record { start = c.args.start; end = c.args.end }) rows in
+    let rows = g.R.Reading.seen c.args.book.now in
+    let shown : RunKey → Option Line = line_at (g.R.Reading.at c.args.book.now) (record { start = c.args.start; end = c.args.end }) rows in
     let keys : List RunKey = keys_of_rows rows in
     let none = none_left c.loop-key.last keys (sym c.next_row.ensures.key ∙ c.in_default.is) in
     sym (append-nil c.loop-key.lines.items) ∙ (ap (λ ks. c.loop-key.lines.items ++ filter_map shown ks) (sym none) ∙ c.loop-key.invariant)

@@ -10,8 +10,8 @@ use Rattle.host_pages.proofs.schedule.schedule_lines.Goals as goal
 -- the lines are those of the rows, whose keys ascend
 pub sort-requires : goal.sort-requires
 sort-requires g c =
-    let rows = g.R.Reading.seen c.args.rows.now in
-    let m = g.R.Reading.at c.args.rows.now in
+    let rows = g.R.Reading.seen c.args.book.now in
+    let m = g.R.Reading.at c.args.book.now in
     let w : Span = record { start = c.args.start; end = c.args.end } in
     let lines : c.add_lines.new.lines.items ≡ filter_map (λ r. line_of m w r r.interval) rows =
     c.in_ok-add_lines.ensures.list ∙ (ap (λ l. l ++ filter_map (line_at m w rows) (keys_of_rows rows)) c.new-lines.ensures.items ∙ lines_are m w rows c.add_lines.ensures.ascending) in
@@ -19,8 +19,8 @@ sort-requires g c =
 
 pub returns : goal.returns
 returns g c =
-    let rows = g.R.Reading.seen c.args.rows.now in
-    let m = g.R.Reading.at c.args.rows.now in
+    let rows = g.R.Reading.seen c.args.book.now in
+    let m = g.R.Reading.at c.args.book.now in
     let w : Span = record { start = c.args.start; end = c.args.end } in
     let lines : c.add_lines.new.lines.items ≡ filter_map (λ r. line_of m w r r.interval) rows =
     c.in_ok-add_lines.ensures.list ∙ (ap (λ l. l ++ filter_map (line_at m w rows) (keys_of_rows rows)) c.new-lines.ensures.items ∙ lines_are m w rows c.add_lines.ensures.ascending) in

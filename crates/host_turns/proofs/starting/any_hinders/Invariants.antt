@@ -7,4 +7,4 @@ use Rattle.host_turns.proofs.starting.any_hinders.Given as goal
 -- what is left decides
 abbrev pub invariant-loop-key : goal.invariant-loop-key
 invariant-loop-key g l =
-    list_any (λ k. is_hindering l.class (find_row (g.R.Reading.seen l.rows) k)) l.keys ≡ list_any (λ k. is_hindering l.class (find_row (g.R.Reading.seen l.rows) k)) (drop l.key-index l.keys)
+    list_any (λ k. is_hindering l.class (find_row (g.R.Reading.seen l.book) k)) l.keys ≡ list_any (λ k. is_hindering l.class (find_row (g.R.Reading.seen l.book) k)) (drop l.key-index l.keys)

@@ -6,6 +6,6 @@ use Rattle.lead_orders.proofs.listing.orders_at.Given as goal
 -- the orders so far, and those of what is left
 abbrev pub invariant-loop-key : goal.invariant-loop-key
 invariant-loop-key g l = record {
-  value : orders_at (g.R.Reading.at l.rows) l.keys (g.R.Reading.seen l.rows) ≡ with_more l.orders (listing.orders_of_keys (g.R.Reading.at l.rows) (drop l.key-index l.keys) (g.R.Reading.seen l.rows));
+  value : orders_at (g.R.Reading.at l.book) l.keys (g.R.Reading.seen l.book) ≡ with_more l.orders (listing.orders_of_keys (g.R.Reading.at l.book) (drop l.key-index l.keys) (g.R.Reading.seen l.book));
   places : length l.orders ≤ 64;
 }

@@ -8,14 +8,14 @@ use Rattle.part_core.proofs.answer.answer_free.Goals as goal
 pub returns-clause-free : goal.returns-clause-free
 returns-clause-free g c =
     let q = c.args.question.now in
-    let rows = g.R.Reading.seen c.args.rows.now in
-    let are = free_tiers_are (test_class q.test) (test_length q.test) q.priority (g.R.Reading.at c.args.rows.now) rows c.tiers_of.ensures.ascending q.window in
+    let rows = g.R.Reading.seen c.args.book.now in
+    let are = free_tiers_are (test_class q.test) (test_length q.test) q.priority (g.R.Reading.at c.args.book.now) rows c.tiers_of.ensures.ascending q.window in
     subst (λ (tiers : Tiers). IsTier (IsFreeStart rows (test_class q.test) (test_length q.test)) q.window tiers.first) (sym c.in_ok-tiers.ensures.tiers) are.0
 
 pub returns-clause-freeable : goal.returns-clause-freeable
 returns-clause-freeable g c =
     let q = c.args.question.now in
-    let rows = g.R.Reading.seen c.args.rows.now in
-    let m = g.R.Reading.at c.args.rows.now in
+    let rows = g.R.Reading.seen c.args.book.now in
+    let m = g.R.Reading.at c.args.book.now in
     let are = free_tiers_are (test_class q.test) (test_length q.test) q.priority m rows c.tiers_of.ensures.ascending q.window in
     subst (λ (tiers : Tiers). IsTier (IsFreeableStart rows m (test_class q.test) (test_length q.test) q.priority) q.window tiers.second) (sym c.in_ok-tiers.ensures.tiers) are.1
