@@ -179,7 +179,7 @@ impl Machine for Host {
         }
     }
 
-    fn configure(&mut self, origin: Config) {
+    fn set_config(&mut self, origin: Config) {
         self.config = origin;
     }
 

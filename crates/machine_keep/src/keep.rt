@@ -126,14 +126,14 @@ impl<M: Machine, D: Disk> Keep<M, D> {
 
     /// Sets an origin again, as a configuration. What is kept, and what is not yet known after a fault, stays. Takes no
     /// memory.
-    pub fn configure(&mut self, origin: M::Origin)
+    pub fn set_config(&mut self, origin: M::Origin)
         requires { M.may_set (M.fixed (M.state self.old.machine)) (M.fixed_of origin) }
         ensures state { M.state self.new.machine ≡ M.with_fixed (M.fixed_of origin) (M.state self.old.machine) }
         ensures journal { self.new.journal ≡ self.old.journal }
         ensures unsure { self.new.unsure ≡ self.old.unsure }
         ensures put_off { self.new.put_off ≡ self.old.put_off }
     {
-        self.machine.configure(origin);
+        self.machine.set_config(origin);
     }
 
     /// What is known of a kept machine, and what more of one whose last call met no fault. Does nothing.

@@ -112,7 +112,7 @@ pub trait Machine: Sized {
         ensures front { (index : ℕ) → result ≡ Err (NotARecord index) → IsFirstRefused (StandsOf fixed (fixed_of origin) stands_for stood_for) list.now index };
 
     /// Sets an origin again. Takes no memory.
-    fn configure(&mut self, origin: Self::Origin)
+    fn set_config(&mut self, origin: Self::Origin)
         requires { may_set (fixed (state self.old)) (fixed_of origin) }
         ensures state { state self.new ≡ with_fixed (fixed_of origin) (state self.old) }
         ensures room { (step : Self.Step) → has_room self.old step → has_room self.new step };

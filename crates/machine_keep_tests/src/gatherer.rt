@@ -139,7 +139,7 @@ impl Machine for Gatherer {
         })
     }
 
-    fn configure(&mut self, origin: usize) {
+    fn set_config(&mut self, origin: usize) {
         self.most = origin;
     }
 

@@ -104,7 +104,7 @@ fn goes_on_with_more(alloc: Global, call: u64, kept: bool) -> Result<bool, Memor
     let Some(mut keep) = failed(alloc, call)? else {
         return Ok(false);
     };
-    keep.configure(2);
+    keep.set_config(2);
     let six = asked(alloc, Some(6))?;
     if keep.apply(alloc, six) != Ok(usize::from(kept)) {
         return Ok(false);

@@ -221,7 +221,7 @@ impl SimulatedHost {
         ensures { OnOk result (self.new ≡ configured stage_with (retooled tools self.old.state.config) self.old) }
     {
         let config = with_tools(alloc, self.config(), tools)?;
-        self.simulated.configure(config)
+        self.simulated.set_config(config)
     }
 }
 

@@ -301,9 +301,9 @@ impl<M: Machine> SimulatedMachine<M> {
         self.keep.fail_at(Some(call));
     }
 
-    /// Sets an origin again, as a configuration (`Keep::configure`). What is kept stays, and what is unsynced. `Memory`, where memory
+    /// Sets an origin again, as a configuration (`Keep::set_config`). What is kept stays, and what is unsynced. `Memory`, where memory
     /// was ever missing.
-    pub fn configure(&mut self, origin: M::Origin) -> Result<(), Memory>
+    pub fn set_config(&mut self, origin: M::Origin) -> Result<(), Memory>
         requires { M.may_set (M.fixed (held_by M.Machine self.old).state) (M.fixed_of origin) }
         ensures set { OnOk result (held_by M.Machine self.new ≡ configured M.with_fixed (M.fixed_of origin) (held_by M.Machine self.old)) }
         ensures still { OnErr result (self.new ≡ self.old) }
@@ -312,7 +312,7 @@ impl<M: Machine> SimulatedMachine<M> {
             drop(origin);
             return Err(Memory);
         }
-        self.keep.configure(origin);
+        self.keep.set_config(origin);
         Ok(())
     }
 
