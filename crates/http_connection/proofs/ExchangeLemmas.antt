@@ -16,7 +16,7 @@ use Rattle.http_connection.specs.declared.answer.Answer.{Answer}
 use Rattle.http_connection.specs.declared.end.ConnEnd.{ConnEnd}
 use Rattle.http_connection.specs.declared.end.ConnEnd.TheVariants.{Closed, Refused, Spent, EndInside, ReadFault, WriteFault, Memory}
 use Rattle.http_connection.specs.Call.{Going, WentOnce, taken, Sent, AfterAnswer, Exchanged, IsDueFault, AfterFault, AfterEnd}
-use Rattle.http_connection.specs.Exchange.{limits, reply_of, no_memory, refusal_of, Exchange, StaysOpen, Each, WasRead, WereRead, Answered, bytes_of, replies_of, most_bytes, Cause, Wrote, ServedFrom, Served, TookSo}
+use Rattle.http_connection.specs.Exchange.{limits, reply_of, no_memory, refusal_of, Exchange, StaysOpen, Each, WereRead, Answered, bytes_of, replies_of, most_bytes, Cause, Wrote, ServedFrom, Served, TookSo}
 use Rattle.http_connection.specs.Metered.{Seen, Used}
 
 -- ---- replies

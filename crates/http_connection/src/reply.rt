@@ -1,9 +1,7 @@
 //! Replies, and what comes behind them.
-ghost use Rattle.std.specs.Prelude.{◌≡◌, Some, None, true, false};
+ghost use Rattle.std.specs.Prelude.{◌≡◌, Some};
 ghost use Rattle.ps_ports.specs.Causes.{Rose};
-ghost use Rattle.ps_http.specs.Written.{response_text};
-ghost use Rattle.http_connection.specs.Call.{Sent, SentLast, AfterAnswer, AfterFault, Exchanged};
-ghost use Rattle.http_connection.specs.Exchange.{no_memory};
+ghost use Rattle.http_connection.specs.Call.{Sent, SentLast, AfterAnswer, Exchanged};
 
 use crate::answer::Answer;
 use crate::end::ConnEnd;

@@ -4,4 +4,6 @@
 #[cfg(test)]
 mod pieces;
 #[cfg(test)]
+mod supply;
+#[cfg(test)]
 mod tests;

@@ -2,6 +2,7 @@
 ghost use Rattle.std.specs.Prelude.{◌≤◌};
 
 use crate::pieces::Pieces;
+use crate::supply::Supply;
 use http_connection::answer::Answer;
 use http_connection::connection::serve_connection;
 use http_connection::end::ConnEnd;
@@ -9,6 +10,7 @@ use http_connection::service::Service;
 use ps_http::message::{Request, Response};
 use ps_http::reader::FieldSpans;
 use ps_ports::memory_stream::MemoryStream;
+use ps_ports::stream::Stream;
 use ps_time::items::Items;
 use std::alloc::{AllocError, Global};
 use std::process::Abort;
@@ -87,11 +89,11 @@ fn stream_of(
 }
 
 /// Serves the stream, and answers how that ended and how many requests the service got.
-fn serve<R: Wait, V: Service<u64>>(
+fn serve<R: Wait, V: Service<u64>, M: Stream>(
     rt: &R,
     alloc: Global,
     service: &V,
-    stream: &mut Pieces<MemoryStream>,
+    stream: &mut M,
 ) -> Result<(ConnEnd, u64), Fail>
     requires { (n : _) → V.fits service.now n }
 {
@@ -249,31 +251,23 @@ fn faults(rt: HostRuntime) -> Result<(), Fail> {
     Ok(())
 }
 
-/// So many requests of 1,048,576 bytes each.
-fn large_requests(alloc: Global, count: usize) -> Result<Vec<u8>, Fail> {
-    let head = b"PUT /b HTTP/1.1\r\nHost: b\r\nContent-Length: 1048523\r\n\r\n";
-    let body = vec![in alloc; b'x'; 1_048_523]?;
-    let mut bytes = Vec::new(alloc);
-    for _ in 0..count {
-        bytes.extend_from_slice(head)?;
-        bytes.extend_from_slice(body.as_slice())?;
-    }
-    Ok(bytes)
-}
-
-/// A read is due after 67,108,864 bytes, at whose end the input ends.
+/// A read is due after 64 requests of 1,048,576 bytes, also where the input ends with them.
 #[test]
 fn spent(rt: HostRuntime) -> Result<(), Fail> {
     let alloc = rt.alloc();
     let service = Counter { alloc };
-    let mut stream = Pieces {
-        inner: MemoryStream::new(alloc, large_requests(alloc, 64)?, Vec::new(alloc)),
-        most: 0,
+    for requests in [64, 65] {
+        let mut stream = Supply { requests, place: 0 };
+        let (end, answered) = serve(&rt, alloc, &service, &mut stream)?;
+        assert!(rt; end == ConnEnd::Spent(67_108_864));
+        assert!(rt; answered == 64);
+    }
+    let mut stream = Supply {
+        requests: 63,
+        place: 0,
     };
-    let (end, requests) = serve(&rt, alloc, &service, &mut stream)?;
-    assert!(rt; end == ConnEnd::Spent(67_108_864));
-    assert!(rt; requests == 64);
-    assert!(rt; stream.inner.left().is_empty());
+    let (end, answered) = serve(&rt, alloc, &service, &mut stream)?;
+    assert!(rt; end == ConnEnd::Closed && answered == 63);
     Ok(())
 }
 

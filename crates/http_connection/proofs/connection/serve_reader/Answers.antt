@@ -1,5 +1,4 @@
 use Rattle.std.proofs.Common.{refl, ◌∙◌}
-use Rattle.http_connection.specs.Call.{taken}
 use Rattle.http_connection.proofs.ExchangeLemmas.{going_none, going_then, served_then, served_by}
 use Rattle.http_connection.proofs.MeteredLemmas.{fair_new, used_none, used_then}
 use Rattle.http_connection.proofs.connection.serve_reader.Goals as goal
