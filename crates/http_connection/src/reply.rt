@@ -5,14 +5,11 @@ ghost use Rattle.http_connection.specs.Call.{Sent, SentLast, AfterAnswer, Exchan
 
 use crate::answer::Answer;
 use crate::end::ConnEnd;
-use crate::metered::{MOST_BYTES, Metered};
 use crate::service::Service;
-use ps_http::fault::HttpFault;
 use ps_http::message::{Request, Response};
 use ps_http::written::{fixed_reply, response_bytes};
 use ps_ports::all::write_all;
 use ps_ports::sink::Sink;
-use ps_ports::stream::Stream;
 use std::alloc::Global;
 
 /// Writes a reply, which closes the connection or doesn't.
