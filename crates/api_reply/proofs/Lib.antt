@@ -1,2 +1,3 @@
 mod ArchivingLemmas
+mod RefusalLemmas
 mod WholeLemmas

@@ -4,6 +4,7 @@ pub mod DeadlineLemmas
 pub mod FiledLemmas
 pub mod KeyLemmas
 pub mod LapseLemmas
+pub mod LaterLemmas
 pub mod LastLemmas
 pub mod LedgerLemmas
 pub mod LiveLemmas

@@ -1,5 +1,6 @@
 mod AfterLemmas
 mod ApartLemmas
+mod BookLemmas
 mod FitLemmas
 mod NeedLemmas
 mod ReadLemmas
