@@ -15,4 +15,4 @@ pub returns-in-None : goal.returns-in-None
 returns-in-None c =
     let b = c.args.book.now.book in
     let zero : c.args.serial ≡ Some 0 = c.in-Some.is ∙ ap (λ n. Some n) (omega (arith, c.in-None.ensures)) in
-    sym (ap (λ o. renewed (wake_in c.args.book.now.number b.rows) o b.tasks c.args.wakes.now) zero ∙ renewed_zero (wake_in c.args.book.now.number b.rows) 0 (length b.tasks) b.tasks c.rows.ensures.lawful.serials c.args.wakes.now)
+    sym (ap (λ o. renewed (wake_in c.args.book.now.number b.rows) o b.tasks c.args.wakes.now) zero ∙ renewed_zero (wake_in c.args.book.now.number b.rows) 0 (length b.tasks) b.tasks c.rows-known.ensures.lawful.serials c.args.wakes.now)

@@ -9,7 +9,7 @@ orders-requires c =
     let b = c.args.book.now.book in
     let later : b.moment ≤ c.max-moment.result = omega (arith, c.max-moment.ensures, c.moment.ensures.value) in
     let bound : c.max-moment.result ≤ greatest_moment = omega (arith, c.max-moment.ensures, c.moment.ensures.bound, c.requires) in
-    let listed = draft_listed c.args.book.now.number c.max-moment.result b c.rows.ensures.lawful later bound c.args.config.now.limits c.in_ok-draft.draft c.as_slice.result.now c.in_ok-draft.ensures (c.as_slice.ensures ∙ c.in_ok-live.ensures) in
+    let listed = draft_listed c.args.book.now.number c.max-moment.result b c.rows-known.ensures.lawful later bound c.args.config.now.limits c.in_ok-draft.draft c.as_slice.result.now c.in_ok-draft.ensures (c.as_slice.ensures ∙ c.in_ok-live.ensures) in
     record { rows = listed.rows_up; ascending = listed.keys_up; named = listed.named; few = listed.few }
 
 pub returns : goal.returns

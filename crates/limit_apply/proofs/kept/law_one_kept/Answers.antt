@@ -6,7 +6,7 @@ use Rattle.limit_apply.proofs.kept.law_one_kept.Goals as goal
 
 pub returns : goal.returns
 returns c =
-    let again = subst (λ t. config_in t ≡ Ok c.args.limits.now) c.text.ensures.text c.text.ensures.again in
+    let again = subst (λ t. config_in t ≡ Ok c.args.limits.now) c.text-known.ensures.text c.text-known.ensures.again in
     record {
       identifiers = subst (λ (n : ℕ). n < 2 ^ 32) (ap (λ (x : Counts). x.identifiers) c.counts-counts.ensures) c.law_counted.ensures.0;
       classifiers = subst (λ (n : ℕ). n < 2 ^ 32) (ap (λ (x : Counts). x.classifiers) c.counts-counts.ensures) c.law_counted.ensures.1;

@@ -42,6 +42,6 @@ loop-row-preserved c =
 
 pub returns : goal.returns
 returns c = (
-  λ yes. all_apart c.args.rows.now c.loop-row.row-index c.loop-row.timeline.list (omega (arith, c.loop-row-test.false)) c.loop-row.invariant.list c.bookings.ensures.conflict_free,
+  λ yes. all_apart c.args.rows.now c.loop-row.row-index c.loop-row.timeline.list (omega (arith, c.loop-row-test.false)) c.loop-row.invariant.list c.bookings-known.ensures.conflict_free,
   λ apart. refl,
 )

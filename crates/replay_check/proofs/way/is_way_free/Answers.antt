@@ -26,7 +26,7 @@ returns-then-not-is_waiting c =
     let rows = c.args.rows.now.list in
     let left : Option RunKey → List RunKey = λ o. keys_of (conflicting_after c.args.class c.args.interval.now o c.args.timeline.now.list) in
     let next : left c.loop-key.last ≡ c.in-Some.key ∷ left (Some c.in-Some.key) = c.next_conflict.ensures.walk ∙ ap (λ r. key_and r (λ k. left (Some k))) c.in-Some.is in
-    let decided = subst (λ (bs : List Booking). All (IsWaiting rows) (keys_of (conflicting_after c.args.class c.args.interval.now None bs)) ↔ IsFreeWay c.args.class c.args.interval.now rows) (sym c.requires) (way_decided c.args.class c.args.interval.now rows c.in_order.ensures.ascending) in (
+    let decided = subst (λ (bs : List Booking). All (IsWaiting rows) (keys_of (conflicting_after c.args.class c.args.interval.now None bs)) ↔ IsFreeWay c.args.class c.args.interval.now rows) (sym c.requires) (way_decided c.args.class c.args.interval.now rows c.in_order-known.ensures.ascending) in (
       λ yes. cc,
       λ free.
           let here = stopped (IsWaiting rows) (left c.loop-key.last) (left None) (left (Some c.in-Some.key)) c.in-Some.key next c.loop-key.invariant (decided.1 free) in
@@ -40,5 +40,5 @@ returns c =
     let rows = c.args.rows.now.list in
     let left : Option RunKey → List RunKey = λ o. keys_of (conflicting_after c.args.class c.args.interval.now o c.args.timeline.now.list) in
     let none : left c.loop-key.last ≡ [] = c.next_conflict.ensures.walk ∙ ap (λ r. key_and r (λ k. left (Some k))) c.in_default.is in
-    let decided = subst (λ (bs : List Booking). All (IsWaiting rows) (keys_of (conflicting_after c.args.class c.args.interval.now None bs)) ↔ IsFreeWay c.args.class c.args.interval.now rows) (sym c.requires) (way_decided c.args.class c.args.interval.now rows c.in_order.ensures.ascending) in
+    let decided = subst (λ (bs : List Booking). All (IsWaiting rows) (keys_of (conflicting_after c.args.class c.args.interval.now None bs)) ↔ IsFreeWay c.args.class c.args.interval.now rows) (sym c.requires) (way_decided c.args.class c.args.interval.now rows c.in_order-known.ensures.ascending) in
     (λ yes. decided.0 (c.loop-key.invariant.0 (subst (All (IsWaiting rows)) (sym none) (All-nil (IsWaiting rows)))), λ free. refl)

@@ -12,7 +12,7 @@ use Rattle.host_draft.proofs.hosting.DraftHosting.next_of_task.Goals as goal
 
 -- the rows of a task ascend
 pub first_after-over-requires : goal.first_after-over-requires
-first_after-over-requires c = subst IsAscendingRows (sym c.task_rows.ensures) (task_up c.args.lead c.args.serial c.self.inside.touched.list c.in_order.ensures.ascending)
+first_after-over-requires c = subst IsAscendingRows (sym c.task_rows.ensures) (task_up c.args.lead c.args.serial c.self.inside.touched.list c.in_order-known.ensures.ascending)
 
 pub first_bare_after-requires : goal.first_bare_after-requires
 first_bare_after-requires c =
@@ -29,5 +29,5 @@ returns-clause-key c =
     ∙ ap₂ (λ g l. option_map (λ (r : RunRow). r.key) (find (λ r. is_after c.args.after r.key && not (hides d.touched.list g r.key)) l)) c.as_slice-gone.ensures.value (c.task_rows-rows.ensures ∙ ap (rows_of_task c.args.lead c.args.serial) c.rows.ensures.list) in
     c.lesser_of.ensures
     ∙ (ap₂ lesser_of over below
-    ∙ (read_next_of d.book.now.number d.moment began (book_now d.moment d.log.changes began) d.touched.list d.gone.items d.epoch d.count d.bytes d.log.left c.self.invariant c.in_order.ensures.ascending c.rows.ensures.lawful c.args.after c.args.lead c.args.serial
+    ∙ (read_next_of d.book.now.number d.moment began (book_now d.moment d.log.changes began) d.touched.list d.gone.items d.epoch d.count d.bytes d.log.left c.self.invariant c.in_order-known.ensures.ascending c.rows.ensures.lawful c.args.after c.args.lead c.args.serial
     ∙ ap (λ (x : Seen). next_run c.args.lead c.args.serial c.args.after x.draft.book.rows) c.self.view_is))

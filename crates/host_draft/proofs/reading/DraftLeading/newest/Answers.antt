@@ -16,5 +16,5 @@ returns c =
     ∙ (ap₂ (λ g l. last_or None (filter (λ (r : RunRow). not (hides d.touched.list g r.key)) l)) c.as_slice.ensures.value (ap (rows_of_task c.args.lead c.args.serial) c.rows.ensures.list)) in
     c.later.ensures
     ∙ (ap₂ later c.newest_of_task-over.ensures below
-    ∙ (read_newest d.book.now.number d.moment began (book_now d.moment d.log.changes began) d.touched.list d.gone.items d.epoch d.count d.bytes d.log.left c.self.invariant c.in_order.ensures.ascending c.rows.ensures.lawful c.args.lead c.args.serial
+    ∙ (read_newest d.book.now.number d.moment began (book_now d.moment d.log.changes began) d.touched.list d.gone.items d.epoch d.count d.bytes d.log.left c.self.invariant c.in_order-known.ensures.ascending c.rows.ensures.lawful c.args.lead c.args.serial
     ∙ ap (λ (x : Seen). newest_row c.args.lead c.args.serial x.draft.book.rows) c.self.view_is))

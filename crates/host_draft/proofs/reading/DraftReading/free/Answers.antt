@@ -13,7 +13,7 @@ timeline_of-requires c =
     let d = c.self.inside in
     let began = d.book.now.book in
     let made = c.as_slice-2.ensures.value ∙ (c.in_ok-bookings.ensures.made ∙ ap (λ g. near_gathered c.args.class c.reach-reach.result d.touched.list g c.timeline.result.now.list) c.as_slice.ensures.value) in
-    read_takes d.book.now.number d.moment began (book_now d.moment d.log.changes began) d.touched.list d.gone.items d.epoch d.count d.bytes d.log.left c.self.invariant c.in_ok-bookings.ensures.ascending c.rows.ensures.lawful c.args.class c.reach-reach.result c.timeline.result.now.list c.as_slice-2.result.now c.timeline.ensures made
+    read_takes d.book.now.number d.moment began (book_now d.moment d.log.changes began) d.touched.list d.gone.items d.epoch d.count d.bytes d.log.left c.self.invariant c.in_ok-bookings.ensures.ascending c.rows-known.ensures.lawful c.args.class c.reach-reach.result c.timeline.result.now.list c.as_slice-2.result.now c.timeline.ensures made
 
 -- and shows the starts that are free
 pub returns-clause-tiers : goal.returns-clause-tiers
@@ -21,7 +21,7 @@ returns-clause-tiers c =
     let d = c.self.inside in
     let began = d.book.now.book in
     let made = c.as_slice-2.ensures.value ∙ (c.in_ok-bookings.ensures.made ∙ ap (λ g. near_gathered c.args.class c.reach-reach.result d.touched.list g c.timeline.result.now.list) c.as_slice.ensures.value) in
-    let same = read_tiers d.book.now.number d.moment began (book_now d.moment d.log.changes began) d.touched.list d.gone.items d.epoch d.count d.bytes d.log.left c.self.invariant c.in_ok-bookings.ensures.ascending c.rows.ensures.lawful c.args.class c.reach-reach.result c.args.length c.args.priority c.args.window c.reach-reach.ensures c.timeline.result.now.list c.as_slice-2.result.now c.in_ok-timeline.timeline.list c.timeline.ensures made c.in_ok-timeline.ensures
+    let same = read_tiers d.book.now.number d.moment began (book_now d.moment d.log.changes began) d.touched.list d.gone.items d.epoch d.count d.bytes d.log.left c.self.invariant c.in_ok-bookings.ensures.ascending c.rows-known.ensures.lawful c.args.class c.reach-reach.result c.args.length c.args.priority c.args.window c.reach-reach.ensures c.timeline.result.now.list c.as_slice-2.result.now c.in_ok-timeline.timeline.list c.timeline.ensures made c.in_ok-timeline.ensures
     ∙ ap (λ (x : Seen). free_tiers x.draft.book.rows x.draft.book.moment c.args.class c.args.length c.args.priority c.args.window) c.self.view_is in
     let found = rw (to_z-of_z c.ranges.priority) at c.free.ensures in
     subst (λ t. IfOk c.free.result (λ tiers. tiers ≡ t)) same found

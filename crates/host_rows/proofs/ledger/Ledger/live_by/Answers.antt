@@ -17,7 +17,7 @@ returns c =
     let same =
     c.in_ok-add_called.ensures
     ∙ (ap (with_called m rows (due_keys (last_deadline m) ds)) (c.in_ok-keys.ensures ∙ c.self.invariant.live)
-    ∙ (called_live n m rows ds c.in_order.ensures.ascending c.self.invariant.counted.moments c.len.ensures.ascending c.self.invariant.filed.waits
+    ∙ (called_live n m rows ds c.in_order-known.ensures.ascending c.self.invariant.counted.moments c.len-known.ensures.ascending c.self.invariant.filed.waits
     ∙ ap (λ (t : Ledger). keys_live_by t.number m t.list) c.self.view_is))
     in
     subst (λ wanted. IfOk c.to_list.result (λ made. made ≡ wanted)) same c.to_list.ensures

@@ -9,4 +9,4 @@ use Rattle.host_rows.proofs.ledger.Ledger.preempt.Goals as goal
 pub mark-requires-clause-moments : goal.mark-requires-clause-moments
 mark-requires-clause-moments c =
     let closing : Closing = record { moment = c.args.moment; why = Preempted c.args.by } in
-    closed_all HasMoments closing (λ r within. moments_closed closing r within) c.args.key c.args.self.now.list c.rows.ensures.moments
+    closed_all HasMoments closing (λ r within. moments_closed closing r within) c.args.key c.args.self.now.list c.rows-known.ensures.moments

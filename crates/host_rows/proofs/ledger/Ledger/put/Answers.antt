@@ -17,13 +17,13 @@ invariant_of-self c =
     let many : length c.put-place.new.self.list ≡ suc (length rows) = ap length c.put-place.ensures.rows ∙ length_put rows c.args.row in
     let found : find_row c.put-place.new.self.list c.args.row.key ≡ Some c.args.row = ap (λ l. find_row l c.args.row.key) c.put-place.ensures.rows ∙ found_put 0 rows c.args.row none in
     let waits : c.deadline_of-waits.result ≡ deadline_at (find_row c.put-place.new.self.list c.args.row.key) = c.deadline_of-waits.ensures ∙ ap deadline_at (sym found) in
-    let moves : Moves c.self.inside.deadlines.list rows c.put-place.new.self.list c.args.row.key = subst (λ l. Moves c.self.inside.deadlines.list rows l c.args.row.key) (sym c.put-place.ensures.rows) (moves_put c.self.inside.deadlines.list rows c.args.row c.in_order.ensures.ascending none c.self.invariant.filed.waits) in
+    let moves : Moves c.self.inside.deadlines.list rows c.put-place.new.self.list c.args.row.key = subst (λ l. Moves c.self.inside.deadlines.list rows l c.args.row.key) (sym c.put-place.ensures.rows) (moves_put c.self.inside.deadlines.list rows c.args.row c.in_order-known.ensures.ascending none c.self.invariant.filed.waits) in
     let room = ap (λ (t : Ledger). t.room) c.self.view_is in
     let some = c.requires.room in
     let n = c.self.inside.number in
     let live : marked c.is_live-lives.result c.self.inside.live.list c.args.row.key ≡ live_keys n c.put-place.new.self.list =
     ap₂ (λ b ks. marked b ks c.args.row.key) (c.is_live-lives.ensures ∙ ap (is_live_at n) (sym (found_put 0 rows c.args.row none))) c.self.invariant.live
-    ∙ (live_new n rows c.args.row c.in_order.ensures.ascending none ∙ ap (live_keys n) (sym c.put-place.ensures.rows)) in
+    ∙ (live_new n rows c.args.row c.in_order-known.ensures.ascending none ∙ ap (live_keys n) (sym c.put-place.ensures.rows)) in
     let places = c.review.ensures.places in
     let next = c.sooner_before-self-inside.result in
     let first = c.sooner-own.ensures.earlier in
@@ -39,7 +39,7 @@ invariant_of-self c =
       places = omega (arith, many, places, room, some);
       stay =
           subst (λ l. All (StaysUntil n l next) l) (sym c.put-place.ensures.rows)
-          (stays_put n rows c.args.row c.put-place.result c.self.inside.next_purge next c.in_order.ensures.ascending none c.put-place.ensures.gap (omega (arith, first, second))
+          (stays_put n rows c.args.row c.put-place.result c.self.inside.next_purge next c.in_order-known.ensures.ascending none c.put-place.ensures.gap (omega (arith, first, second))
           (λ i k is at.
           subst (λ l. IfSome (find_row l k) (StaysUntil n l next)) c.put-place.ensures.rows (c.sooner_before-self-inside.ensures.stays i k is (subst (λ l. IsPlaceOf l k i) (sym c.put-place.ensures.rows) at)))
           c.self.invariant.stay
@@ -54,7 +54,7 @@ refile-requires c =
     let many : length c.put-place.new.self.list ≡ suc (length rows) = ap length c.put-place.ensures.rows ∙ length_put rows c.args.row in
     let found : find_row c.put-place.new.self.list c.args.row.key ≡ Some c.args.row = ap (λ l. find_row l c.args.row.key) c.put-place.ensures.rows ∙ found_put 0 rows c.args.row none in
     let waits : c.deadline_of-waits.result ≡ deadline_at (find_row c.put-place.new.self.list c.args.row.key) = c.deadline_of-waits.ensures ∙ ap deadline_at (sym found) in
-    let moves : Moves c.self.inside.deadlines.list rows c.put-place.new.self.list c.args.row.key = subst (λ l. Moves c.self.inside.deadlines.list rows l c.args.row.key) (sym c.put-place.ensures.rows) (moves_put c.self.inside.deadlines.list rows c.args.row c.in_order.ensures.ascending none c.self.invariant.filed.waits) in
+    let moves : Moves c.self.inside.deadlines.list rows c.put-place.new.self.list c.args.row.key = subst (λ l. Moves c.self.inside.deadlines.list rows l c.args.row.key) (sym c.put-place.ensures.rows) (moves_put c.self.inside.deadlines.list rows c.args.row c.in_order-known.ensures.ascending none c.self.invariant.filed.waits) in
     let room = ap (λ (t : Ledger). t.room) c.self.view_is in
     let some = c.requires.room in
     refile_room rows c.put-place.new.self.list c.args.row.key c.self.inside.deadlines c.self.invariant.filed moves None c.deadline_of-waits.result (sym (ap deadline_at none)) waits (omega (arith, many, room, some))
@@ -65,7 +65,7 @@ review-requires-clause-before c =
     let rows = c.self.inside.rows.list in
     let none : find_row rows c.args.row.key ≡ None = subst (λ (t : Ledger). find_row t.list c.args.row.key ≡ None) (sym c.self.view_is) c.requires.new_key in
     let n = c.self.inside.number in
-    marked_before n rows c.args.row.key c.in_order.ensures.ascending c.self.inside.live.list c.self.invariant.live false (sym (ap (is_live_at n) none))
+    marked_before n rows c.args.row.key c.in_order-known.ensures.ascending c.self.inside.live.list c.self.invariant.live false (sym (ap (is_live_at n) none))
 
 pub review-requires-clause-place : goal.review-requires-clause-place
 review-requires-clause-place c = λ on absent.
@@ -77,7 +77,7 @@ review-requires-clause-place c = λ on absent.
     let n = c.self.inside.number in
     let live : marked c.is_live-lives.result c.self.inside.live.list c.args.row.key ≡ live_keys n c.put-place.new.self.list =
     ap₂ (λ b ks. marked b ks c.args.row.key) (c.is_live-lives.ensures ∙ ap (is_live_at n) (sym (found_put 0 rows c.args.row none))) c.self.invariant.live
-    ∙ (live_new n rows c.args.row c.in_order.ensures.ascending none ∙ ap (live_keys n) (sym c.put-place.ensures.rows)) in
+    ∙ (live_new n rows c.args.row c.in_order-known.ensures.ascending none ∙ ap (live_keys n) (sym c.put-place.ensures.rows)) in
     room_left n c.is_live-lives.result c.self.inside.live.list c.args.row.key c.put-place.new.self.list c.self.inside.live.places live (omega (arith, many, room, some)) on absent
 
 pub returns-clause-room : goal.returns-clause-room

@@ -11,7 +11,7 @@ use Rattle.host_rows.proofs.ledger.Ledger.settle_first.Goals as goal
 
 -- closing leaves the moments of rows in bounds
 pub mark_at-requires-clause-moments : goal.mark_at-requires-clause-moments
-mark_at-requires-clause-moments c = closed_all HasMoments c.in-Some.closing (λ r within. moments_closed c.in-Some.closing r within) c.args.key c.args.self.now.list c.rows.ensures.moments
+mark_at-requires-clause-moments c = closed_all HasMoments c.in-Some.closing (λ r within. moments_closed c.in-Some.closing r within) c.args.key c.args.self.now.list c.rows-known.ensures.moments
 
 -- no row of the key lapses
 pub invariant_of-self : goal.invariant_of-self
@@ -23,7 +23,7 @@ invariant_of-self c =
     let enough : length rows ≤ c.pass.new.self.places = let places = c.self.invariant.filed.places in let same = c.pass.ensures.places in omega (arith, places, same) in
     record {
       counted = c.self.invariant.counted;
-      filed = passed_filed c.args.moment c.args.key (due_keys c.args.moment (drop 1 ds.list)) rows ds c.self.invariant.filed (subst (λ (t : Ledger). IsAscendingRows t.list) (sym c.self.view_is) c.rows.ensures.ascending) due c.pass.new.self none c.pass.ensures.list enough;
+      filed = passed_filed c.args.moment c.args.key (due_keys c.args.moment (drop 1 ds.list)) rows ds c.self.invariant.filed (subst (λ (t : Ledger). IsAscendingRows t.list) (sym c.self.view_is) c.rows-known.ensures.ascending) due c.pass.new.self none c.pass.ensures.list enough;
       live = c.self.invariant.live;
       places = c.self.invariant.places;
       stay = c.self.invariant.stay;
@@ -34,14 +34,14 @@ pub returns-in-Some-clause-rows : goal.returns-in-Some-clause-rows
 returns-in-Some-clause-rows c =
     let rows = c.args.self.now.list in
     let lapses : option_and_then (lapse_of c.args.moment) (find_row rows c.args.key) ≡ Some c.in-Some.closing = sym c.lapse_of.ensures.lapse ∙ ap (option_map (λ found. found.1)) c.in-Some.is in
-    ap (settled_rows c.args.moment) c.mark_at.ensures.rows ∙ settled_at c.args.moment c.in-Some.closing c.args.key rows c.rows.ensures.ascending lapses
+    ap (settled_rows c.args.moment) c.mark_at.ensures.rows ∙ settled_at c.args.moment c.in-Some.closing c.args.key rows c.rows-known.ensures.ascending lapses
 
 pub returns-in-Some-clause-fewer : goal.returns-in-Some-clause-fewer
 returns-in-Some-clause-fewer c =
     let rows = c.args.self.now.list in
     let lapses : option_and_then (lapse_of c.args.moment) (find_row rows c.args.key) ≡ Some c.in-Some.closing = sym c.lapse_of.ensures.lapse ∙ ap (option_map (λ found. found.1)) c.in-Some.is in
     let same = ap length c.mark_at.ensures.deadlines in
-    let less = closed_fewer c.args.moment (omega (arith, c.ranges.moment)) rows c.mark_at.new.self.list c.args.key c.args.self.now.deadlines c.deadlines.ensures.waits c.in-Some.closing lapses c.mark_at.ensures.rows in
+    let less = closed_fewer c.args.moment (omega (arith, c.ranges.moment)) rows c.mark_at.new.self.list c.args.key c.args.self.now.deadlines c.deadlines-known.ensures.waits c.in-Some.closing lapses c.mark_at.ensures.rows in
     omega (arith, same, less)
 
 pub returns-in-None-clause-fewer : goal.returns-in-None-clause-fewer
