@@ -15,7 +15,7 @@ use Rattle.host_replay.proofs.OneBookLemmas.{apart}
 use Rattle.machine_keep.specs.Kept.{StandsEither, StandsFor}
 use Rattle.simulated_machine.specs.Held.{Held, Place, place_at, with_snapshot}
 use Rattle.world_law.specs.World.{Stage}
-use Rattle.rehearsal_model.specs.Simulated.{Left, no_fault_on, new_left, new_place, opened_on, snapshot_length, stepped}
+use Rattle.rehearsal_model.specs.Simulated.{Left, unarmed_on, new_left, new_place, opened_on, snapshot_length, stepped}
 use Rattle.rehearsal_model.proofs.UnarmedLemmas.{stepped_done}
 use Rattle.simulated_host.specs.Staged.{IsLeft, stage_of, staged, standing_of}
 use Rattle.simulated_host.proofs.StepLemmas.{snapshot_is}
@@ -55,7 +55,7 @@ module _ (one : OneBook) (config : Config) (pair : Result Counted DiskPlace) (h 
     (ready : (h.ready ≡ true) × (h.unsynced ≡ None) × (h.first ≡ 0) × (h.second ≡ 0))
     (read : Counted) (is_read : pair ≡ Ok read)
     (placed : (StandsFor StandsNow h.state pair × (h.place ≡ place_at read)) ⊎ (StandsFor StoodOnce h.state pair × ((image : List ℕ) × StandsNow (image ∷ []) h.state × (h.place ≡ with_snapshot (place_at read) (length image))))) where
-  no_fault_with : (s : Stage) → stage_of h.state ≡ s → (p : Place) → h.place ≡ p → staged h ≡ no_fault_on (record { state = s; place = p })
+  no_fault_with : (s : Stage) → stage_of h.state ≡ s → (p : Place) → h.place ≡ p → staged h ≡ unarmed_on (record { state = s; place = p })
   no_fault_with s a p b =
       ap (λ (x : Stage). record { state = x; place = h.place; ready = h.ready; unsynced = (staged h).unsynced; first = h.first; second = h.second }) a
       ∙ (ap (λ (x : Place). record { state = s; place = x; ready = h.ready; unsynced = (staged h).unsynced; first = h.first; second = h.second }) b
@@ -74,7 +74,7 @@ module _ (one : OneBook) (config : Config) (pair : Result Counted DiskPlace) (h 
   either_fixed = subst (λ (c : Config). StandsEither StandsNow StoodOnce (record { config = c; book = h.state.book }) pair) fixed either
 
   -- disks that a crash left
-  pub opened_left : (left : Left) → left.state.config ≡ config → IsLeft left pair → staged h ≡ no_fault_on left
+  pub opened_left : (left : Left) → left.state.config ≡ config → IsLeft left pair → staged h ≡ unarmed_on left
   opened_left left same stands =
       let now : StandsFor StandsNow (record { config = left.state.config; book = left.state.book }) pair = subst (λ (p : Result Counted DiskPlace). StandsFor StandsNow (standing_of left.state) p) (sym stands.is_left) stands.stood in
       let now_fixed : StandsEither StandsNow StoodOnce (record { config = config; book = left.state.book }) pair = inl (subst (λ (c : Config). StandsFor StandsNow (record { config = c; book = left.state.book }) pair) same now) in
@@ -91,7 +91,7 @@ module _ (one : OneBook) (config : Config) (pair : Result Counted DiskPlace) (h 
     fresh_once : StandsFor StoodOnce (record { config = config; book = empty_book }) (pair_of FRESH_FIRST FRESH_SECOND)
     fresh_once = record { from = empty_book; is = refl; lawful = empty_lawful config.number; leads = refl }
 
-    pub opened_new : staged h ≡ no_fault_on (new_left config)
+    pub opened_new : staged h ≡ unarmed_on (new_left config)
     opened_new =
         let once : StandsFor StoodOnce (record { config = config; book = empty_book }) pair = subst (λ (p : Result Counted DiskPlace). StandsFor StoodOnce (record { config = config; book = empty_book }) p) (sym anew) fresh_once in
         let same_one : h.state.book ≡ empty_book = same_book one config pair h.state.book empty_book either_fixed (inr once) in
@@ -111,8 +111,8 @@ module _ (one : OneBook) (config : Config) (pair : Result Counted DiskPlace) (h 
             at_of (Err place) = new_place
 
 -- ---- its first step
-pub first_step : (left : Left) (clock : ℕ) → stepped (no_fault_on left) clock Open ≡ opened_on left clock
-first_step left clock = stepped_done (no_fault_on left) refl refl clock Open
+pub first_step : (left : Left) (clock : ℕ) → stepped (unarmed_on left) clock Open ≡ opened_on left clock
+first_step left clock = stepped_done (unarmed_on left) refl refl clock Open
 
 -- ---- where a call ended well
 pub on_ok : {T E : Type 0} {P : Type 0} (r : Result T E) (x : T) → r ≡ Ok x → P → OnOk r P

@@ -10,7 +10,7 @@ ghost use Rattle.simulated_machine.specs.Held.{armed_at, configured, fault_at};
 ghost use Rattle.simulated_machine.specs.IsHeld.{held};
 ghost use Rattle.rehearsal_model.specs.Plays.{IsSimulated};
 ghost use Rattle.rehearsal_model.specs.Rehearsal.{retooled};
-ghost use Rattle.rehearsal_model.specs.Simulated.{Left, answered, no_fault_on, ended_at, fault_in, is_before, left_stopped, new_left, opened_anew, opened_on, stage_with, stepped, stop_met};
+ghost use Rattle.rehearsal_model.specs.Simulated.{Left, answered, unarmed_on, ended_at, fault_in, is_before, left_stopped, new_left, opened_anew, opened_on, stage_with, stepped, stop_met};
 ghost use Rattle.simulated_host.specs.Kept.{IsKeptOn};
 ghost use Rattle.simulated_host.specs.Staged.{IsLeft, staged};
 
@@ -305,7 +305,7 @@ fn begin(alloc: Global, simulated: SimulatedHost, clock: Moment) -> Result<Simul
     requires config { IsConfig simulated.state.config }
     requires clock { clock ≤ MAX_MOMENT }
     ensures config { IfOk result (λ made. made.state.config ≡ simulated.state.config) }
-    ensures opened { IfOk result (λ made. (left : Left) → simulated ≡ no_fault_on left → made ≡ opened_on left clock) }
+    ensures opened { IfOk result (λ made. (left : Left) → simulated ≡ unarmed_on left → made ≡ opened_on left clock) }
 {
     let mut simulated = simulated;
     let reply = simulated.act(alloc, clock, Input::Open)?;
