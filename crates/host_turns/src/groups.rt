@@ -87,16 +87,16 @@ pub(crate) fn make_asks(
     draft: &mut Draft<'_>,
     config: &Config,
     tasks: &[TaskRow],
-    host: &HostBook,
+    book: &HostBook,
 ) -> Result<(), Memory>
     requires name { is_name config.now.name ≡ true }
-    requires tasks { tasks.now ≡ host.now.book.tasks }
+    requires tasks { tasks.now ≡ book.now.book.tasks }
     requires turn { IsTurn config.now tasks.now draft.old }
-    ensures made { OnOk result (draft.new ≡ with_draft (make_asked config.now draft.old.draft.book.moment (awake_among host.now.number host.now.book.rows draft.old.draft.book.moment tasks.now) draft.old.draft) draft.old) }
+    ensures made { OnOk result (draft.new ≡ with_draft (make_asked config.now draft.old.draft.book.moment (awake_among book.now.number book.now.book.rows draft.old.draft.book.moment tasks.now) draft.old.draft) draft.old) }
     ensures turn { OnOk result (IsTurn config.now tasks.now draft.new) }
 {
     for task in tasks {
-        ask_awake(alloc, draft, config, tasks, host, task)?;
+        ask_awake(alloc, draft, config, tasks, book, task)?;
     }
     Ok(())
 }
@@ -106,17 +106,17 @@ fn ask_awake(
     draft: &mut Draft<'_>,
     config: &Config,
     tasks: &[TaskRow],
-    host: &HostBook,
+    book: &HostBook,
     task: &TaskRow,
 ) -> Result<(), Memory>
     requires name { is_name config.now.name ≡ true }
-    requires tasks { tasks.now ≡ host.now.book.tasks }
+    requires tasks { tasks.now ≡ book.now.book.tasks }
     requires turn { IsTurn config.now tasks.now draft.old }
     requires known { find_task tasks.now task.now.serial ≡ Some task.now }
-    ensures made { OnOk result (draft.new ≡ with_draft (make_asked config.now draft.old.draft.book.moment (awake_among host.now.number host.now.book.rows draft.old.draft.book.moment (task.now ∷ [])) draft.old.draft) draft.old) }
+    ensures made { OnOk result (draft.new ≡ with_draft (make_asked config.now draft.old.draft.book.moment (awake_among book.now.number book.now.book.rows draft.old.draft.book.moment (task.now ∷ [])) draft.old.draft) draft.old) }
     ensures turn { OnOk result (IsTurn config.now tasks.now draft.new) }
 {
-    if host.is_awake(task.serial, draft.moment()) {
+    if book.is_awake(task.serial, draft.moment()) {
         make_ask(alloc, draft, config, tasks, task)
     } else {
         Ok(())

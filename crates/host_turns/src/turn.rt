@@ -37,27 +37,27 @@ use std::alloc::Global;
 pub fn turn(
     alloc: Global,
     config: &Config,
-    host: &HostBook,
+    book: &HostBook,
     moment: Moment,
 ) -> Result<Outcome, Memory>
-    requires number { host.now.number ≡ config.now.number }
+    requires number { book.now.number ≡ config.now.number }
     requires name { is_name config.now.name ≡ true }
-    requires later { host.now.book.moment ≤ moment }
+    requires later { book.now.book.moment ≤ moment }
     requires bound { moment ≤ MAX_MOMENT }
-    ensures { IfOk result (λ outcome. outcome ≡ turn_of config.now (settled moment host.now.book) moment) }
+    ensures { IfOk result (λ outcome. outcome ≡ turn_of config.now (settled moment book.now.book) moment) }
 {
-    let keys = host.live_by(alloc, moment)?;
+    let keys = book.live_by(alloc, moment)?;
     let live = keys.as_slice();
-    let exclusive = exclusive_keys(alloc, host.rows(), live)?;
-    let mut draft = Draft::new(alloc, host, &config.limits, moment)?;
+    let exclusive = exclusive_keys(alloc, book.rows(), live)?;
+    let mut draft = Draft::new(alloc, book, &config.limits, moment)?;
     let turn = Turn {
         config,
-        tasks: host.tasks(),
+        tasks: book.tasks(),
         live,
         exclusive: exclusive.as_slice(),
     };
-    turn.make_most(alloc, &mut draft, host)?;
-    turn.make_last(alloc, &mut draft, host, moment)?;
+    turn.make_most(alloc, &mut draft, book)?;
+    turn.make_last(alloc, &mut draft, book, moment)?;
     Ok(changed(draft.into_changes()))
 }
 
@@ -73,10 +73,10 @@ fn changed(list: Items<Change>) -> Outcome
 }
 
 // Whether the purging has to look at all rows: one that is still may go, or the turn asks about a run that may let one go.
-fn looks_at_all(draft: &Draft<'_>, host: &HostBook, moment: Moment) -> bool
-    ensures { IsFalse result → StillStay host.now.number host.now.book.rows moment × (let_go moment host.now.book.rows draft.now.draft.changes ≡ false) }
+fn looks_at_all(draft: &Draft<'_>, book: &HostBook, moment: Moment) -> bool
+    ensures { IsFalse result → StillStay book.now.number book.now.book.rows moment × (let_go moment book.now.book.rows draft.now.draft.changes ≡ false) }
 {
-    host.may_purge(moment) || let_go(draft.changes(), host.rows(), moment)
+    book.may_purge(moment) || let_go(draft.changes(), book.rows(), moment)
 }
 
 // Whether one of the changes asks about a run whose task's newest row is long past.
@@ -114,18 +114,18 @@ fn is_past_at(row: Option<&RunRow>, moment: Moment) -> bool
 
 impl<'a> Turn<'a> {
     // The groups before the purging.
-    fn make_most(&self, alloc: Global, draft: &mut Draft<'_>, host: &HostBook) -> Result<(), Memory>
+    fn make_most(&self, alloc: Global, draft: &mut Draft<'_>, book: &HostBook) -> Result<(), Memory>
         requires name { is_name self.now.config.now.name ≡ true }
-        requires tasks { self.now.tasks.now ≡ host.now.book.tasks }
+        requires tasks { self.now.tasks.now ≡ book.now.book.tasks }
         requires turn { IsLiveTurn self.now.config.now self.now.tasks.now self.now.live.now self.now.exclusive.now draft.old }
-        ensures made { OnOk result (draft.new ≡ with_draft (turned_awake self.now.config.now draft.old.draft.book.moment self.now.live.now (awake_among host.now.number host.now.book.rows draft.old.draft.book.moment self.now.tasks.now) draft.old.draft) draft.old) }
+        ensures made { OnOk result (draft.new ≡ with_draft (turned_awake self.now.config.now draft.old.draft.book.moment self.now.live.now (awake_among book.now.number book.now.book.rows draft.old.draft.book.moment self.now.tasks.now) draft.old.draft) draft.old) }
         ensures turn { OnOk result (IsTurn self.now.config.now self.now.tasks.now draft.new) }
     {
         self.make_due(alloc, draft, Due::End)?;
         self.make_due(alloc, draft, Due::Merge)?;
         self.make_due(alloc, draft, Due::Start)?;
         self.make_due(alloc, draft, Due::Plan)?;
-        make_asks(alloc, draft, self.config, self.tasks, host)
+        make_asks(alloc, draft, self.config, self.tasks, book)
     }
 
     // The purging, behind the other groups.
@@ -133,17 +133,17 @@ impl<'a> Turn<'a> {
         &self,
         alloc: Global,
         draft: &mut Draft<'_>,
-        host: &HostBook,
+        book: &HostBook,
         moment: Moment,
     ) -> Result<(), Memory>
-        requires number { host.now.number ≡ self.now.config.now.number }
-        requires live { self.now.live.now ≡ keys_live_by host.now.number moment host.now.book.rows }
+        requires number { book.now.number ≡ self.now.config.now.number }
+        requires live { self.now.live.now ≡ keys_live_by book.now.number moment book.now.book.rows }
         requires turn { IsTurn self.now.config.now self.now.tasks.now draft.old }
-        requires made { draft.old.draft ≡ turned_most self.now.config.now moment self.now.live.now (fresh (settled moment host.now.book)) }
-        ensures { OnOk result (draft.new.draft ≡ turned self.now.config.now moment (fresh (settled moment host.now.book))) }
+        requires made { draft.old.draft ≡ turned_most self.now.config.now moment self.now.live.now (fresh (settled moment book.now.book)) }
+        ensures { OnOk result (draft.new.draft ≡ turned self.now.config.now moment (fresh (settled moment book.now.book))) }
     {
-        let rows = host.rows();
-        if looks_at_all(draft, host, moment) {
+        let rows = book.rows();
+        if looks_at_all(draft, book, moment) {
             make_purges(alloc, draft, self.config, self.tasks, rows.in_order())
         } else {
             purge_keys(alloc, draft, self.config, self.tasks, self.live)

@@ -7,7 +7,7 @@ use Rattle.host_turns.proofs.groups.ask_awake.Goals as goal
 
 pub returns-then-is_awake-clause-made : goal.returns-then-is_awake-clause-made
 returns-then-is_awake-clause-made c =
-    let host = c.args.host.now in
+    let host = c.args.book.now in
     let task = c.args.task.now in
     let before = c.args.draft.now in
     let found : find_task host.book.tasks task.serial ≡ Some task = subst (λ ts. find_task ts task.serial ≡ Some task) c.requires.tasks c.requires.known in
@@ -17,7 +17,7 @@ returns-then-is_awake-clause-made c =
 
 pub returns-else-is_awake-clause-made : goal.returns-else-is_awake-clause-made
 returns-else-is_awake-clause-made c =
-    let host = c.args.host.now in
+    let host = c.args.book.now in
     let task = c.args.task.now in
     let found : find_task host.book.tasks task.serial ≡ Some task = subst (λ ts. find_task ts task.serial ≡ Some task) c.requires.tasks c.requires.known in
     asleep_left c.args.config.now host.number host.book.rows task c.args.draft.now c.moment.result c.is_awake.result c.moment.ensures.value (c.is_awake.ensures task found) c.if-is_awake.false

@@ -15,7 +15,7 @@ ask_awake-requires-clause-known c =
 pub loop-task-preserved : goal.loop-task-preserved
 loop-task-preserved c =
     let config = c.args.config.now in
-    let host = c.args.host.now in
+    let host = c.args.book.now in
     let m = c.args.draft.now.draft.book.moment in
     let tasks = c.args.tasks.now in
     let i = c.loop-task.task-index in

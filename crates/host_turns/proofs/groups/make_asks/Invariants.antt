@@ -10,7 +10,7 @@ abbrev pub invariant-loop-task : goal.invariant-loop-task
 invariant-loop-task l =
     let m = l.initial.draft.draft.book.moment in
     record {
-      left : with_draft (make_asked l.config m (awake_among l.host.number l.host.book.rows m l.tasks) l.initial.draft.draft) l.initial.draft ≡ with_draft (make_asked l.config m (awake_among l.host.number l.host.book.rows m (drop l.task-index l.tasks)) l.draft.draft) l.draft;
+      left : with_draft (make_asked l.config m (awake_among l.book.number l.book.book.rows m l.tasks) l.initial.draft.draft) l.initial.draft ≡ with_draft (make_asked l.config m (awake_among l.book.number l.book.book.rows m (drop l.task-index l.tasks)) l.draft.draft) l.draft;
       turn : IsTurn l.config l.tasks l.draft;
       at : l.draft.draft.book.moment ≡ m;
     }
