@@ -1,0 +1,12 @@
+use Rattle.std.proofs.Common.{All}
+use Rattle.std.specs.List.{AllZip}
+use Rattle.door_workers.specs.Seats.{HoldsHere, GoesOn}
+use Rattle.door_workers.proofs.round.make_rounds.Given as goal
+
+abbrev pub invariant-loop : goal.invariant-loop
+invariant-loop g l = record {
+  fits : All (HoldsHere (g.A.Attendant.fits l.attendant)) l.seats;
+  run : AllZip (GoesOn g.D.Door.door_faults g.D.Door.share g.D.Door.given g.D.Door.returned (g.A.Attendant.attended l.attendant)) l.initial.seats l.seats;
+  own : g.W.Rounds.fits l.rounds l.own;
+  rounded : g.W.Rounds.rounded l.initial.rounds l.initial.own l.rounds l.own;
+}
