@@ -67,7 +67,7 @@ module _ {D : Type 0} (premise : Type 0) (seen : D → List ℕ) (told : D → O
     says = answered_says said a.answered;
     book = answered_book said a.answered;
     durable = a.durable;
-    few = a.log_bounded;
+    log_bounded = a.log_bounded;
     ready = a.ready (λ e. cc);
     no_fault = a.no_fault (λ e. cc);
     counts = is ∙ answered_counts said a.answered a.order;

@@ -63,7 +63,7 @@ module _ {M S T : Type 0} (state : M → S) (stands : List (List ℕ) → S → 
   }
 
   now_armed : (now disk : DiskState) (m : ℕ) → now ≡ armed disk n → IsArmed disk m → IsArmed now n
-  now_armed now disk m is a = subst (λ d. IsArmed d n) (sym is) (record { reads = a.reads; fed = a.fed; few = a.log_bounded; armed = refl })
+  now_armed now disk m is a = subst (λ d. IsArmed d n) (sym is) (record { reads = a.reads; fed = a.fed; few = a.few; armed = refl })
 
   pub held_armed : (h : Held S) → IsHeld state stands after mid h → IsHeld state stands after new (armed_at h n)
   held_armed h is = record {

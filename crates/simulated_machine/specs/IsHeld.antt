@@ -73,7 +73,7 @@ held state after s = held_of state after s.keep s.unsynced
 -- Of a machine that is held: its disks met at most so many faults, no snapshot was put off, and so many bytes are its snapshot and its records at most.
 pub record Holds {M S T F : Type 0} (fixed : S → F) (state : M → S) (stands : List (List ℕ) → S → Type 0) (after : S → T → S) (k : Kept M DiskState T) (unsynced : Option Bool) (faults most : ℕ) : Type 0 where
   pub held : IsHeld state stands after k (held_of state after k unsynced)
-  pub log_bounded : HasFaults k.journal faults
+  pub few : HasFaults k.journal faults
   pub made : k.put_off ≡ 0
   pub is_fixed : fixed (held_of state after k unsynced).state ≡ fixed (state k.machine)
   pub size : most < 2 ^ 64 - 1 → (held_of state after k unsynced).place.snapshot + (held_of state after k unsynced).place.records ≤ most

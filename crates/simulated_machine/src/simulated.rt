@@ -411,7 +411,7 @@ fn failing_at(is_ready: bool, is_second: bool, first: u64, second: u64) -> Optio
 // Which call is to fail of those of a record and a snapshot.
 fn failing_kept(is_second: bool, first: u64, second: u64) -> Option<u64>
     ensures kept { result ≡ failing first second (four is_second ++ seven (not is_second)) }
-    ensures log_bounded { IfSome result (λ number. number ≤ 11) }
+    ensures few { IfSome result (λ number. number ≤ 11) }
 {
     if is_second {
         return failing_in(second, first);
@@ -422,7 +422,7 @@ fn failing_kept(is_second: bool, first: u64, second: u64) -> Option<u64>
 // Four calls of the disk that counts, and seven of the other.
 fn failing_in(counting: u64, other: u64) -> Option<u64>
     ensures is { result ≡ failing counting other (four false ++ seven true) }
-    ensures log_bounded { IfSome result (λ number. number ≤ 11) }
+    ensures few { IfSome result (λ number. number ≤ 11) }
 {
     if counting != 0 && counting <= 4 {
         return Some(counting);

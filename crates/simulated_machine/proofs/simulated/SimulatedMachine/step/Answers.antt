@@ -19,7 +19,7 @@ invariant_of-self-in-Answered g c fed =
     let it = c.step_of.ensures.done c.in-Answered.reply is holds.made (held_of m.state m.after old c.self.inside.unsynced) holds.held in
     let at = c.known.ensures.place tt (answered_ready m.fixed m.state m.stands_for m.record_of m.answers m.follows m.after g.met.M.Machine.fixed_after old new c.self.inside.unsynced c.self.inside.faults c.self.inside.most_bytes holds c.step_of.ensures.fixed c.args.call c.in-Answered.reply it) in (
       answered_holds m.fixed m.state m.stands_for m.record_of m.answers m.follows m.after g.met.M.Machine.fixed_after old new c.self.inside.unsynced c.self.inside.faults c.self.inside.most_bytes holds c.step_of.ensures.fixed c.args.call c.in-Answered.reply it
-          (c.step_of.ensures.no_fault c.in-Answered.reply is c.self.inside.faults (omega (arith, c.if-self-gt-MOST.false)) holds.log_bounded)
+          (c.step_of.ensures.no_fault c.in-Answered.reply is c.self.inside.faults (omega (arith, c.if-self-gt-MOST.false)) holds.few)
           (c.in_ok-reply.ensures.made holds.made) c.snapshot_bytes.result c.record_bytes.result c.saturating_add-self-inside.result c.snapshot_bytes.ensures c.record_bytes.ensures c.saturating_add-self-inside.ensures at,
       answered_counts m.fixed m.state m.stands_for m.record_of m.answers m.follows m.after g.met.M.Machine.fixed_after old new c.self.inside.unsynced c.self.inside.faults c.self.inside.most_bytes holds c.step_of.ensures.fixed c.args.call c.in-Answered.reply it c.is_second-self-inside.result c.is_second-self-inside.ensures at,
     )
@@ -31,7 +31,7 @@ invariant_of-self-in-Faulted g c fed =
     let new = c.step_of.new.keep in
     let holds = (c.self.invariant c.if-not-self.false).0 in
     let is = c.in_ok-reply.was ∙ ap Ok c.in-Faulted.is in
-    let it = c.step_of.ensures.faulted is (held_of m.state m.after old c.self.inside.unsynced) c.self.inside.faults holds.held holds.log_bounded (omega (arith, c.if-self-gt-MOST.false)) (omega (arith, c.if-self-gt-MOST-2.false, holds.size (omega (arith, c.if-self-gt-MOST-2.false)))) in
+    let it = c.step_of.ensures.faulted is (held_of m.state m.after old c.self.inside.unsynced) c.self.inside.faults holds.held holds.few (omega (arith, c.if-self-gt-MOST.false)) (omega (arith, c.if-self-gt-MOST-2.false, holds.size (omega (arith, c.if-self-gt-MOST-2.false)))) in
     let l = c.unsynced_after-self-inside.ensures in
     let first = c.saturating_sub-first.result in
     let second = c.saturating_sub-second.result in
@@ -66,7 +66,7 @@ returns-in-Faulted-clause-faulted g c same =
     let new = c.step_of.new.keep in
     let holds = (c.self.invariant c.if-not-self.false).0 in
     let is = c.in_ok-reply.was ∙ ap Ok c.in-Faulted.is in
-    let it = c.step_of.ensures.faulted is (held_of m.state m.after old c.self.inside.unsynced) c.self.inside.faults holds.held holds.log_bounded (omega (arith, c.if-self-gt-MOST.false)) (omega (arith, c.if-self-gt-MOST-2.false, holds.size (omega (arith, c.if-self-gt-MOST-2.false)))) in
+    let it = c.step_of.ensures.faulted is (held_of m.state m.after old c.self.inside.unsynced) c.self.inside.faults holds.held holds.few (omega (arith, c.if-self-gt-MOST.false)) (omega (arith, c.if-self-gt-MOST-2.false, holds.size (omega (arith, c.if-self-gt-MOST-2.false)))) in
     let l = c.unsynced_after-self-inside.ensures in
     let first = c.saturating_sub-first.result in
     let second = c.saturating_sub-second.result in
