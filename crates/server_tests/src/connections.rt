@@ -156,11 +156,7 @@ static THREE: &[u8] =
 static THREE_ANSWERED: &[u8] =
     b"HTTP/1.1 200 OK\r\nContent-Type: application/json\r\nContent-Length: 2\r\n\r\n/aHTTP/1.1 503 Service Unavailable\r\nContent-Type: application/json\r\nContent-Length: 16\r\n\r\n{\"error\":\"disk\"}HTTP/1.1 200 OK\r\nContent-Type: application/json\r\nContent-Length: 2\r\nConnection: close\r\n\r\n/b";
 
-/// The first of them, and with it the begin of another.
-static FIRST: &[u8] = b"GET /a HTTP/1.1\r\nHost: b\r\n\r\n";
-
-static FIRST_AND_MORE: &[u8] = b"GET /a HTTP/1.1\r\nHost: b\r\n\r\nGET /";
-
+/// The reply to the first of them.
 static FIRST_ANSWERED: &[u8] =
     b"HTTP/1.1 200 OK\r\nContent-Type: application/json\r\nContent-Length: 2\r\n\r\n/a";
 
@@ -188,7 +184,7 @@ static MEMORY_ANSWERED: &[u8] =
 fn closed(rt: HostRuntime) -> Result<(), Fail> {
     let alloc = rt.alloc();
     assert!(rt; is_answered(&rt, alloc, THREE, ConnEnd::Closed, THREE_ANSWERED)?);
-    assert!(rt; is_answered(&rt, alloc, FIRST, ConnEnd::Closed, FIRST_ANSWERED)?);
+    assert!(rt; is_answered(&rt, alloc, &THREE[..28], ConnEnd::Closed, FIRST_ANSWERED)?);
     assert!(rt; is_answered(&rt, alloc, b"", ConnEnd::Closed, b"")?);
     Ok(())
 }
@@ -218,7 +214,7 @@ fn cut_short(rt: HostRuntime) -> Result<(), Fail> {
         is_answered(
             &rt,
             alloc,
-            FIRST_AND_MORE,
+            &THREE[..33],
             ConnEnd::EndInside(5),
             FIRST_ANSWERED
         )?
@@ -284,7 +280,7 @@ fn a_service_that_waits(rt: HostRuntime) -> Result<(), Fail> {
         count: &count,
         alloc,
     };
-    let mut stream = stream_of(alloc, FIRST, 0, &[])?;
+    let mut stream = stream_of(alloc, &THREE[..28], 0, &[])?;
     let (end, requests) = serve(&rt, alloc, &service, &mut stream)?;
     assert!(rt; end == ConnEnd::Closed && requests == 1);
     Ok(())

@@ -7,7 +7,7 @@ use ps_ports::sink::Sink;
 use ps_ports::source::Source;
 use ps_ports::stream::Stream;
 
-const HEAD: &[u8; 53] = b"PUT /b HTTP/1.1\r\nHost: b\r\nContent-Length: 1048523\r\n\r\n";
+static HEAD: &[u8] = b"PUT /b HTTP/1.1\r\nHost: b\r\nContent-Length: 1048523\r\n\r\n";
 
 /// How many bytes each request has: its head's 53, and the body's.
 const LENGTH: usize = 1_048_576;
