@@ -30,7 +30,7 @@ returns-clause-held_hosts c =
     let at : Held Stage = slice_index_or xs place nobody_held in
     let back : Held Stage = c.in_ok-ended.ended.0 in
     let is : c.remove-held_host.result ≡ at = c.remove-held_host.ensures.value ∙ read_any xs place c.remove-held_host.result nobody_held c.requires.place in
-    let made : back ≡ ended_at at c.args.clock c.args.input c.args.stop = c.in_ok-ended.ensures.held_host ∙ ap (λ (x : Held Stage). ended_at x c.args.clock c.args.input c.args.stop) is in
+    let made : back ≡ ended_at at c.args.clock c.args.input c.args.stop = c.in_ok-ended.ensures.simulated ∙ ap (λ (x : Held Stage). ended_at x c.args.clock c.args.input c.args.stop) is in
     c.in_ok-insert.ensures.items
     ∙ (ap (λ (ys : List (Held Stage)). insert ys place back) c.remove-held_host.ensures.items
     ∙ (put_back xs place back c.requires.place

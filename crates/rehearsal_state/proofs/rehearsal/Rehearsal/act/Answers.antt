@@ -17,4 +17,4 @@ pub returns-clause-simulation : goal.returns-clause-simulation
 returns-clause-simulation c =
     let s = c.index_mut-held_host.result.now in
     let is = held_host_so _ c.args.self.now c.self.view_is c.args.place c.requires.ready.there s c.index_mut-held_host.ensures.value in
-    on_ok_weaker c.act.result (act_so _ c.args.self.now c.self.view_is c.args.place s c.act.new.self is c.args.clock c.args.input) c.act.ensures.held_host
+    on_ok_weaker c.act.result (act_so _ c.args.self.now c.self.view_is c.args.place s c.act.new.self is c.args.clock c.args.input) c.act.ensures.simulated
