@@ -170,7 +170,7 @@ pub fn archive<A: Archivers>(
     match now.step(alloc, place, clock, Input::View(Page::Home))? {
         StepOutcome::Answered(reply) => {
             drop(reply);
-            let _known = now.held_host(place).book().rows();
+            let _ = now.held_host(place).book().rows();
             now.advance(clock);
             try_first(alloc, archivers, now, place, clock, line, report)
         }

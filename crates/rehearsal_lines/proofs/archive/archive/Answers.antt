@@ -51,7 +51,7 @@ try_first-requires-in-Answered-clause-ready g c =
       there = subst (λ (x : Simulation). place < length x.held_hosts) (sym simulation) (there_then b place clock look reply said c.requires.there);
       config = subst (λ (x : Simulation). IsConfig (held_at x place).state.config) (sym simulation) (subst IsConfig (config_then b place clock look reply said c.requires.there) c.requires.config);
       book = subst (λ (h : Held Stage). Lawful h.state.config.number h.state.book) held_host
-          (subst (λ n. Lawful n c.held_host-in-Answered.result.now.state.book) c.book.ensures.number (subst (λ k. Lawful c.book.result.now.number k) c.book.ensures.book c.rows-known.ensures.lawful));
+          (subst (λ n. Lawful n c.held_host-in-Answered.result.now.state.book) c.book.ensures.number (subst (λ k. Lawful c.book.result.now.number k) c.book.ensures.book c.rows.ensures.lawful));
       in_time = c.requires.in_time;
     })
 
