@@ -1,5 +1,5 @@
 //! Connections that were taken and haven't sent a whole head yet.
-ghost use Rattle.std.specs.Prelude.{◌≤◌, length};
+ghost use Rattle.std.specs.Prelude.{◌≡◌, ◌≤◌, ◌<◌, ◌+◌, length, vec_len};
 
 use crate::deadline::Deadline;
 use std::alloc::{AllocError, Global};
@@ -103,8 +103,8 @@ impl<G: Guest> WaitingRoom<G> {
     }
 
     fn leave(&mut self, place: usize) -> G
-        requires { place < length self.old.seats.items }
-        ensures { length self.new.seats.items + 1 ≡ length self.old.seats.items }
+        requires { place < vec_len self.old.seats }
+        ensures { vec_len self.new.seats + 1 ≡ vec_len self.old.seats }
     {
         let Seat { guest, until: _ } = self.seats.remove(place);
         guest
