@@ -3,7 +3,7 @@ use Rattle.std.specs.Prelude.{◌≡◌, ◌+◌, ◌<◌, ℕ, Bool, true, fals
 use Rattle.std.specs.declared.time.Duration.{Duration}
 use Rattle.std.specs.Duration.{as_nanos}
 use Rattle.ps_sockets.specs.declared.pace.Phase.{Phase}
-use Rattle.ps_sockets.specs.declared.pace.Phase.TheVariants.{New, Silence, Message, Response}
+use Rattle.ps_sockets.specs.declared.pace.Phase.TheVariants.{Silence, Message, Response}
 use Rattle.ps_sockets.specs.declared.waits.Waits.{Waits}
 
 -- what is left of a wait that ends there
