@@ -307,12 +307,16 @@ fn a_slow_client(rt: HostRuntime) -> Result<(), Fail> {
     Ok(())
 }
 
-static BODY: [u8; 60_000] = [7; 60_000];
+static PIECE: [u8; 1_000] = [7; 1_000];
 
-// Sends a head and a long body, and then reads what comes back.
-fn send_much(rt: &HostRuntime, address: &str) -> io::Result<bool> {
+// Sends a head, goes on sending for a while, and then reads what comes back. Where the other end has closed the
+// connection, a write fails.
+fn send_on(rt: &HostRuntime, address: &str) -> io::Result<bool> {
     let mut client = connect_and_send(rt, address, HEAD)?;
-    client.write_all(&BODY)?;
+    for _ in 0..20u32 {
+        thread::sleep(rt, Duration::from_millis(20));
+        client.write_all(&PIECE)?;
+    }
     Ok(is_echoed(&mut client, b'1'))
 }
 
@@ -329,7 +333,7 @@ fn an_early_answer(rt: HostRuntime) -> Result<(), Fail> {
         .map_err(|_| "listen")?;
     let (sent, echoed) = thread::join(
         &rt,
-        || send_much(&rt, address.as_str()),
+        || send_on(&rt, address.as_str()),
         || echo_at_first(&mut porch, alloc, doors),
     );
     assert!(rt; sent?);
