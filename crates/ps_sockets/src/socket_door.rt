@@ -1,9 +1,9 @@
 //! A door over a listening socket.
-ghost use Rattle.std.specs.Prelude.{◌≡◌, ◌≤◌, ◌-◌, ◌==◌, not, IfOk, true, length};
+ghost use Rattle.std.specs.Prelude.{◌≡◌, ◌≤◌, ◌-◌, ◌+◌, ◌==◌, not, min, IfOk, true, length};
 ghost use Rattle.std.specs.Option.{option_map};
-ghost use Rattle.ps_ports.specs.Causes.{counted};
+ghost use Rattle.ps_ports.specs.Causes.{counted, raised};
 ghost use Rattle.ps_doors.specs.Door.{HasAddress, greatest_address, is_closed, is_used_up, door_faults_after, share_after};
-ghost use Rattle.ps_sockets.specs.Door.{is_none};
+ghost use Rattle.ps_sockets.specs.Door.{is_none, is_failed, is_gone, most_in_a_row};
 
 use crate::listener::Listener;
 use ps_doors::door::{Accepted, Door, MOST_ADDRESS};
@@ -22,23 +22,32 @@ const TRIES: u32 = 1_000;
 // Room for the text of an address.
 const ROOM: usize = 64;
 
+/// How many unexpected errors in a row say that a listener is gone.
+pub const MOST_IN_A_ROW: u32 = 1_000;
+
 /// A door that gives at most its share of connections, or any number.
 #[derive(Drop)]
 pub struct SocketDoor<L> {
     listener: L,
     share: Option<u64>,
     faults: Faults,
+    hitches: Faults,
+    in_a_row: u32,
 }
 
 impl<L: Listener> SocketDoor<L> {
     pub(crate) fn new(listener: L, share: Option<u64>) -> SocketDoor<L>
         ensures share { result.share ≡ share }
         ensures faults { result.faults ≡ 0 }
+        ensures hitches { result.hitches ≡ 0 }
+        ensures in_a_row { result.in_a_row ≡ 0 }
     {
         SocketDoor {
             listener,
             share,
             faults: Faults::none(),
+            hitches: Faults::none(),
+            in_a_row: 0,
         }
     }
 
@@ -49,10 +58,36 @@ impl<L: Listener> SocketDoor<L> {
         self.faults.count()
     }
 
+    /// How many unexpected errors the listener gave, also those at which the call answered that nobody waits.
+    pub fn hitches(&self) -> u64
+        ensures { result ≡ self.now.hitches }
+    {
+        self.hitches.count()
+    }
+
     pub(crate) fn has_failed(&self) -> bool
         ensures { result ≡ not (counted self.now.faults == 0) }
     {
         self.faults.count() != 0
+    }
+
+    // An unexpected error, such as want of descriptors. Only after many in a row the listener counts as gone.
+    fn stumble(&mut self) -> Accepted<L::Stream>
+        ensures none { is_none result ≡ true }
+        ensures same { self.new.share ≡ self.old.share }
+        ensures count { counted self.new.faults ≡ door_faults_after (counted self.old.faults) result }
+        ensures in_a_row { self.new.in_a_row ≡ min (self.old.in_a_row + 1) most_in_a_row }
+        ensures failed { is_failed result ≡ is_gone self.new.in_a_row }
+        ensures hitches { self.new.hitches ≡ raised self.old.hitches }
+    {
+        self.hitches.raise();
+        self.in_a_row = self.in_a_row.saturating_add(1).min(MOST_IN_A_ROW);
+        self.listener.pause();
+        if self.in_a_row == MOST_IN_A_ROW {
+            self.faults.raise();
+            return Accepted::Failed;
+        }
+        Accepted::Nobody
     }
 
     // What an error of the socket is to the caller. A client that broke its connection before it was taken is no fault
@@ -61,9 +96,11 @@ impl<L: Listener> SocketDoor<L> {
         ensures none { is_none result ≡ true }
         ensures same { self.new.share ≡ self.old.share }
         ensures count { counted self.new.faults ≡ door_faults_after (counted self.old.faults) result }
+        ensures failed { is_failed result ≡ true → is_gone self.new.in_a_row ≡ true }
     {
         match kind {
             ErrorKind::WouldBlock => {
+                self.in_a_row = 0;
                 self.listener.pause();
                 Accepted::Nobody
             }
@@ -71,12 +108,12 @@ impl<L: Listener> SocketDoor<L> {
             | ErrorKind::ConnectionReset
             | ErrorKind::HostUnreachable
             | ErrorKind::NetworkUnreachable
-            | ErrorKind::NetworkDown => Accepted::Nobody,
-            ErrorKind::OutOfMemory => Accepted::Memory,
-            _ => {
-                self.faults.raise();
-                Accepted::Failed
+            | ErrorKind::NetworkDown => {
+                self.in_a_row = 0;
+                Accepted::Nobody
             }
+            ErrorKind::OutOfMemory => Accepted::Memory,
+            _ => self.stumble(),
         }
     }
 }
@@ -141,6 +178,9 @@ where
         ensures share { self.new.share ≡ share_after self.old.share result }
         ensures count { counted self.new.faults ≡ door_faults_after (counted self.old.faults) result }
         ensures later { counted self.old.faults ≤ counted self.new.faults }
+
+        // It fails only where so many calls in a row met an unexpected error.
+        ensures failed { is_failed result ≡ true → is_gone self.new.in_a_row ≡ true }
     {
         if self.share == Some(0) {
             return Accepted::Closed;
@@ -154,13 +194,16 @@ where
                     return Accepted::Memory;
                 };
                 self.share = one_less(self.share);
+                self.in_a_row = 0;
                 Accepted::Stream(stream, address)
             }
             Err(fault) => self.without_stream(fault.kind()),
         }
     }
 
-    fn done(&mut self, _stream: L::Stream) {}
+    fn done(&mut self, stream: L::Stream) {
+        self.listener.part(stream);
+    }
 
     ghost door_faults_fit = { λ d. counted_fits d.faults };
 }

@@ -60,7 +60,7 @@ fn open_doors<B: Binder>(
     ensures no_fault { IfOk result (λ doors. All (λ d. d.faults ≡ 0) doors.items) }
     ensures shares { IfOk result (λ doors. All (λ d. HasShare most d.share) doors.items) }
 {
-    let listener = binder.bind(address)?;
+    let listener = binder.bind(alloc, address)?;
     let mut doors = Vec::new(alloc);
     let mut left = most;
     for place in 0..number {

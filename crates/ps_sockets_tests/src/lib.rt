@@ -2,6 +2,12 @@
 #![tactic(auto)]
 
 #[cfg(test)]
+mod guests;
+#[cfg(test)]
 mod loopback;
+#[cfg(test)]
+mod loopback_links;
+#[cfg(test)]
+mod paces;
 #[cfg(test)]
 mod scripted;

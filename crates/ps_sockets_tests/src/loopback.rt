@@ -1,23 +1,21 @@
-//! Tests over sockets of this machine. Waits are short here; the program's are longer.
+//! Tests of doors over sockets of this machine. Most waits are short here; the program's are longer.
 ghost use Rattle.std.specs.Prelude.{OnSome};
 
 use ps_doors::clock::Clock;
 use ps_doors::door::{Accepted, Door};
-use ps_doors::link::{Link, LinkFault, MOST_REPLY};
 use ps_doors::porch::Porch;
 use ps_ports::sink::Sink;
 use ps_ports::source::Source;
-use ps_sockets::connector::TcpConnector;
 use ps_sockets::listener::TcpBinder;
-use ps_sockets::socket_link::SocketLink;
 use ps_sockets::socket_porch::SocketPorch;
 use ps_sockets::system_clock::SystemClock;
+use ps_sockets::waits::Waits;
 use std::alloc::Global;
-use std::io::{Read, Write};
-use std::net::{TcpListener, TcpStream};
+use std::io::{ErrorKind, Read, Write};
+use std::net::{Shutdown, TcpListener, TcpStream};
 use std::test::Fail;
 use std::thread::Threads;
-use std::time::Duration;
+use std::time::{Duration, Instant};
 use std::{io, thread};
 
 // How long a door pauses, in milliseconds.
@@ -26,8 +24,11 @@ const PAUSE: u64 = 2;
 // How often a door is asked while nobody has come: twenty seconds in all.
 const LOOKS: u32 = 10_000;
 
+// What makes a head whole.
+const HEAD: &[u8] = b"1\n\n";
+
 // An address of this machine at which nobody listens.
-fn free_address(rt: &HostRuntime) -> io::Result<String> {
+pub fn free_address(rt: &HostRuntime) -> io::Result<String> {
     let listener = TcpListener::bind(rt, "127.0.0.1:0")?;
     let port = listener.local_addr()?.port();
     Ok(format!(in rt.alloc(); "127.0.0.1:{port}")?)
@@ -82,6 +83,13 @@ fn is_echoed(client: &mut TcpStream, wanted: u8) -> bool {
     client.read_exact(&mut buf).is_ok() && buf[0] == wanted
 }
 
+fn end_writing(clients: &[&TcpStream]) -> io::Result<()> {
+    for client in clients {
+        client.shutdown(Shutdown::Write)?;
+    }
+    Ok(())
+}
+
 fn may_move_to_a_thread<T: Send>(value: T) -> T {
     value
 }
@@ -100,7 +108,7 @@ fn serve_each<P: Porch>(porch: &mut P, alloc: Global, doors: Vec<P::Door>) -> bo
 }
 
 fn serve_last<D: Door>(door: &mut D, alloc: Global) -> bool {
-    echo(door, alloc) == Some(1) && matches!(door.accept(alloc), Accepted::Closed)
+    echo(door, alloc) == Some(3) && matches!(door.accept(alloc), Accepted::Closed)
 }
 
 #[test]
@@ -108,14 +116,15 @@ fn four_doors_take_four_connections(rt: HostRuntime) -> Result<(), Fail> {
     let alloc = rt.alloc();
     let address = free_address(&rt)?;
     let clock = SystemClock::new(&rt, Duration::from_millis(PAUSE));
-    let mut porch = SocketPorch::new(TcpBinder::new(&rt, &clock, Duration::from_secs(20)));
+    let mut porch = SocketPorch::new(TcpBinder::new(&rt, &clock, Waits::of_program()));
     let doors = porch
         .open(alloc, address.as_str(), 4, Some(4))
         .map_err(|_| "listen")?;
-    let mut one = connect_and_send(&rt, address.as_str(), b"1")?;
-    let mut two = connect_and_send(&rt, address.as_str(), b"2")?;
-    let mut three = connect_and_send(&rt, address.as_str(), b"3")?;
-    let mut four = connect_and_send(&rt, address.as_str(), b"4")?;
+    let mut one = connect_and_send(&rt, address.as_str(), b"1\n\n")?;
+    let mut two = connect_and_send(&rt, address.as_str(), b"2\n\n")?;
+    let mut three = connect_and_send(&rt, address.as_str(), b"3\n\n")?;
+    let mut four = connect_and_send(&rt, address.as_str(), b"4\n\n")?;
+    end_writing(&[&one, &two, &three, &four])?;
     assert!(rt; serve_each(&mut porch, alloc, doors));
     assert!(rt; is_echoed(&mut one, b'1') && is_echoed(&mut two, b'2'));
     assert!(rt; is_echoed(&mut three, b'3') && is_echoed(&mut four, b'4'));
@@ -123,44 +132,111 @@ fn four_doors_take_four_connections(rt: HostRuntime) -> Result<(), Fail> {
     Ok(())
 }
 
-// What two connections, one after the other, give at one door: the count of the bytes that were read, or none.
-fn echo_two<P: Porch>(porch: &mut P, alloc: Global, mut doors: Vec<P::Door>) -> [Option<usize>; 2]
-    requires { P.is_open porch.old }
-{
-    let mut counts = [None; 2];
-    for door in doors.iter_mut() {
-        for count in counts.iter_mut() {
-            *count = echo(door, alloc);
-        }
+// The waits of the program, with another one for heads.
+fn waits_for_heads(head: Duration) -> Waits {
+    Waits {
+        head,
+        ..Waits::of_program()
     }
-    porch.shut(doors);
-    counts
 }
 
-// The first client sends nothing for longer than a read waits, the second closes at once.
+// What one connection gives at the first door: the count of the bytes that were read, or none.
+fn echo_at_first<P: Porch>(porch: &mut P, alloc: Global, mut doors: Vec<P::Door>) -> Option<usize>
+    requires { P.is_open porch.old }
+{
+    let count = match doors.first_mut() {
+        Some(door) => echo(door, alloc),
+        None => None,
+    };
+    porch.shut(doors);
+    count
+}
+
+// A client that sends nothing, one that ends its side at once, and one that sends no whole head: none of them is given,
+// and each connection is ended before the doors are shut.
 #[test]
-fn silent_clients(rt: HostRuntime) -> Result<(), Fail> {
+fn connections_without_a_head(rt: HostRuntime) -> Result<(), Fail> {
     let alloc = rt.alloc();
     let address = free_address(&rt)?;
     let clock = SystemClock::new(&rt, Duration::from_millis(PAUSE));
-    let mut porch = SocketPorch::new(TcpBinder::new(&rt, &clock, Duration::from_millis(200)));
-    let doors = porch
-        .open(alloc, address.as_str(), 1, Some(2))
+    let waits = waits_for_heads(Duration::from_millis(100));
+    let mut porch = SocketPorch::new(TcpBinder::new(&rt, &clock, waits));
+    let mut doors = porch
+        .open(alloc, address.as_str(), 1, None)
         .map_err(|_| "listen")?;
-    let silent = connect_and_send(&rt, address.as_str(), b"")?;
+    let mut silent = connect_and_send(&rt, address.as_str(), b"")?;
+    let mut slow = connect_and_send(&rt, address.as_str(), b"GET /")?;
     drop(connect_and_send(&rt, address.as_str(), b"")?);
-    assert_eq!(rt; echo_two(&mut porch, alloc, doors), [None, Some(0)]);
+    for door in doors.iter_mut() {
+        assert_eq!(rt; count_given(door, alloc, 200), 0);
+    }
+    assert!(rt; is_at_end(&mut silent) && is_at_end(&mut slow));
+    porch.shut(doors);
     assert_eq!(rt; porch.faults(), 0);
-    drop(silent);
     Ok(())
 }
 
-// Sends five bytes, each a little later than the one before.
+// How many connections so many accepts give.
+fn count_given<D: Door>(door: &mut D, alloc: Global, accepts: u32) -> u64 {
+    let mut count = 0u64;
+    for _ in 0..accepts {
+        if let Accepted::Stream(stream, _) = door.accept(alloc) {
+            door.done(stream);
+            count = count.saturating_add(1);
+        }
+    }
+    count
+}
+
+// Whether the other end has let the connection go. Where bytes weren't read, that is a reset.
+fn is_at_end(client: &mut TcpStream) -> bool {
+    let mut buf = [0; 8];
+    match client.read(&mut buf) {
+        Ok(count) => count == 0,
+        Err(fault) => fault.kind() == ErrorKind::ConnectionReset,
+    }
+}
+
+// A hundred clients are silent, and another hundred have sent a part of their heads; one that comes then is served
+// within a second, by a door that is only one of four.
+#[test]
+fn silent_clients_keep_nobody_waiting(rt: HostRuntime) -> Result<(), Fail> {
+    let alloc = rt.alloc();
+    let address = free_address(&rt)?;
+    let clock = SystemClock::new(&rt, Duration::from_millis(PAUSE));
+    let waits = Waits {
+        parting: Duration::from_millis(10),
+        ..Waits::of_program()
+    };
+    let mut porch = SocketPorch::new(TcpBinder::new(&rt, &clock, waits));
+    let mut doors = porch
+        .open(alloc, address.as_str(), 4, None)
+        .map_err(|_| "listen")?;
+    let mut others = Vec::new(alloc);
+    for _ in 0..100u32 {
+        others.push(connect_and_send(&rt, address.as_str(), b"")?)?;
+        others.push(connect_and_send(&rt, address.as_str(), b"GET / HTTP/1.1\r\n")?)?;
+        for door in doors.iter_mut() {
+            assert_eq!(rt; count_given(door, alloc, 1), 0);
+        }
+    }
+    let start = Instant::now(&rt)?;
+    let mut client = connect_and_send(&rt, address.as_str(), HEAD)?;
+    assert_eq!(rt; echo_at_first(&mut porch, alloc, doors), Some(3));
+    assert!(rt; is_echoed(&mut client, b'1'));
+    assert!(rt; start.elapsed(&rt)? < Duration::from_secs(1));
+    drop(others);
+    Ok(())
+}
+
+// Sends a head, and then five bytes, each a little later than the one before.
 fn send_slowly(rt: &HostRuntime, address: &str) -> io::Result<()> {
-    let mut client = TcpStream::connect(rt, address)?;
+    let mut client = connect_and_send(rt, address, HEAD)?;
     for byte in b"slow!" {
-        client.write_all(&[*byte])?;
-        thread::sleep(rt, Duration::from_millis(600));
+        thread::sleep(rt, Duration::from_millis(300));
+        if client.write_all(&[*byte]).is_err() {
+            return Ok(());
+        }
     }
     Ok(())
 }
@@ -197,99 +273,70 @@ fn count_at_first<P: Porch>(porch: &mut P, alloc: Global, mut doors: Vec<P::Door
     count
 }
 
-// Each byte comes in time, though all of them together take longer than one read may wait.
-#[test]
-fn a_slow_client(rt: HostRuntime) -> Result<(), Fail> {
+// How many bytes of a slow client are read where its message may take so long.
+fn slow_count(
+    threads: &impl Threads,
+    rt: &HostRuntime,
+    message: Duration,
+) -> Result<Option<usize>, Fail> {
     let alloc = rt.alloc();
-    let address = free_address(&rt)?;
-    let clock = SystemClock::new(&rt, Duration::from_millis(PAUSE));
-    let mut porch = SocketPorch::new(TcpBinder::new(&rt, &clock, Duration::from_millis(2_500)));
+    let address = free_address(rt)?;
+    let clock = SystemClock::new(rt, Duration::from_millis(PAUSE));
+    let waits = Waits {
+        message,
+        ..Waits::of_program()
+    };
+    let mut porch = SocketPorch::new(TcpBinder::new(rt, &clock, waits));
     let doors = porch
         .open(alloc, address.as_str(), 1, None)
         .map_err(|_| "listen")?;
     let (sent, counted) = thread::join(
-        &rt,
-        || send_slowly(&rt, address.as_str()),
+        threads,
+        || send_slowly(rt, address.as_str()),
         || count_at_first(&mut porch, alloc, doors),
     );
-    assert!(rt; sent.is_ok());
-    assert_eq!(rt; counted, Some(5));
+    sent?;
+    Ok(counted)
+}
+
+// Each byte comes long before a read would be given up, but all of them together may take too long.
+#[test]
+fn a_slow_client(rt: HostRuntime) -> Result<(), Fail> {
+    assert_eq!(rt; slow_count(&rt, &rt, Duration::from_secs(20))?, Some(8));
+    assert_eq!(rt; slow_count(&rt, &rt, Duration::from_millis(700))?, None);
     Ok(())
 }
 
-// Whether the link fails, and counts that once.
-fn fails_once<L: Link>(link: &mut L, alloc: Global, authority: &str) -> bool {
-    matches!(
-        link.ask(alloc, authority, b"request"),
-        Err(LinkFault::Failed)
-    )
+static PIECE: [u8; 1_000] = [7; 1_000];
+
+// Sends a head, goes on sending for a while, and then reads what comes back. Where the other end has closed the
+// connection, a write fails.
+fn send_on(rt: &HostRuntime, address: &str) -> io::Result<bool> {
+    let mut client = connect_and_send(rt, address, HEAD)?;
+    for _ in 0..20u32 {
+        thread::sleep(rt, Duration::from_millis(20));
+        client.write_all(&PIECE)?;
+    }
+    Ok(is_echoed(&mut client, b'1'))
 }
 
-// Nobody listens; a listener never answers; a name has no address.
+// The answer to a client that is still sending reaches it, though its body isn't read before the connection is given
+// back.
 #[test]
-fn links_without_a_reply(rt: HostRuntime) -> Result<(), Fail> {
+fn an_early_answer(rt: HostRuntime) -> Result<(), Fail> {
     let alloc = rt.alloc();
     let address = free_address(&rt)?;
-    let wait = Duration::from_millis(300);
-    let mut link = SocketLink::new(TcpConnector::new(&rt, wait, wait));
-    assert!(rt; fails_once(&mut link, alloc, address.as_str()) && link.faults() == 1);
-    let silent = TcpListener::bind(&rt, address.as_str())?;
-    assert!(rt; fails_once(&mut link, alloc, address.as_str()) && link.faults() == 2);
-    assert!(rt; fails_once(&mut link, alloc, "no host:80") && link.faults() == 3);
-    drop(silent);
-    Ok(())
-}
-
-// Answers one request by so many pieces.
-fn answer(listener: &TcpListener, piece: &[u8], pieces: u32) -> io::Result<()> {
-    let (mut stream, _) = listener.accept()?;
-    let mut buf = [0; 16];
-    let _ = stream.read(&mut buf)?;
-    for _ in 0..pieces {
-        if stream.write_all(piece).is_err() {
-            return Ok(());
-        }
-    }
-    Ok(())
-}
-
-fn reply_length<L: Link>(link: &mut L, alloc: Global, authority: &str) -> Option<usize> {
-    match link.ask(alloc, authority, b"request") {
-        Ok(reply) => Some(reply.len()),
-        Err(_) => None,
-    }
-}
-
-static PIECE: [u8; 65_536] = [7; 65_536];
-
-// The length of the reply that so many pieces make.
-fn asked_length<R: Threads, L: Link + Send>(
-    rt: &R,
-    alloc: Global,
-    listener: &TcpListener,
-    link: &mut L,
-    pieces: u32,
-) -> io::Result<Option<usize>> {
-    let port = listener.local_addr()?.port();
-    let authority = format!(in alloc; "localhost:{port}")?;
-    let (answered, length) = thread::join(
-        rt,
-        || answer(listener, &PIECE, pieces),
-        || reply_length(link, alloc, authority.as_str()),
+    let clock = SystemClock::new(&rt, Duration::from_millis(PAUSE));
+    let mut porch = SocketPorch::new(TcpBinder::new(&rt, &clock, Waits::of_program()));
+    let doors = porch
+        .open(alloc, address.as_str(), 1, None)
+        .map_err(|_| "listen")?;
+    let (sent, echoed) = thread::join(
+        &rt,
+        || send_on(&rt, address.as_str()),
+        || echo_at_first(&mut porch, alloc, doors),
     );
-    answered?;
-    Ok(length)
-}
-
-// 513 pieces are more than a reply may have.
-#[test]
-fn replies_are_read_to_their_end_or_bound(rt: HostRuntime) -> Result<(), Fail> {
-    let alloc = rt.alloc();
-    let wait = Duration::from_secs(20);
-    let listener = TcpListener::bind(&rt, "127.0.0.1:0")?;
-    let mut link = SocketLink::new(TcpConnector::new(&rt, wait, wait));
-    let short = asked_length(&rt, alloc, &listener, &mut link, 2)?;
-    let long = asked_length(&rt, alloc, &listener, &mut link, 513)?;
-    assert_eq!(rt; (short, long), (Some(131_072), Some(MOST_REPLY)));
+    assert!(rt; sent?);
+    assert!(rt; echoed.is_some());
     Ok(())
 }

@@ -7,10 +7,12 @@ use ps_ports::memory_stream::MemoryStream;
 use ps_sockets::connector::Connector;
 use ps_sockets::exchange::exchange;
 use ps_sockets::listener::{Binder, Listener};
+use ps_sockets::socket_door::MOST_IN_A_ROW;
 use ps_sockets::socket_link::SocketLink;
 use ps_sockets::socket_porch::SocketPorch;
 use ps_sockets::system_clock::SystemClock;
 use std::alloc::{AllocError, Global};
+use std::cell::Cell;
 use std::io;
 use std::io::ErrorKind;
 use std::net::{IpAddr, Ipv4Addr};
@@ -126,13 +128,15 @@ impl Listener for Scripted {
         Ok((self.next()?, IpAddr::V4(Ipv4Addr::new(10, 0, 0, 9))))
     }
 
+    fn part(&mut self, _stream: MemoryStream) {}
+
     fn pause(&self) {}
 }
 
 impl Binder for Scripted {
     type Listener = Scripted;
 
-    fn bind(&mut self, _address: &str) -> io::Result<Scripted> {
+    fn bind(&mut self, _alloc: Global, _address: &str) -> io::Result<Scripted> {
         Ok(Scripted::new(self.alloc, self.kinds))
     }
 
@@ -145,10 +149,44 @@ static INTERRUPTED: [ErrorKind; 2] = [ErrorKind::Interrupted; 2];
 
 static REFUSED: [ErrorKind; 1] = [ErrorKind::ConnectionRefused];
 
+// A steady time in seconds.
+struct Hand<'a>(&'a Cell<u64>);
+
+impl Drop for Hand<'_> {
+    fn drop(self) {
+        let Hand(_) = self;
+    }
+}
+
+impl SystemTimes for Hand<'_> {
+    fn monotonic(&self) -> io::Result<Duration> {
+        Ok(Duration::from_secs(self.0.get()))
+    }
+
+    fn since_1970(&self) -> io::Result<Duration> {
+        Err(ErrorKind::Other.into())
+    }
+}
+
+// A link whose peers rest for five seconds.
+fn link<'a>(
+    alloc: Global,
+    kinds: &'static [ErrorKind],
+    hand: &'a Cell<u64>,
+) -> SocketLink<Scripted, Hand<'a>> {
+    let connector = Scripted::new(alloc, kinds);
+    SocketLink::new(alloc, connector, Hand(hand), Duration::from_secs(5))
+}
+
+fn is_answered<L: Link>(link: &mut L, alloc: Global, authority: &str) -> bool {
+    link.ask(alloc, authority, b"request").is_ok()
+}
+
 // Whether the first call is answered, and how many calls failed.
 fn first_ask(alloc: Global, kinds: &'static [ErrorKind]) -> (bool, u64) {
-    let mut link = SocketLink::new(Scripted::new(alloc, kinds));
-    let answered = link.ask(alloc, "b", b"request").is_ok();
+    let hand = Cell::new(0);
+    let mut link = link(alloc, kinds, &hand);
+    let answered = is_answered(&mut link, alloc, "b");
     (answered, link.faults())
 }
 
@@ -160,6 +198,43 @@ fn a_link_is_interrupted(rt: HostRuntime) -> Result<(), Fail> {
     Ok(())
 }
 
+// The connector would give a connection from its second call on, but isn't called for the peer that rests.
+#[test]
+fn a_peer_that_rests(rt: HostRuntime) -> Result<(), Fail> {
+    let alloc = rt.alloc();
+    let hand = Cell::new(10);
+    let mut link = link(alloc, &REFUSED, &hand);
+    assert!(rt; !is_answered(&mut link, alloc, "b") && link.faults() == 1);
+    assert!(rt; !is_answered(&mut link, alloc, "b") && link.faults() == 2);
+    assert!(rt; is_answered(&mut link, alloc, "c") && link.faults() == 2);
+    hand.set(14);
+    assert!(rt; !is_answered(&mut link, alloc, "b") && link.faults() == 3);
+    hand.set(15);
+    assert!(rt; is_answered(&mut link, alloc, "b") && link.faults() == 3);
+    Ok(())
+}
+
+static ALL_REFUSED: [ErrorKind; 65] = [ErrorKind::ConnectionRefused; 65];
+
+// Of 65 peers that fail the first one doesn't rest any more.
+#[test]
+fn peers_that_rest(rt: HostRuntime) -> Result<(), Fail> {
+    let alloc = rt.alloc();
+    let hand = Cell::new(0);
+    let mut link = link(alloc, &ALL_REFUSED, &hand);
+    for number in 0..65u64 {
+        let authority = format!(in alloc; "peer{number}")?;
+        assert!(rt;
+            !is_answered(&mut link, alloc, authority.as_str()),
+            "{number}"
+        );
+    }
+    assert!(rt; is_answered(&mut link, alloc, "peer0"));
+    assert!(rt; !is_answered(&mut link, alloc, "peer1"));
+    assert_eq!(rt; link.faults(), 66);
+    Ok(())
+}
+
 static HARMLESS: [ErrorKind; 3] = [
     ErrorKind::WouldBlock,
     ErrorKind::ConnectionAborted,
@@ -167,6 +242,9 @@ static HARMLESS: [ErrorKind; 3] = [
 ];
 
 static BROKEN: [ErrorKind; 1] = [ErrorKind::Other];
+
+// As many errors in a row as say that a listener is gone, and one more.
+static ENDLESS: [ErrorKind; 1_001] = [ErrorKind::Other; 1_001];
 
 // One letter for each of the first answers of a door.
 fn letter<D: Door>(door: &mut D, alloc: Global) -> u8 {
@@ -237,6 +315,36 @@ fn errors_at_a_door(rt: HostRuntime) -> Result<(), Fail> {
     let mut no_fault = SocketPorch::new(Scripted::new(alloc, &HARMLESS));
     assert!(rt; letters(&mut no_fault, alloc) == *b"nnsc" && no_fault.faults() == 0);
     let mut broken = SocketPorch::new(Scripted::new(alloc, &BROKEN));
-    assert!(rt; letters(&mut broken, alloc) == *b"fscc" && broken.faults() == 1);
+    assert!(rt; letters(&mut broken, alloc) == *b"nscc" && broken.faults() == 0);
+    Ok(())
+}
+
+// How many accepts of so many failed.
+fn count_failures<D: Door>(door: &mut D, alloc: Global, accepts: u32) -> u64 {
+    let mut count = 0u64;
+    for _ in 0..accepts {
+        if letter(door, alloc) == b'f' {
+            count = count.saturating_add(1);
+        }
+    }
+    count
+}
+
+// A door fails only where its listener seems to be gone, and counts each error before that, too.
+#[test]
+fn errors_in_a_row(rt: HostRuntime) -> Result<(), Fail> {
+    let alloc = rt.alloc();
+    let mut porch = SocketPorch::new(Scripted::new(alloc, &ENDLESS));
+    let Ok(mut doors) = porch.open(alloc, "any", 1, None) else {
+        return Err("open".into());
+    };
+    for door in doors.iter_mut() {
+        assert_eq!(rt; count_failures(door, alloc, MOST_IN_A_ROW - 1), 0);
+        assert_eq!(rt; (door.hitches(), door.faults()), (999, 0));
+        assert_eq!(rt; count_failures(door, alloc, 3), 2);
+        assert_eq!(rt; (door.hitches(), door.faults()), (1_001, 2));
+    }
+    porch.shut(doors);
+    assert_eq!(rt; porch.faults(), 1);
     Ok(())
 }
