@@ -2,7 +2,7 @@
 #![tactic(auto)]
 
 #[cfg(test)]
-mod guests;
+mod heads;
 #[cfg(test)]
 mod loopback;
 #[cfg(test)]
